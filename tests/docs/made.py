@@ -777,6 +777,8 @@ def main():
         diagnoses(),
     ]
     made += reworded(made)
+    # In it stand the words that pages show now. So it is written last: whoever is broken off may begin again.
+    made.sort(key=lambda parts: parts.path.name == "Messages.antt")
     failed = 0
     for parts in made:
         if sys.argv[1:] and parts.text != parts.read():
