@@ -168,9 +168,11 @@ module _ (s : Declared) (printed : List WaitArc) (none : WaitArc)
           let here : k < length printed = omega (arith, within) in
           let less : suc k - 1 ≡ k = omega arith in
           let next : k + 1 ≡ suc k = omega arith in
+          let behind : before_from first arcs (suc k) ≡ slice_get arcs (suc k - 1) =
+          ap (λ (b : Bool). cond b first (slice_get arcs (suc k - 1)))
+          (ne_eqb (suc k) 0 (λ is. omega (arith, is))) in
           joined (before_from first arcs (suc k)) (at k) (suc k)
-          (ap (λ (b : Bool). cond b first (slice_get arcs (suc k - 1))) (ne_eqb (suc k) 0 (λ is. omega (arith, is))) ∙ ap
-          (slice_get arcs) less ∙ ends_at k here)
+          (behind ∙ ap (slice_get arcs) less ∙ ends_at k here)
           within
           (subst (λ n. slice_index s.partition.group_of (at k).dst ≡ slice_index s.partition.group_of (at n).src) next
           (adjacent k none (omega (arith, within))))

@@ -1,5 +1,32 @@
 -- A search while it goes on, and when it is over.
-use Rattle.std.proofs.Common.{◌≡◌, ◌≢◌, ℕ, zero, suc, ◌+◌, ◌<◌, ◌≤◌, ◌⊎◌, inl, inr, Bool, true, false, eqb, List, [], ◌∷◌, length, get_or, refl, sym, ap, subst, ◌∙◌, arith}
+use Rattle.std.proofs.Common.{
+  ◌≡◌,
+  ◌≢◌,
+  ℕ,
+  zero,
+  suc,
+  ◌+◌,
+  ◌<◌,
+  ◌≤◌,
+  ◌⊎◌,
+  inl,
+  inr,
+  Bool,
+  true,
+  false,
+  eqb,
+  List,
+  [],
+  ◌∷◌,
+  length,
+  get_or,
+  refl,
+  sym,
+  ap,
+  subst,
+  ◌∙◌,
+  arith,
+}
 use Rattle.std.specs.Prelude.{Contains, slice_index, slice_index_or, if◌then◌else◌, ◌||◌, replicate}
 use Rattle.std.proofs.lemmas.Bool.{cases_eq, cases_lt, eqb-true}
 use Rattle.std.proofs.lemmas.List.{get_or-replicate, get_or_past, length-replicate}
@@ -8,7 +35,22 @@ use Rattle.wq_core.specs.Wiring.{Wiring, IsWiring, HasRescuer, items, lane_of}
 use Rattle.wq_core.proofs.Wirings.{lane_of-within}
 use Rattle.wq_hang.specs.declared.hop.Hop.{Hop}
 use Rattle.wq_hang.specs.Walk.{IsHop, IsPath}
-use Rattle.wq_hang.specs.Search.{hop_cost, hops_cost, Reach, IsTodo, lane_step, expand, AreItemsOn, IsReachedBy, IsReach, IsFollowed, IsGoing, IsTaken, IsSearched}
+use Rattle.wq_hang.specs.Search.{
+  hop_cost,
+  hops_cost,
+  Reach,
+  IsTodo,
+  lane_step,
+  expand,
+  AreItemsOn,
+  IsReachedBy,
+  IsReach,
+  IsFollowed,
+  IsDone,
+  IsGoing,
+  IsTaken,
+  IsSearched,
+}
 use Rattle.wq_hang.proofs.Declared.{declared-item}
 use Rattle.wq_hang.proofs.Reaching.{total, work, Later, Grown, Grown-expand}
 
@@ -51,15 +93,8 @@ IsReach-new w first limit s wiring new = record {
     at_limit i below = ap (λ (l : List ℕ). get_or l i 0) new.costs ∙ get_or-replicate (items w) i limit 0 below
 
     lane_at_limit : (i : ℕ) → i < items w → slice_index s.lane_costs (lane_of w i) ≡ limit
-    lane_at_limit i below = ap (λ (l : List ℕ). get_or l (lane_of w i) 0) new.lane_costs ∙ get_or-replicate w.lanes (lane_of w i) limit 0 (lane_of-within w wiring i below)
-
--- a hop costs 3 or more
-lane_step-least : (t : Target) → 3 ≤ lane_step t
-lane_step-least t = by t.whole
-  where
-    by : (whole : Bool) → 3 ≤ (if whole then 3 else 4)
-    by true = omega arith
-    by false = omega arith
+    lane_at_limit i below = ap (λ (l : List ℕ). get_or l (lane_of w i) 0) new.lane_costs ∙ get_or-replicate w.lanes
+        (lane_of w i) limit 0 (lane_of-within w wiring i below)
 
 IsFollowed-later : (w : Wiring) (s r : Reach) (i cost : ℕ) → Later s r → IsFollowed w s i cost → IsFollowed w r i cost
 IsFollowed-later w s r i cost later is t there rescuer =
@@ -67,8 +102,10 @@ IsFollowed-later w s r i cost later is t there rescuer =
     (omega (arith, before.0, later.less t.item), omega (arith, before.1, later.lanes_less (lane_of w t.item)))
 
 module _ (w : Wiring) (first limit : ℕ) (wiring : IsWiring w) (on : List (List ℕ)) (are : AreItemsOn w on) where
-  pub IsGoing-first : (s r : Reach) → IsNew w limit s → HasRescuer w (lane_of w first) → r ≡ expand w on first 0 s → IsGoing w first limit r
-  IsGoing-first s r new rescuer is = subst (IsGoing w first limit) (sym is) (record { reach = grown.0.reach; begun = grown.1; followed = followed })
+  pub IsGoing-first : (s r : Reach) → IsNew w limit s → HasRescuer w (lane_of w first) → r ≡ expand w on first 0 s →
+      IsGoing w first limit r
+  IsGoing-first s r new rescuer is = subst (IsGoing w first limit) (sym is)
+      (record { reach = grown.0.reach; begun = grown.1; followed = followed })
     where
       reach : IsReach w first limit s
       reach = IsReach-new w first limit s wiring new
@@ -76,13 +113,17 @@ module _ (w : Wiring) (first limit : ℕ) (wiring : IsWiring w) (on : List (List
       grown : Grown w first limit s (expand w on first 0 s) × IsFollowed w (expand w on first 0 s) first 0
       grown = Grown-expand w first limit wiring on are first 0 s reach rescuer (λ other. absurd (other refl))
 
-      followed : (i : ℕ) → i < items w → IsTodo (expand w on first 0 s) i ⊎ IsFollowed w (expand w on first 0 s) i (slice_index (expand w on first 0 s).costs i)
+      followed : (i : ℕ) → i < items w → IsTodo (expand w on first 0 s) i ⊎ IsDone w first (expand w on first 0 s) i
       followed i below = elim (grown.0.later.noted i) [
         | inr todo ↦ inl todo
-        | inl same ↦ inr (λ t there other.
-            let at_limit : slice_index s.costs i ≡ limit = ap (λ (l : List ℕ). get_or l i 0) new.costs ∙ get_or-replicate (items w) i limit 0 below in
-            (omega (arith, same, at_limit, grown.0.reach.capped t.item), omega (arith, same, at_limit, grown.0.reach.lanes_capped (lane_of w t.item)))
+        | inl same ↦ inr (inl (λ t there other.
+            let at_limit : slice_index s.costs i ≡ limit = ap (λ (l : List ℕ). get_or l i 0) new.costs ∙
+            get_or-replicate (items w) i limit 0 below in (
+              omega (arith, same, at_limit, grown.0.reach.capped t.item),
+              omega
+                  (arith, same, at_limit, grown.0.reach.lanes_capped (lane_of w t.item)),
             )
+            ))
       ]
 
   -- ---- one item more
@@ -94,10 +135,13 @@ module _ (w : Wiring) (first limit : ℕ) (wiring : IsWiring w) (on : List (List
       first_or_later x xs (zero, lt, at) = inl (sym at)
       first_or_later x xs (suc k, lt, at) = inr (k, omega arith, at)
 
-      by : ((s.near ≡ i ∷ r.near) × (s.far ≡ r.far)) ⊎ ((s.far ≡ i ∷ r.far) × (s.near ≡ r.near)) → IsTodo s j → (j ≡ i) ⊎ IsTodo r j
-      by (inl (near, far)) (inl there) = elim (first_or_later i r.near (subst (λ (l : List ℕ). Contains l j) near there)) [ inl same ↦ inl same | inr later ↦ inr (inl later) ]
+      by : ((s.near ≡ i ∷ r.near) × (s.far ≡ r.far)) ⊎ ((s.far ≡ i ∷ r.far) × (s.near ≡ r.near)) → IsTodo s j → (j ≡ i)
+          ⊎ IsTodo r j
+      by (inl (near, far)) (inl there) = elim (first_or_later i r.near
+          (subst (λ (l : List ℕ). Contains l j) near there)) [ inl same ↦ inl same | inr later ↦ inr (inl later) ]
       by (inl (near, far)) (inr there) = inr (inr (subst (λ (l : List ℕ). Contains l j) far there))
-      by (inr (far, near)) (inr there) = elim (first_or_later i r.far (subst (λ (l : List ℕ). Contains l j) far there)) [ inl same ↦ inl same | inr later ↦ inr (inr later) ]
+      by (inr (far, near)) (inr there) = elim (first_or_later i r.far (subst (λ (l : List ℕ). Contains l j) far there))
+          [ inl same ↦ inl same | inr later ↦ inr (inr later) ]
       by (inr (far, near)) (inl there) = inr (inl (subst (λ (l : List ℕ). Contains l j) near there))
 
   taken_before : (s r : Reach) (i : ℕ) → IsTaken s i r → (j : ℕ) → IsTodo r j → IsTodo s j
@@ -106,7 +150,8 @@ module _ (w : Wiring) (first limit : ℕ) (wiring : IsWiring w) (on : List (List
       later : (x : ℕ) (xs : List ℕ) → Contains xs j → Contains (x ∷ xs) j
       later x xs (k, lt, at) = (suc k, omega arith, at)
 
-      by : ((s.near ≡ i ∷ r.near) × (s.far ≡ r.far)) ⊎ ((s.far ≡ i ∷ r.far) × (s.near ≡ r.near)) → IsTodo r j → IsTodo s j
+      by : ((s.near ≡ i ∷ r.near) × (s.far ≡ r.far)) ⊎ ((s.far ≡ i ∷ r.far) × (s.near ≡ r.near)) → IsTodo r j → IsTodo s
+          j
       by (inl (near, far)) (inl there) = inl (subst (λ (l : List ℕ). Contains l j) (sym near) (later i r.near there))
       by (inl (near, far)) (inr there) = inr (subst (λ (l : List ℕ). Contains l j) (sym far) there)
       by (inr (far, near)) (inr there) = inr (subst (λ (l : List ℕ). Contains l j) (sym far) (later i r.far there))
@@ -137,83 +182,114 @@ module _ (w : Wiring) (first limit : ℕ) (wiring : IsWiring w) (on : List (List
       same_lane : (q : ℕ) → slice_index r.lane_costs q ≡ slice_index s.lane_costs q
       same_lane q = ap (λ (l : List ℕ). slice_index l q) taken.lane_costs
 
-      reached_by : (j : ℕ) (d : Hop) → IsReachedBy w first s j (slice_index_or s.by j d) → IsReachedBy w first r j (slice_index_or r.by j d)
-      reached_by j d by_it = subst (λ (l : List Hop). IsReachedBy w first r j (slice_index_or l j d)) (sym taken.by) (record {
-        next = by_it.next;
-        hop = by_it.hop;
-        on = by_it.on;
-        from_first = λ e. omega (arith, by_it.from_first e, same j);
-        from_other = λ e. omega (arith, by_it.from_other e, same j, same (slice_index_or s.by j d).item);
-      })
+      reached_by : (j : ℕ) (d : Hop) → IsReachedBy w first s j (slice_index_or s.by j d) → IsReachedBy w first r j
+          (slice_index_or r.by j d)
+      reached_by j d by_it = subst (λ (l : List Hop). IsReachedBy w first r j (slice_index_or l j d)) (sym taken.by)
+          (record {
+            next = by_it.next;
+            hop = by_it.hop;
+            on = by_it.on;
+            from_first = λ e. omega (arith, by_it.from_first e, same j);
+            from_other = λ e. omega (arith, by_it.from_other e, same j, same (slice_index_or s.by j d).item);
+          })
 
   -- what was followed before the item was taken
   followed_taken : (s r : Reach) (i : ℕ) → IsTaken s i r → (j c : ℕ) → IsFollowed w s j c → IsFollowed w r j c
   followed_taken s r i taken j c led t there rescuer =
-      let before = led t there rescuer in
-      (omega (arith, before.0, ap (λ (l : List ℕ). slice_index l t.item) taken.costs), omega (arith, before.1, ap (λ (l : List ℕ). slice_index l (lane_of w t.item)) taken.lane_costs))
+      let before = led t there rescuer in (
+        omega (arith, before.0, ap (λ (l : List ℕ). slice_index l t.item) taken.costs),
+        omega
+            (arith, before.1, ap (λ (l : List ℕ). slice_index l (lane_of w t.item)) taken.lane_costs),
+      )
 
   same_cost : (s r : Reach) (i : ℕ) → IsTaken s i r → (j : ℕ) → slice_index r.costs j ≡ slice_index s.costs j
   same_cost s r i taken j = ap (λ (l : List ℕ). slice_index l j) taken.costs
 
-  pub IsGoing-next : (s r end : Reach) (i cost : ℕ) → IsGoing w first limit s → IsTaken s i r → cost ≡ slice_index r.costs i → end ≡ expand w on i cost r → IsGoing w first limit end
+  pub IsGoing-next : (s r end : Reach) (i cost : ℕ) → IsGoing w first limit s → IsTaken s i r → cost ≡ slice_index
+      r.costs i → end ≡ expand w on i cost r → IsGoing w first limit end
   IsGoing-next s r end i cost going taken costs is =
       let todo = going.reach.todo i (taken_was s r i taken) in
-      let grown = Grown-expand w first limit wiring on are i cost r (IsReach-taken s r i taken going.reach) todo.1 (λ other. omega (arith, costs)) in
+      let grown = Grown-expand w first limit wiring on are i cost r (IsReach-taken s r i taken going.reach) todo.1
+      (λ other. omega (arith, costs)) in
       subst (IsGoing w first limit) (sym is) (record {
         reach = grown.0.reach;
-        begun = IsFollowed-later w r (expand w on i cost r) first 0 grown.0.later (followed_taken s r i taken first 0 going.begun);
-        followed = λ j below. followed grown.0.later grown.1 j below (cases_eq j i) (going.followed j below) (grown.0.later.noted j);
+        begun = IsFollowed-later w r (expand w on i cost r) first 0 grown.0.later
+            (followed_taken s r i taken first 0 going.begun);
+        followed = λ j below. followed grown.0.later grown.1 j below (cases_eq j i) (going.followed j below)
+            (grown.0.later.noted j);
       })
     where
-      followed : Later r (expand w on i cost r) → IsFollowed w (expand w on i cost r) i cost → (j : ℕ) → j < items w → (j ≡ i) ⊎ (j ≢ i) → IsTodo s j ⊎ IsFollowed w s j (slice_index s.costs j)
+      followed : Later r (expand w on i cost r) → IsFollowed w (expand w on i cost r) i cost → (j : ℕ) → j < items w →
+          (j ≡ i) ⊎ (j ≢ i) → IsTodo s j ⊎ IsDone w first s j
           → (slice_index (expand w on i cost r).costs j ≡ slice_index r.costs j) ⊎ IsTodo (expand w on i cost r) j
-          → IsTodo (expand w on i cost r) j ⊎ IsFollowed w (expand w on i cost r) j (slice_index (expand w on i cost r).costs j)
+          → IsTodo (expand w on i cost r) j ⊎ IsDone w first (expand w on i cost r) j
       followed later led j below which before (inr todo) = inl todo
       followed later led j below (inl it) before (inl kept) =
-          let now : slice_index (expand w on i cost r).costs j ≡ cost = kept ∙ ap (slice_index r.costs) it ∙ sym costs in
-          inr (subst (λ (c : ℕ). IsFollowed w (expand w on i cost r) j c) (sym now) (subst (λ (k : ℕ). IsFollowed w (expand w on i cost r) k cost) (sym it) led))
+          let now : slice_index (expand w on i cost r).costs j ≡ cost = kept ∙ ap (slice_index r.costs) it ∙ sym costs
+          in
+          inr (inl (subst (λ (c : ℕ). IsFollowed w (expand w on i cost r) j c) (sym now)
+          (subst (λ (k : ℕ). IsFollowed w (expand w on i cost r) k cost) (sym it) led)))
       followed later led j below (inr other) (inl todo) (inl kept) = elim (taken_todo s r i taken j todo) [
         | inl it ↦ absurd (other it)
         | inr stays ↦ inl (later.kept j stays)
       ]
-      followed later led j below (inr other) (inr done) (inl kept) =
-          let now : slice_index (expand w on i cost r).costs j ≡ slice_index s.costs j = kept ∙ same_cost s r i taken j in
-          inr (subst (λ (c : ℕ). IsFollowed w (expand w on i cost r) j c) (sym now) (IsFollowed-later w r (expand w on i cost r) j (slice_index s.costs j) later (followed_taken s r i taken j (slice_index s.costs j) done)))
+      followed later led j below (inr other) (inr (inr past)) (inl kept) =
+          inr (inr (omega (arith, past, kept, same_cost s r i taken j, same_cost s r i taken first, later.less first)))
+      followed later led j below (inr other) (inr (inl done)) (inl kept) =
+          let now : slice_index (expand w on i cost r).costs j ≡ slice_index s.costs j = kept ∙ same_cost s r i taken j
+          in
+          inr (inl (subst (λ (c : ℕ). IsFollowed w (expand w on i cost r) j c) (sym now)
+          (IsFollowed-later w r (expand w on i cost r) j (slice_index s.costs j) later
+          (followed_taken s r i taken j (slice_index s.costs j) done))))
 
-  -- an item that costs so much that no hop from it is of use
-  pub IsGoing-skipped : (s r : Reach) (i : ℕ) → IsGoing w first limit s → IsTaken s i r → limit ≤ slice_index r.costs i + 3 → IsGoing w first limit r
+  -- an item by way of which no round costs less than the cheapest so far
+  pub IsGoing-skipped : (s r : Reach) (i : ℕ) → IsGoing w first limit s → IsTaken s i r → slice_index r.costs first ≤
+      slice_index r.costs i + 3 → IsGoing w first limit r
   IsGoing-skipped s r i going taken enough = record {
-    reach = reach;
+    reach = IsReach-taken s r i taken going.reach;
     begun = followed_taken s r i taken first 0 going.begun;
     followed = λ j below. followed j (cases_eq j i) (going.followed j below);
   }
     where
-      reach : IsReach w first limit r
-      reach = IsReach-taken s r i taken going.reach
-
-      followed : (j : ℕ) → (j ≡ i) ⊎ (j ≢ i) → IsTodo s j ⊎ IsFollowed w s j (slice_index s.costs j) → IsTodo r j ⊎ IsFollowed w r j (slice_index r.costs j)
-      followed j (inl it) before = inr (λ t there rescuer.
-          let cost : slice_index r.costs j ≡ slice_index r.costs i = ap (slice_index r.costs) it in
-          (omega (arith, enough, cost, reach.capped t.item), omega (arith, enough, cost, reach.lanes_capped (lane_of w t.item), lane_step-least t))
-          )
-      followed j (inr other) (inl todo) = elim (taken_todo s r i taken j todo) [ inl it ↦ absurd (other it) | inr stays ↦ inl stays ]
-      followed j (inr other) (inr done) = inr (subst (λ (c : ℕ). IsFollowed w r j c) (sym (same_cost s r i taken j)) (followed_taken s r i taken j (slice_index s.costs j) done))
+      followed : (j : ℕ) → (j ≡ i) ⊎ (j ≢ i) → IsTodo s j ⊎ IsDone w first s j → IsTodo r j ⊎ IsDone w first r j
+      followed j (inl it) before = inr (inr (omega (arith, enough, ap (slice_index r.costs) it)))
+      followed j (inr other) (inl todo) = elim (taken_todo s r i taken j todo)
+          [ inl it ↦ absurd (other it) | inr stays ↦ inl stays ]
+      followed j (inr other) (inr (inr past)) = inr (inr (omega
+          (arith, past, same_cost s r i taken j, same_cost s r i taken first)))
+      followed j (inr other) (inr (inl done)) =
+          inr (inl (subst (λ (c : ℕ). IsFollowed w r j c) (sym (same_cost s r i taken j))
+          (followed_taken s r i taken j (slice_index s.costs j) done)))
 
   -- less is left to do
   work-taken : (s r : Reach) (i : ℕ) → IsTaken s i r → work r + 1 ≡ work s
   work-taken s r i taken = by taken.queues
     where
       by : ((s.near ≡ i ∷ r.near) × (s.far ≡ r.far)) ⊎ ((s.far ≡ i ∷ r.far) × (s.near ≡ r.near)) → work r + 1 ≡ work s
-      by (inl (near, far)) = omega (arith, ap total taken.costs, ap (λ (l : List ℕ). length l) near, ap (λ (l : List ℕ). length l) far)
-      by (inr (far, near)) = omega (arith, ap total taken.costs, ap (λ (l : List ℕ). length l) near, ap (λ (l : List ℕ). length l) far)
+      by (inl (near, far)) = omega (
+        arith,
+        ap total taken.costs,
+        ap (λ (l : List ℕ). length l) near,
+        ap
+            (λ (l : List ℕ). length l) far,
+      )
+      by (inr (far, near)) = omega (
+        arith,
+        ap total taken.costs,
+        ap (λ (l : List ℕ). length l) near,
+        ap
+            (λ (l : List ℕ). length l) far,
+      )
 
   pub work-skipped : (s r : Reach) (i : ℕ) → IsTaken s i r → work r < work s
   work-skipped s r i taken = omega (arith, work-taken s r i taken)
 
-  pub work-less : (s r end : Reach) (i cost : ℕ) → IsGoing w first limit s → IsTaken s i r → cost ≡ slice_index r.costs i → end ≡ expand w on i cost r → work end < work s
+  pub work-less : (s r end : Reach) (i cost : ℕ) → IsGoing w first limit s → IsTaken s i r → cost ≡ slice_index r.costs
+      i → end ≡ expand w on i cost r → work end < work s
   work-less s r end i cost going taken costs is =
       let todo = going.reach.todo i (taken_was s r i taken) in
-      let grown = Grown-expand w first limit wiring on are i cost r (IsReach-taken s r i taken going.reach) todo.1 (λ other. omega (arith, costs)) in
+      let grown = Grown-expand w first limit wiring on are i cost r (IsReach-taken s r i taken going.reach) todo.1
+      (λ other. omega (arith, costs)) in
       omega (arith, grown.0.later.work, work-taken s r i taken, ap work is)
 
   -- ---- the end
@@ -223,39 +299,58 @@ module _ (w : Wiring) (first limit : ℕ) (wiring : IsWiring w) (on : List (List
     none_left i (inl there) = omega (arith, there.1, near)
     none_left i (inr there) = omega (arith, there.1, far)
 
-    all_followed : (i : ℕ) → i < items w → IsFollowed w s i (slice_index s.costs i)
-    all_followed i below = elim (going.followed i below) [ inl todo ↦ absurd (none_left i todo) | inr led ↦ led ]
+    all_done : (i : ℕ) → i < items w → IsDone w first s i
+    all_done i below = elim (going.followed i below) [ inl todo ↦ absurd (none_left i todo) | inr done ↦ done ]
 
     -- a hop from an item costs enough
-    hop_enough : (h : Hop) (cost : ℕ) → IsHop w h → lane_of w h.next ≡ lane_of w h.flush.item → h.next < items w → HasRescuer w (lane_of w h.next) → IsFollowed w s h.item cost → slice_index s.costs h.next ≤ cost + hop_cost h
+    hop_enough : (h : Hop) (cost : ℕ) → IsHop w h → lane_of w h.next ≡ lane_of w h.flush.item → h.next < items w →
+        HasRescuer w (lane_of w h.next) → IsFollowed w s h.item cost → slice_index s.costs h.next ≤ cost + hop_cost h
     hop_enough h cost hop on below rescuer led =
         let is = led h.flush hop.declared (subst (HasRescuer w) on rescuer) in
-        let lane : slice_index s.costs h.next ≤ cost + lane_step h.flush = omega (arith, going.reach.by_lane h.next below, is.1, ap (slice_index s.lane_costs) on) in
+        let lane : slice_index s.costs h.next ≤ cost + lane_step h.flush = omega
+        (arith, going.reach.by_lane h.next below, is.1, ap (slice_index s.lane_costs) on) in
         by h.flush.whole (eqb h.flush.item h.next) refl refl lane is.0
       where
-        by : (whole same : Bool) → h.flush.whole ≡ whole → eqb h.flush.item h.next ≡ same → slice_index s.costs h.next ≤ cost + (if whole then 3 else 4) → slice_index s.costs h.flush.item ≤ cost + 3
+        by : (whole same : Bool) → h.flush.whole ≡ whole → eqb h.flush.item h.next ≡ same → slice_index s.costs h.next ≤
+            cost + (if whole then 3 else 4) → slice_index s.costs h.flush.item ≤ cost + 3
             → slice_index s.costs h.next ≤ cost + (3 + length (if whole || same then [] else h.flush.item ∷ []))
         by true same kind test lane direct = omega arith
-        by false true kind test lane direct = omega (arith, direct, ap (slice_index s.costs) (eqb-true h.flush.item h.next test))
+        by false true kind test lane direct = omega (
+          arith,
+          direct,
+          ap (slice_index s.costs)
+              (eqb-true h.flush.item h.next test),
+        )
         by false false kind test lane direct = omega arith
 
-    -- so does a path
-    path_enough : (i j : ℕ) (hops : List Hop) (cost : ℕ) → j < items w → HasRescuer w (lane_of w j) → IsFollowed w s i cost → 0 < length hops → IsPath w i hops j → slice_index s.costs j ≤ cost + hops_cost hops
-    path_enough i j [] cost below rescuer led some path = absurd (omega arith)
-    path_enough i j (h ∷ []) cost below rescuer led some path =
+    -- so does a path that leads back to the first item
+    path_enough : (i : ℕ) (hops : List Hop) (cost : ℕ) → first < items w → HasRescuer w (lane_of w first) → IsFollowed w
+        s i cost → 0 < length hops → IsPath w i hops first → slice_index s.costs first ≤ cost + hops_cost hops
+    path_enough i [] cost below rescuer led some path = absurd (omega arith)
+    path_enough i (h ∷ []) cost below rescuer led some path =
         let led_here : IsFollowed w s h.item cost = subst (λ (k : ℕ). IsFollowed w s k cost) (sym path.0) led in
-        let one = hop_enough h cost path.1 path.2 (subst (λ (k : ℕ). k < items w) (sym path.3) below) (subst (λ (k : ℕ). HasRescuer w (lane_of w k)) (sym path.3) rescuer) led_here in
+        let one = hop_enough h cost path.1 path.2 (subst (λ (k : ℕ). k < items w) (sym path.3) below)
+        (subst (λ (k : ℕ). HasRescuer w (lane_of w k)) (sym path.3) rescuer) led_here in
         omega (arith, one, ap (slice_index s.costs) path.3)
-    path_enough i j (h ∷ g ∷ hops) cost below rescuer led some path =
+    path_enough i (h ∷ g ∷ hops) cost below rescuer led some path =
         let led_here : IsFollowed w s h.item cost = subst (λ (k : ℕ). IsFollowed w s k cost) (sym path.0) led in
-        let next : h.next < items w = subst (λ (k : ℕ). k < items w) path.3.0 (declared-item w g.item g.flush path.3.1.declared) in
-        let has : HasRescuer w (lane_of w h.next) = subst (λ (k : ℕ). HasRescuer w (lane_of w k)) path.3.0 path.3.1.rescuer in
+        let next : h.next < items w = subst (λ (k : ℕ). k < items w) path.3.0
+        (declared-item w g.item g.flush path.3.1.declared) in
+        let has : HasRescuer w (lane_of w h.next) = subst (λ (k : ℕ). HasRescuer w (lane_of w k)) path.3.0
+        path.3.1.rescuer in
         let one = hop_enough h cost path.1 path.2 next has led_here in
-        let rest = path_enough h.next j (g ∷ hops) (slice_index s.costs h.next) below rescuer (all_followed h.next next) (omega arith) path.3 in
-        omega (arith, one, rest)
+        elim (all_done h.next next) [
+          | inl further ↦ omega (
+            arith,
+            one,
+            path_enough h.next (g ∷ hops) (slice_index s.costs h.next) below rescuer
+                further (omega arith) path.3,
+          )
+          | inr past ↦ omega (arith, one, past)
+        ]
 
     pub IsSearched-all : first < items w → HasRescuer w (lane_of w first) → IsSearched w first limit s
     IsSearched-all below rescuer = record {
       reach = going.reach;
-      least = λ hops some path. omega (arith, path_enough first first hops 0 below rescuer going.begun some path);
+      least = λ hops some path. omega (arith, path_enough first hops 0 below rescuer going.begun some path);
     }

@@ -113,12 +113,18 @@ abbrev pub IsFollowed : Wiring → Reach → ℕ → ℕ → Type 0
 IsFollowed w s i cost = (t : Target) → Contains (declared_by w i) t → HasRescuer w (lane_of w t.item)
     → (slice_index s.costs t.item ≤ cost + 3) × (slice_index s.lane_costs (lane_of w t.item) ≤ cost + lane_step t)
 
--- while the search goes on: the first item's flushes are followed from nothing, and those of each other item that is
--- reached, or it is to be gone on from
+-- item i need not be gone on from: its flushes are followed, or no round by way of it costs less than the cheapest way
+-- round so far
+abbrev pub IsDone : Wiring → ℕ → Reach → ℕ → Type 0
+IsDone w first s i =
+    IsFollowed w s i (slice_index s.costs i) ⊎ (slice_index s.costs first ≤ slice_index s.costs i + 3)
+
+-- while the search goes on: the first item's flushes are followed from nothing; and each other item is to be gone on
+-- from, or need not be
 pub record IsGoing (w : Wiring) (first limit : ℕ) (s : Reach) : Type 0 where
   pub reach : IsReach w first limit s
   pub begun : IsFollowed w s first 0
-  pub followed : (i : ℕ) → i < items w → IsTodo s i ⊎ IsFollowed w s i (slice_index s.costs i)
+  pub followed : (i : ℕ) → i < items w → IsTodo s i ⊎ IsDone w first s i
 
 -- the search is over: its cost for the first item is no more than that of any round from it; and the hops lead round,
 -- if it is less than the limit

@@ -4,8 +4,8 @@
 //! the whole lane leads to all its items alike. What costs less than before is gone on from, the cheapest first: hops
 //! cost 3 or 4, so two queues, one for each, are in order by themselves (E. W. Dijkstra, "A note on two problems in
 //! connexion with graphs", Numerische Mathematik 1, 1959). The first item costs nothing to begin with and is then left
-//! out, so what it costs in the end is the cheapest way round. What costs as much as the limit isn't gone on from. It
-//! takes time in the number of items, lanes and flushes.
+//! out, so what it costs in the end is the cheapest way round. What costs as much as the limit, or as the cheapest way
+//! round so far, isn't gone on from. It takes time in the number of items, lanes and flushes.
 
 ghost use Rattle.std.specs.Prelude.{◌≡◌, ◌<◌, ◌≤◌, ◌⊎◌, [], false, length, replicate, slice_index, slice_index_or};
 ghost use Rattle.std.specs.Prelude.{IfOk, OnOk, IfSome, IfNone, IsTrue};
@@ -288,8 +288,8 @@ pub(crate) fn search_from<A: Allocator + Copy>(
     search.expand(waits, on, first, 0)?;
     while let Some(item) = search.take() {
         let cost = search.cost(item);
-        // Each hop from here leads to what costs as much as the limit.
-        if limit.saturating_sub(cost) <= 3 {
+        // Each hop costs 3, so no round by way of this item costs less than the best one so far.
+        if search.cost(first).saturating_sub(cost) <= 3 {
             continue;
         }
         search.expand(waits, on, item, cost)?;
