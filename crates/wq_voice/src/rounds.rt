@@ -1,9 +1,9 @@
 //! How the workqueues of each component can hang: by a round of waits on them that takes the fewest steps.
 //!
 //! The rule is that of "Reasons" in docs/FORMAT.md. A component takes the time of a search from each of its items, and
-//! that of going through its flushes for each workqueue.
+//! that of going through its flushes and all workqueues once.
 
-ghost use Rattle.std.specs.Prelude.{◌≡◌, ◌∷◌, [], ◌<◌, IfOk, OnOk, length, map};
+ghost use Rattle.std.specs.Prelude.{◌≡◌, ◌∷◌, [], ◌<◌, ℕ, IfOk, OnOk, length, map, slice_index_or, false};
 ghost use Rattle.std.specs.List.{All};
 ghost use Rattle.wq_core.specs.Workqueues.{wiring_of};
 ghost use Rattle.wq_circles.specs.ComponentsText.{AreBetween};
@@ -16,26 +16,27 @@ use std::alloc::{AllocError, Allocator};
 use wq_core::Assigned;
 use wq_diagnosis::workqueue_of;
 use wq_graph::WaitArc;
-use wq_groups::LaneId;
 use wq_hang::Rounds;
 use wq_names::messages;
 
-/// Whether an item of one of these flushes is on a workqueue.
-fn begins_on<A: Allocator + Copy>(
+/// For each workqueue whether an item of one of these flushes is on it.
+fn marks_of<A: Allocator + Copy>(
+    alloc: A,
     assigned: &Assigned<'_, '_, A>,
     arcs: &[WaitArc],
-    q: LaneId,
-) -> bool
+) -> Result<Vec<bool, A>, AllocError>
     requires between { AreBetween (length assigned.now.declared.partition.group_of) arcs.now }
-    ensures { result ≡ begins_on assigned.now.declared assigned.now.workqueues arcs.now q }
+    ensures marked { IfOk result (λ marks. (q : ℕ) → q < assigned.now.workqueues.assignment.lanes →
+        slice_index_or marks.items q false ≡ begins_on assigned.now.declared assigned.now.workqueues arcs.now q) }
+    ensures len { IfOk result (λ marks. length marks.items ≡ assigned.now.workqueues.assignment.lanes) }
 {
+    let lanes = assigned.workqueues().assignment().lanes();
+    let mut marks = vec![in alloc; false; usize::from(lanes)]?;
     for arc in arcs {
         let lane = workqueue_of(assigned, arc.src);
-        if lane == q {
-            return true;
-        }
+        marks[usize::from(lane.get())] = true;
     }
-    false
+    Ok(marks)
 }
 
 /// The workqueues of the items of flushes, each once.
@@ -48,10 +49,10 @@ fn lanes_of<A: Allocator + Copy>(
     ensures { IfOk result (λ lanes. lanes.items
         ≡ lanes_of assigned.now.declared assigned.now.workqueues arcs.now) }
 {
+    let marks = marks_of(alloc, assigned, arcs)?;
     let mut lanes = Vec::new(alloc);
-    let workqueues = assigned.workqueues();
-    for number in 0..workqueues.assignment().lanes() {
-        if begins_on(assigned, arcs, LaneId::new(number)) {
+    for number in 0..assigned.workqueues().assignment().lanes() {
+        if marks[usize::from(number)] {
             lanes.push(u32::from(number))?;
         }
     }
