@@ -1,3 +1,4 @@
+pub mod HopsBack
 pub mod Declared
 pub mod Taken
 pub mod Apart

@@ -26,7 +26,7 @@ use Rattle.wq_core.proofs.LaneLemmas.{lane_at-with_lane_same, lane_at-with_lane_
 use Rattle.wq_core.proofs.Plays.{after-append, IsRunFrom-append, no_help-queued}
 use Rattle.wq_core.proofs.Queued.{pending_items, on_lane, pending_items-all_queued, running-all_queued, IsRunFrom-queued}
 use Rattle.wq_core.proofs.QueueOrder.{first_on_lane}
-use Rattle.wq_core.proofs.Sound.{IsSoundState-end_of, IsSoundState-after}
+use Rattle.wq_core.proofs.Sound.{IsSoundState-end_of}
 use Rattle.wq_core.proofs.WaitSteps.{held_back-holder}
 use Rattle.wq_core.proofs.Wirings.{lane_of-within}
 use Rattle.wq_hang.specs.declared.hop.Hop.{Hop}

@@ -140,6 +140,16 @@ pub record IsTaken (s : Reach) (i : ℕ) (r : Reach) : Type 0 where
   pub by : r.by ≡ s.by
   pub queues : ((s.near ≡ i ∷ r.near) × (s.far ≡ r.far)) ⊎ ((s.far ≡ i ∷ r.far) × (s.near ≡ r.near))
 
+-- the hop leads from item i back to it, so that it is a round by itself
+abbrev pub IsHopBack : Wiring → ℕ → Hop → Type 0
+IsHopBack w i h = IsPath w i (h ∷ []) i
+
+-- no other such hop costs less, and it costs less than the limit
+pub record IsCheapestBack (w : Wiring) (i limit : ℕ) (h : Hop) : Type 0 where
+  pub back : IsHopBack w i h
+  pub less : hop_cost h < limit
+  pub least : (g : Hop) → IsHopBack w i g → hop_cost h ≤ hop_cost g
+
 -- a round that costs less than the limit, and no more than any other
 pub record IsLeastRound (w : Wiring) (limit : ℕ) (hops : List Hop) : Type 0 where
   pub round : IsRound w hops

@@ -1,16 +1,18 @@
 //! A least round: waits that hold one another up, at the least cost.
 //!
-//! A round is searched for from each of some items in turn, for less than the best one so far costs. Each round passes
-//! one of these items. It takes the time of a search for each of them, and memory in the number of items and lanes.
+//! A round is searched for from each of some items in turn, for less than the best one so far costs. If that is no more
+//! than two hops cost, only the item's own flushes are looked at. Each round passes one of these items. It takes the
+//! time of a search for each of them, and memory in the number of items and lanes.
 
 ghost use Rattle.std.specs.Prelude.{◌≡◌, ◌<◌, ◌≤◌, List, length, slice_index, IfOk, IfSome, IfNone};
 ghost use Rattle.std.specs.List.{All};
-ghost use Rattle.wq_core.specs.Wiring.{items};
+ghost use Rattle.wq_core.specs.Wiring.{HasRescuer, items, lane_of};
 ghost use Rattle.wq_hang.specs.declared.hop.Hop.{Hop};
 ghost use Rattle.wq_hang.specs.Walk.{IsRound};
 ghost use Rattle.wq_hang.specs.Search.{AreItemsOn, ArePassed, IsReach, IsBetter, IsNoBetter, IsLeastRound, hops_cost};
 
 use crate::hop::Hop;
+use crate::hop_back::{cost_back, hop_back};
 use crate::search::{Search, search_from};
 use crate::waits::Waits;
 use std::alloc::{AllocError, Allocator};
@@ -19,6 +21,9 @@ use wq_items::ItemId;
 
 /// No round costs as much that meets no lane twice: there are at most 4,096 lanes, each costs at most 4, and 4 more.
 pub(crate) const MOST: u16 = 16388;
+
+/// What a round of two hops costs, at least.
+const TWO_HOPS: u16 = 6;
 
 /// The round that a search from an item found, the item's own hop first.
 fn round<A: Allocator + Copy>(
@@ -46,6 +51,26 @@ fn round<A: Allocator + Copy>(
     Ok(hops)
 }
 
+/// The same as `better_round`, if the least so far is no more than what two hops cost.
+fn better_hop<A: Allocator + Copy>(
+    alloc: A,
+    waits: &Waits<'_, A>,
+    first: ItemId,
+    least: u16,
+) -> Result<Option<(u16, Vec<Hop, A>)>, AllocError>
+    requires first { first < items waits.now }
+    requires rescuer { HasRescuer waits.now (lane_of waits.now first) }
+    requires low { least ≤ 6 }
+    ensures some { IfOk result (λ found.
+        IfSome found (λ better. IsBetter waits.now first least better.0 better.1.items)) }
+    ensures none { IfOk result (λ found. IfNone found (IsNoBetter waits.now first least)) }
+{
+    match hop_back(waits, first, least) {
+        Some(hop) => Ok(Some((cost_back(first, &hop.flush), vec![in alloc; hop]?))),
+        None => Ok(None),
+    }
+}
+
 /// A round from an item that costs less than the least so far, and what it costs at most, if there is one.
 fn better_round<A: Allocator + Copy>(
     alloc: A,
@@ -68,6 +93,9 @@ fn better_round<A: Allocator + Copy>(
     }
     if !waits.has_rescuer(waits.lane_of(first)) {
         return Ok(None);
+    }
+    if least <= TWO_HOPS {
+        return better_hop(alloc, waits, first, least);
     }
     search_from(waits, on, search, first, least)?;
     let cost = search.cost(first);

@@ -12,6 +12,7 @@ mod answer;
 mod bare;
 mod hanging;
 mod hop;
+mod hop_back;
 pub mod laws;
 mod least;
 mod marks;

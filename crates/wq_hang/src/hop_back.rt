@@ -1,0 +1,54 @@
+//! The cheapest round of one hop from an item: a flush that leads straight back to the item's own lane.
+//!
+//! Two hops cost 6 at least. So if a round is known that costs no more, only a round of one hop can be cheaper, and it
+//! is found without a search. It takes time in the number of the item's flushes.
+
+ghost use Rattle.std.specs.Prelude.{◌≡◌, ◌<◌, ◌≤◌, IfSome, IfNone};
+ghost use Rattle.wq_core.specs.Wiring.{HasRescuer, items, lane_of};
+ghost use Rattle.wq_hang.specs.declared.hop.Hop.{Hop};
+ghost use Rattle.wq_hang.specs.Search.{IsHopBack, IsCheapestBack, hop_cost, hop_to};
+
+use crate::hop::Hop;
+use crate::waits::Waits;
+use std::alloc::Allocator;
+use wq_items::{ItemId, Target};
+
+/// What a hop of an item back to itself costs: 3, and 1 more if the target is another item, which is queued beside it.
+pub(crate) fn cost_back(item: ItemId, flush: &Target) -> u16
+    ensures { result ≡ hop_cost (hop_to item flush.now item) }
+{
+    if flush.whole || flush.item == item {
+        3
+    } else {
+        4
+    }
+}
+
+/// The cheapest hop of an item back to itself, the first of those, if one costs less than the limit.
+pub(crate) fn hop_back<A: Allocator + Copy>(
+    waits: &Waits<'_, A>,
+    item: ItemId,
+    limit: u16,
+) -> Option<Hop>
+    requires item { item < items waits.now }
+    requires rescuer { HasRescuer waits.now (lane_of waits.now item) }
+    ensures some { IfSome result (λ h. IsCheapestBack waits.now item limit h) }
+    ensures none { IfNone result ((h : Hop) → IsHopBack waits.now item h → limit ≤ hop_cost h) }
+{
+    let _items = waits.items();
+    let own = waits.lane_of(item);
+    let mut least = limit;
+    let mut found = None;
+    for flush in waits.flushes(item) {
+        let cost = cost_back(item, flush);
+        if cost < least && waits.lane_of(flush.item) == own {
+            least = cost;
+            found = Some(Hop {
+                item,
+                flush: *flush,
+                next: item,
+            });
+        }
+    }
+    found
+}
