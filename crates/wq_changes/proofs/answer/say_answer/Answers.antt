@@ -2,6 +2,7 @@ use Rattle.std.proofs.Common.{List, length, refl, sym, subst}
 use Rattle.wq_groups.specs.Declaration.{IsDeclaration, declaration_of}
 use Rattle.wq_groups.proofs.Declarations.{IsDeclaration-of}
 use Rattle.wq_graph.specs.declared.arc.WaitArc.{WaitArc}
+use Rattle.wq_core.specs.Assigned.{Assigned}
 use Rattle.wq_circles.specs.ComponentsText.{AreBetween}
 use Rattle.wq_repair.specs.Repair.{IsNeededCircle}
 use Rattle.wq_diagnosis.proofs.ReadTexts.{limits-read}
@@ -26,7 +27,10 @@ of_circle-requires g c =
     let between =
     subst (λ (arcs : List WaitArc). AreBetween (length s.partition.group_of) arcs) (sym c.deref.ensures.value)
     (AreBetween-walked d declaration needed.out c.in-Circle.arcs.items needed.walked) in
-    record { between = between }
+    record {
+      between = subst (λ (a : Assigned). AreBetween (length a.declared.partition.group_of) c.deref.result.now)
+          (sym c.assigned.view_is) between;
+    }
 
 pub returns-in_ok-said-in-Circle : goal.returns-in_ok-said-in-Circle
 returns-in_ok-said-in-Circle g c =
@@ -36,5 +40,7 @@ returns-in_ok-said-in-Circle g c =
       text,
       refl,
       subst (λ (arcs : List WaitArc). TellsCircle first c.args.assigned.now.declared arcs text)
-          c.deref.ensures.value c.in_ok-said-in-Circle.ensures,
+          c.deref.ensures.value
+          (subst (λ (a : Assigned). TellsCircle first a.declared c.deref.result.now text) c.assigned.view_is
+          c.in_ok-said-in-Circle.ensures),
     )

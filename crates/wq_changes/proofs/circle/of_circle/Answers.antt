@@ -1,7 +1,7 @@
 use Rattle.wq_changes.proofs.circle.of_circle.Goals as goal
 
-pub of_circle_on-requires-clause-between : goal.of_circle_on-requires-clause-between
-of_circle_on-requires-clause-between g c = rw c.new-assigned.ensures c.requires.between
+pub of_circle_on-requires : goal.of_circle_on-requires
+of_circle_on-requires g c = rw c.new-assigned.ensures c.requires
 
 pub returns : goal.returns
 returns g c =

@@ -2,6 +2,7 @@ use Rattle.std.proofs.Common.{◌≡◌, ℕ, List, length, map, sym, ap, subst,
 use Rattle.std.specs.Prelude.{Option, option_map}
 use Rattle.std.proofs.lemmas.List.FromFn.{length-map-range_with_len}
 use Rattle.wq_groups.specs.Partition.{Partition}
+use Rattle.wq_core.specs.Assigned.{Assigned}
 use Rattle.wq_core.specs.Workqueues.{Workqueues}
 use Rattle.wq_groups.specs.DeclaredGroups.{declared_waits, Declared}
 use Rattle.wq_voice.specs.Reasons.{GivesReason}
@@ -30,6 +31,7 @@ new-assigned-requires g c =
     ap (λ (ws : Workqueues). length ws.assignment.lane_of_group) c.in_ok-workqueues.ensures
     ∙ length-map-range_with_len (lane_without c.workqueues.result.now new c.args.change.now) 0
     (length new.assignment.lane_of_group) ∙ c.requires.new
+    ∙ sym (ap (λ (a : Assigned). a.declared.partition.groups) c.old.view_is)
 
 pub returns : goal.returns
 returns g c =
@@ -49,5 +51,8 @@ returns g c =
           without
           (subst (λ (lead : List ℕ). GivesReason first lead (λ h. words_of OnWorkqueues s ws names h) (declared_waits s)
           ws said)
-          c.lead_of.ensures (rw c.new-assigned.ensures at c.in_ok-said.ensures)),
+          c.lead_of.ensures
+          (subst (λ (a : Assigned). GivesReason first c.lead_of.result.now
+          (λ h. words_of OnWorkqueues a.declared ws names h) (declared_waits a.declared) ws said) c.old.view_is
+          (rw c.new-assigned.ensures at c.in_ok-said.ensures))),
     )

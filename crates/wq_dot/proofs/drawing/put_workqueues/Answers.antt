@@ -35,7 +35,7 @@ places-own-requires g c =
 
 pub put_workqueue-requires : goal.put_workqueue-requires
 put_workqueue-requires g c =
-    let a = c.assigned.inside.workqueues.assignment in
+    let a = c.assigned.inside.workqueues.now.assignment in
     let groups = c.assigned.inside.declared.now.partition.groups in
     let number = c.loop-number.number in
     let lanes =
@@ -53,7 +53,7 @@ put_workqueue-requires g c =
 
 pub loop-number-preserved : goal.loop-number-preserved
 loop-number-preserved g c =
-    let ws = c.assigned.inside.workqueues in
+    let ws = c.assigned.inside.workqueues.now in
     let a = ws.assignment in
     let names = c.assigned.inside.declared.now.table.names in
     let group_of = c.assigned.inside.declared.now.partition.group_of in
@@ -90,7 +90,7 @@ loop-number-preserved g c =
 
 pub returns : goal.returns
 returns g c =
-    let ws = c.assigned.inside.workqueues in
+    let ws = c.assigned.inside.workqueues.now in
     let s = c.assigned.inside.declared.now in
     let out = c.args.out.now.items in
     let called = map (λ v. v.now) c.args.called.now in

@@ -11,4 +11,4 @@ invariant-loop-number g l =
     let a = l.assigned-inside in
     l.out.items
     ≡ l.fn.out.items ++ text_of (flat_map (workqueue_box_lines a.declared.now.table.names
-    a.declared.now.partition.group_of a.workqueues (map (λ v. v.now) l.called)) (range_with_len 0 l.number))
+    a.declared.now.partition.group_of a.workqueues.now (map (λ v. v.now) l.called)) (range_with_len 0 l.number))
