@@ -137,6 +137,32 @@ static void NAME_each(void)
 }
 """
 
+# An object that flushes the workqueue when it is destroyed; it is destroyed where it was made, or by others.
+OBJECT = """
+static struct NAME *NAME_create(struct workqueue_struct *wq)
+{
+	struct NAME *y = kzalloc(sizeof(*y), GFP_KERNEL);
+
+	y->wq = wq;
+	return y;
+}
+
+static void NAME_destroy(struct NAME *y)
+{
+	flush_workqueue(y->wq);
+	kfree(y);
+}
+
+static void NAME_ask(struct NAME *x, struct NAME *old)
+{
+	struct NAME *y = BEFORE;
+
+	y = NAME_create(x->wq);
+	if (y->wq == NULL)
+		NAME_destroy(y);
+}
+"""
+
 # A module, a library that it stands on, and what that one stands on; another user of the library.
 LIBRARY_H = """
 struct checks {
@@ -273,7 +299,7 @@ FILES = {
     "Makefile": "VERSION = 6\nPATCHLEVEL = 1\nSUBLEVEL = 0\n",
     "include/linux/workqueue.h": "struct work_struct { int data; };\n",
     "drivers/block/Makefile": "obj-m += own.o arg.o zero.o ptr.o bare.o cancel.o through.o plain.o ends.o last.o\n"
-    "obj-m += undo.o took.o gave.o\n",
+    "obj-m += undo.o took.o gave.o made.o older.o\n",
     # flushes its own workqueue
     "drivers/block/own.c": module("own", "flush_workqueue(x->wq);"),
     # a constant among the arguments excludes the flush, or doesn't
@@ -294,6 +320,13 @@ FILES = {
     # drops a reference that it took; and that of a list, too
     "drivers/block/took.c": module("took", "took_each();", before=REFERENCE.replace("NAME", "took")),
     "drivers/block/gave.c": module("gave", "gave_each();\n\tgave_put(x);", before=REFERENCE.replace("NAME", "gave")),
+    # undoes what it has just made; and what may be older
+    "drivers/block/made.c": module(
+        "made", "made_ask(x, x);", before=OBJECT.replace("NAME", "made").replace("BEFORE", "NULL")
+    ),
+    "drivers/block/older.c": module(
+        "older", "older_ask(x, x);", before=OBJECT.replace("NAME", "older").replace("BEFORE", "old")
+    ),
     # no rescuer: no module of a scan
     "drivers/block/plain.c": module("plain", "flush_workqueue(x->wq);", flags="0"),
     "drivers/md/Makefile": "obj-m += thin.o buffer.o other.o library/\n",
@@ -317,6 +350,7 @@ SURE = {
     ("drivers/block/zero", "zero_a", "*", "hangs"),
     ("drivers/block/bare", "bare_a", "bare_c", "no rescuer"),
     ("drivers/block/gave", "gave_a", "gave_b", "hangs"),
+    ("drivers/block/older", "older_a", "*", "hangs"),
     ("drivers/block/through", "through_a", "through_c", "hangs"),
     ("drivers/block/through", "through_b", "through_c", "hangs"),
 }
@@ -326,6 +360,7 @@ UNSURE = {
     ("drivers/block/ends", "ends_a", "*", ("it would end its own workqueue",)),
     ("drivers/block/undo", "undo_a", "*", ("it was made in the same function",)),
     ("drivers/block/last", "last_a", "*", ("the last reference is dropped on the way",)),
+    ("drivers/block/made", "made_a", "*", ("what is undone was made there",)),
     ("drivers/block/took", "took_a", "took_b", ("a reference is dropped that was taken there",)),
     ("drivers/nvme/core", "rdma_work", "rdma_reset", ("a call by a pointer",)),
 }
