@@ -5,6 +5,7 @@ import functools
 from dataclasses import dataclass, field
 from typing import Iterator, Optional
 
+from . import instances
 from .calls import DIRECT, Edge
 from .places import FunctionId
 from .program import Ended, Program
@@ -20,6 +21,7 @@ OTHER_ENDS = "others may end it"
 END_BY_POINTER = "its end is called by a pointer"
 TIMEOUT = "a time passes"
 OWN_KIND = "the own kind"
+ITSELF = "it would wait for itself"
 CONSTANT = "the arguments exclude it"
 OWN_END = "it would end its own workqueue"
 MADE_HERE = "it was made in the same function"
@@ -126,8 +128,13 @@ class Lines:
     def for_targets(self, item: FunctionId, site: Site, path: tuple[Edge, ...], doubts: set[str]) -> Iterator[Wait]:
         several = {SEVERAL} if len(site.targets) > 1 else set()
         for target in sorted(site.targets):
-            own = {OWN_KIND} if target == item else set()
+            own = self.doubts_of_own_kind(item, site, path) if target == item else set()
             yield Wait(item, target, "", site.kind, site, path, frozenset(doubts | several | own))
+
+    def doubts_of_own_kind(self, item: FunctionId, site: Site, path: tuple[Edge, ...]) -> set[str]:
+        """Of a wait for an item of the same work function: another one may be behind this one."""
+        which = instances.instance_of(self.program.facts, item, path, site)
+        return {instances.ITSELF: {ITSELF}, instances.ANOTHER: set()}.get(which, {OWN_KIND})
 
     def for_ends(self, item: FunctionId, site: Site, path: tuple[Edge, ...], doubts: set[str]) -> Iterator[Wait]:
         """A wait for what somebody signals: sure if every place that signals it is reached by direct calls from one

@@ -42,7 +42,11 @@ def add_parser(verbs: Any, shared: argparse.ArgumentParser, ends: str) -> None:
     words.add_argument(
         "--verdicts", type=pathlib.Path, metavar="FILE", help="what was read before: it isn't told again"
     )
-    words.add_argument("--write", action="store_true", help="add to FILE what is unread, and change no verdict")
+    words.add_argument(
+        "--write",
+        action="store_true",
+        help="add to FILE what is unread, and change no verdict; a whole scan takes unread rows out that are gone",
+    )
     words.add_argument(
         "--stale", action="store_true", help="only verdicts whose source has changed, and those of waits that are gone"
     )
@@ -137,7 +141,7 @@ def run(words: argparse.Namespace, extractor: TokenExtractor) -> int:
         printer.note("It lists waits that it could resolve. It never says that these are all. Nothing here is proved.")
     printer.print(words.unsure, words.stale)
     if words.write:
-        text = survey.text([row for row in printer.rows if row.hash])
+        text = survey.text([row for row in printer.rows if row.hash], is_whole=not words.module)
         half = words.verdicts.with_suffix(words.verdicts.suffix + ".new")
         half.write_text(text)
         half.replace(words.verdicts)

@@ -80,12 +80,27 @@ def wqsource():
     return start
 
 
+# The model, which keeps what it answered: a test asks the same of the same texts many times.
+MODEL = """#!/bin/sh
+kept={folder}/$({{ echo "$1"; cat -- "$2"; echo; cat -- "$3"; }} | sha256sum | cut -c1-64)
+if [ ! -e "$kept" ]; then
+    {python} {root}/tests/model/circles.py "$@" >"$kept.half.$$"
+    echo $? >"$kept.status.$$"
+    mv -- "$kept.status.$$" "$kept.status"
+    mv -- "$kept.half.$$" "$kept"
+fi
+cat -- "$kept"
+exit "$(cat -- "$kept.status")"
+"""
+
+
 @pytest.fixture(scope="session")
 def wqplan(tmp_path_factory):
     """The program that is asked about circles: $WQPLAN if one is built; else the model, which is another program."""
     if not os.environ.get("WQPLAN"):
-        path = tmp_path_factory.mktemp("bin") / "wqplan"
-        path.write_text(f'#!/bin/sh\nexec {sys.executable} {ROOT}/tests/model/circles.py "$@"\n')
+        folder = tmp_path_factory.mktemp("bin")
+        path = folder / "wqplan"
+        path.write_text(MODEL.format(folder=folder, python=sys.executable, root=ROOT))
         path.chmod(0o755)
         os.environ["WQPLAN"] = str(path)
     return os.environ["WQPLAN"]
