@@ -15,7 +15,7 @@ TAKES = re.compile(r"(?:.*_)?(?:get|find|lookup)(?:_.*)?")
 DROPS = re.compile(r"(?:.*_)?put(?:_.*)?")
 
 # What makes an object, and what undoes one, by its name.
-MAKES = re.compile(r"(?:.*_)?(?:k[mvz]+alloc|alloc|create|new|make|clone)(?:_.*)?")
+MAKES = re.compile(r"(?:.*_)?(?:[kv][cmvz]*alloc|alloc|create|new|make|clone)(?:_.*)?")
 UNDOES = re.compile(
     r"(?:.*_)?(?:destroy|free|release|remove|delete|del|exit|fini|uninit|deinit|cleanup|clean|close|unregister|put)(?:_.*)?"
 )

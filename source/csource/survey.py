@@ -13,6 +13,7 @@ import re
 from dataclasses import dataclass
 from typing import Iterable, Iterator, Optional
 
+from .faults import Fault
 from .scan import Row
 
 REAL, CANNOT, ASIDE, UNREAD = "real", "can't happen", "not on the reclaim path", "unread"
@@ -23,7 +24,7 @@ VERDICT = re.compile(rf" +({'|'.join(VERDICTS)}) ([0-9a-f]+|-)(?:: (.*\S))?\s*")
 Identity = tuple[str, ...]
 
 
-class SurveyError(Exception):
+class SurveyError(Fault):
     """A line that isn't of this form."""
 
 
