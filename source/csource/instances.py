@@ -16,6 +16,8 @@ from .sites import Site
 ITSELF, ANOTHER, UNKNOWN = "itself", "another", "unknown"
 CONTAINERS = ("container_of", "container_of_const")
 DELAYED = ("to_delayed_work", "to_rcu_work")
+# So often one variable is assigned to the next.
+MOST_STEPS = 4
 LOOPS = re.compile(r"\w*for_each\w*")
 
 
@@ -48,10 +50,11 @@ class Way:
         return ANOTHER if len(arrows) == 2 and len(structs) == 1 and None not in structs else UNKNOWN
 
     def is_of_a_loop(self, at: int, name: str) -> bool:
-        return any(
-            LOOPS.fullmatch(call.name) and [name] in call.arguments[:2]
-            for call in self.facts.calls_in[self.functions[at]]
-        )
+        """Whether a variable is one after the other: list_for_each_entry(x, ..), for_each_perag(mp, agno, x)."""
+        function = self.functions[at]
+        is_given = name in self.facts.definitions[function].parameters
+        loops = (call.arguments for call in self.facts.calls_in[function] if LOOPS.fullmatch(call.name))
+        return not is_given and any([name] in arguments for arguments in loops)
 
     def kind_of_each(self, at: int, names: list[str]) -> str:
         """Of all that there are the item is one itself, unless the loop looks which one it has."""
@@ -60,16 +63,18 @@ class Way:
         is_compared = re.search(rf"\b({one})\s*[!=]=\s*[a-z_]|[\w)]\s*[!=]=\s*({one})\b", text)
         return ANOTHER if is_compared else ITSELF
 
-    def is_own(self, at: int, words: Tokens) -> bool:
+    def is_own(self, at: int, words: Tokens, most: int = MOST_STEPS) -> bool:
         """Whether an expression of a function is the object that the item's work_struct is in."""
         words = ctext.bare(words)
+        if most == 0:
+            return False
         if ctext.is_call(words) and words[0] in CONTAINERS:
             return self.is_own_member(at, ctext.arguments(words[2:-1])[0])
         if len(words) != 1:
             return False
         values = [right for left, right in self.facts.assigned_in[self.functions[at]] if left == words]
         if values:
-            return len(values) == 1 and self.is_own(at, values[0])
+            return len(values) == 1 and self.is_own(at, values[0], most - 1)
         given = self.given(at, words[0])
         return given is not None and at > 0 and self.is_own(at - 1, given)
 
