@@ -17,6 +17,9 @@ from csource import draft, extract, program, progress, token_extract  # noqa: E4
 
 C_FILES = HERE / "c"
 
+# `wqsource` is started more than a hundred times: by this Python, and not by one that has more to do before it begins.
+os.environ["PATH"] = os.pathsep.join((os.path.dirname(sys.executable), os.environ.get("PATH", os.defpath)))
+
 # The machine may have much else to do, and the gate should say the same each time.
 hypothesis.settings.register_profile("gate", deadline=None, derandomize=True, database=None, max_examples=200)
 hypothesis.settings.load_profile("gate")
