@@ -1,5 +1,6 @@
 """Structs that hold a work_struct and stand for it: to flush, queue or hand on such a struct is to do so with the item."""
 
+import re
 from typing import Optional
 
 from .ctext import Tokens
@@ -10,6 +11,8 @@ from .tables import Waits
 WORK = "work_struct"
 # The kernel's own, and their work_struct.
 OF_THE_KERNEL = {"delayed_work": "work", "rcu_work": "work", "kthread_delayed_work": "work"}
+# Sets the work_struct that is inside. (A closure is set, too, but it is on the workqueue that it is given with it.)
+MAKER = re.compile("init", re.I)
 WORKS = (WORK, "kthread_work", *OF_THE_KERNEL)
 
 
@@ -20,7 +23,7 @@ class Wrapped:
         self.facts = facts
         self.member_of = dict(OF_THE_KERNEL)
         for call in facts.calls:
-            if waits.kind(call.name).name == "item" and len(call.arguments) > 1:
+            if waits.kind(call.name).name == "item" and MAKER.search(call.name) and len(call.arguments) > 1:
                 for words in call.arguments:
                     self.take(call.place, words)
         self.members = set(self.member_of.values())
