@@ -73,7 +73,10 @@ def arguments(words: Tokens) -> list[Tokens]:
 def outer(words: Tokens, wanted: tuple[str, ...]) -> list[int]:
     """Where one of the wanted tokens stands outside brackets."""
     places: list[int] = []
-    if not any(word in words for word in wanted):
+    for word in wanted:
+        if word in words:
+            break
+    else:
         return places
     depth = 0
     for index, word in enumerate(words):

@@ -89,8 +89,8 @@ class Holds:
     def parts(self, place: Place, words: Tokens) -> tuple[set[Value], set[Cell]]:
         """What an expression is: values that it names, and cells that it reads."""
         words = ctext.bare(words)
-        if not words:
-            return set(), set()
+        if len(words) < 2:
+            return self.parts_of_word(place, words[0]) if words and ctext.is_name(words[0]) else (set(), set())
         branches = self.branches(words)
         if branches:
             both = [self.parts(place, branch) for branch in branches]
@@ -102,9 +102,22 @@ class Holds:
         cell = self.cell(place, read) if read is not None else None
         return named or set(), {cell} if cell is not None else set()
 
+    def parts_of_word(self, place: Place, name: str) -> tuple[set[Value], set[Cell]]:
+        """The same of a single name, as most are."""
+        if self.facts.is_local(place, name):
+            return set(), {Variable(place.file, place.function, name)}
+        functions: set[Value] = {Function(function) for function in self.facts.resolve(place.file, name)}
+        if functions:
+            return functions, set()
+        if SYSTEM_WORKQUEUE.match(name):
+            return {Workqueue(OLD_NAMES.get(name, name))}, set()
+        return set(), {Global(name)}
+
     @staticmethod
     def branches(words: Tokens) -> Optional[tuple[Tokens, Tokens]]:
         """The two of `a ? b : c`."""
+        if "?" not in words:
+            return None
         marks = ctext.outer(words, ("?", ":"))
         if not marks or words[marks[0]] != "?":
             return None
@@ -120,11 +133,6 @@ class Holds:
         if words[0] == "&":
             functions = self.functions(place, words[1:])
             return functions or {Address(cell) for cell in self.pointed_at(place, words[1:])}
-        functions = self.functions(place, words)
-        if functions:
-            return functions
-        if len(words) == 1 and SYSTEM_WORKQUEUE.match(words[0]) and not self.facts.is_local(place, words[0]):
-            return {Workqueue(OLD_NAMES.get(words[0], words[0]))}
         if ctext.is_call(words) and self.makes_workqueue(place, words[0]):
             return {Workqueue(self.facts.call_id(self.facts.call_of(place, words)))}
         return None

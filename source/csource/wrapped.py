@@ -22,10 +22,11 @@ class Wrapped:
     def __init__(self, facts: Facts, waits: Waits) -> None:
         self.facts = facts
         self.member_of = dict(OF_THE_KERNEL)
-        for call in facts.calls:
-            if waits.kind(call.name).name == "item" and MAKER.search(call.name) and len(call.arguments) > 1:
-                for words in call.arguments:
-                    self.take(call.place, words)
+        for name, calls in facts.calls_named.items():
+            if waits.kind(name).name == "item" and MAKER.search(name):
+                for call in calls:
+                    for words in call.arguments if len(call.arguments) > 1 else ():
+                        self.take(call.place, words)
         self.members = set(self.member_of.values())
 
     def take(self, place: Place, words: Tokens) -> None:
