@@ -107,3 +107,13 @@ def wqplan(tmp_path_factory):
         path.chmod(0o755)
         os.environ["WQPLAN"] = str(path)
     return os.environ["WQPLAN"]
+
+
+def pytest_terminal_summary(terminalreporter):
+    """What tests have measured, though they may have run in other processes."""
+    reports = [report for found in terminalreporter.stats.values() for report in found]
+    for report in reports:
+        if getattr(report, "when", "") == "call":
+            for name, text in report.user_properties:
+                if name == "measured":
+                    terminalreporter.write_line(text)
