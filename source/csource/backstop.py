@@ -9,7 +9,7 @@ from .places import Place
 from .sites import Key
 from .tables import Waits
 
-CALLED = re.compile(r"\b([A-Za-z_]\w*)\s*(\()")
+CALLED = re.compile(r"\b([A-Za-z_]\w*)\s*\(")
 BEGINS_FUNCTION = re.compile(r"^(?!else|if|for|while|switch|return|do\b)[A-Za-z_][^;={}]*?\b(\w+)\s*\(", re.M)
 LOOKED_FOR = ("item", "queue", "workqueue", "flush", "cancel", "flushwq", "event", "done", "prepare", "enter", "pool")
 
@@ -37,8 +37,9 @@ def missed_calls(facts: Facts, waits: Waits) -> Iterator[Missed]:
     known = {(call.place.file, call.place.line, common_name(call.name)) for call in facts.calls}
     for file in facts.files:
         text = ctext.blanked(facts.texts[file])
-        for match in CALLED.finditer(text):
-            if waits.kind(match[1]).name in LOOKED_FOR and is_call(text, match):
+        names = [name for name in set(CALLED.findall(text)) if waits.kind(name).name in LOOKED_FOR]
+        for match in re.finditer(rf"\b({'|'.join(names)})\s*(\()", text) if names else ():
+            if is_call(text, match):
                 line = text.count("\n", 0, match.start()) + 1
                 if (file, line, common_name(match[1])) not in known:
                     yield missed(facts.texts[file], text, file, line, match)

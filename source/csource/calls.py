@@ -1,6 +1,7 @@
 """Which function calls which: by name, by a pointer, by what it is handed to."""
 
 import collections
+import functools
 from dataclasses import dataclass, field
 from typing import Iterator, NamedTuple
 
@@ -65,6 +66,7 @@ class CallGraph:
         self.add_direct()
         self.add_kept()
         self.holds.settle()
+        self.handing_name = functools.cache(self.find_handing_name)
         self.handings = self.handing_calls()
         for _ in range(MOST_ROUNDS):
             added = self.add_handed() + self.add_pointers()
@@ -118,14 +120,20 @@ class CallGraph:
         found = [self.handing(call) for call in self.facts.calls if call.place.id in definitions]
         return [one for one in found if one.members or one.makers or one.arguments]
 
-    def handing(self, call: Call) -> Handing:
+    def find_handing_name(self, name: str) -> tuple[str, list[Member], list[str]]:
+        """How a call of this name calls what it is handed; the members and makers that it calls by its object."""
         idioms = self.idioms
         members = idioms.members + (idioms.stacked if self.stacked else [])
-        found = Handing(call, DIRECT if idioms.is_now(call.name) else f"~{call.name}")
-        found.members = [Member(struct, member) for names, struct, member in members if names.fullmatch(call.name)]
-        if call.arguments:
-            found.makers = [maker for maker, names in idioms.kept if names.fullmatch(call.name)]
-        if self.is_outside(call) and not idioms.is_later(call.name):
+        return (
+            DIRECT if idioms.is_now(name) else f"~{name}",
+            [Member(struct, member) for names, struct, member in members if names.fullmatch(name)],
+            [maker for maker, names in idioms.kept if names.fullmatch(name)],
+        )
+
+    def handing(self, call: Call) -> Handing:
+        how, members, makers = self.handing_name(call.name)
+        found = Handing(call, how, members, makers if call.arguments else [])
+        if self.is_outside(call) and not self.idioms.is_later(call.name):
             parts = [self.holds.parts(call.place, words) for words in call.arguments if 0 < len(words) <= 2]
             found.arguments = [(values, cells) for values, cells in parts if cells or functions_of(values)]
         return found

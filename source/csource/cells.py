@@ -1,15 +1,14 @@
-"""What a variable may hold, and where it is held."""
+"""What a variable may hold, and where it is held. Tuples, for they are looked up a million times; a mark tells those apart
+that have as many words of the same kind."""
 
-from dataclasses import dataclass
-from typing import Iterable, Union
+from typing import Iterable, NamedTuple, Union
 
 from .places import FunctionId
 
 UNKNOWN = "?"
 
 
-@dataclass(frozen=True, slots=True)
-class Member:
+class Member(NamedTuple):
     """A member of all structs of one name. The struct is UNKNOWN where Coccinelle doesn't say which it is."""
 
     struct: str
@@ -19,8 +18,7 @@ class Member:
         return f"{self.struct}.{self.name}"
 
 
-@dataclass(frozen=True, slots=True)
-class Variable:
+class Variable(NamedTuple):
     """A variable or parameter of a function."""
 
     file: str
@@ -31,8 +29,7 @@ class Variable:
         return self.name
 
 
-@dataclass(frozen=True, slots=True)
-class Global:
+class Global(NamedTuple):
     """A variable outside functions."""
 
     name: str
@@ -41,18 +38,17 @@ class Global:
         return self.name
 
 
-@dataclass(frozen=True, slots=True)
-class Result:
+class Result(NamedTuple):
     """What functions of this name return."""
 
     function: str
+    mark: str = "()"
 
     def __str__(self) -> str:
         return f"{self.function}()"
 
 
-@dataclass(frozen=True, slots=True)
-class Kept:
+class Kept(NamedTuple):
     """The function that was given together with an object, as to percpu_ref_init."""
 
     maker: str
@@ -62,8 +58,7 @@ class Kept:
 Cell = Union[Member, Variable, Global, Result, Kept]
 
 
-@dataclass(frozen=True, slots=True)
-class Address:
+class Address(NamedTuple):
     """The address of what is held there: &cell."""
 
     cell: Cell
@@ -72,15 +67,14 @@ class Address:
         return str(self.cell)
 
 
-@dataclass(frozen=True, slots=True)
-class Function:
+class Function(NamedTuple):
     """A function, as a value."""
 
     id: FunctionId
+    mark: str = "()"
 
 
-@dataclass(frozen=True, slots=True)
-class Workqueue:
+class Workqueue(NamedTuple):
     """What a call that makes a workqueue returns: Facts.call_id of it; or the name of a system workqueue."""
 
     made_at: str

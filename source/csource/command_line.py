@@ -11,9 +11,11 @@ import signal
 import sys
 from typing import Any, NoReturn, Optional
 
-from . import audit, audit_text, draft, draft_text, drift, drift_text, outputs, program, scan_command
+from . import audit, audit_text, draft, draft_text, drift, drift_text, outputs, program, scan_options
 from .declaration import Declaration
 from .extract import ExtractError, Extractor, default_cache
+from .faults import Fault
+from .named_module import chosen_for
 from .names import from_top
 from .progress import Progress
 from .tables import TableError
@@ -40,10 +42,6 @@ ENDS = """\
 Status: 0 nothing is left to decide or to look at, 1 something is, 2 the command line is wrong, 3 a fault: a file that
 can't be read or mustn't be written, a name that means no file, a declaration without items, or Coccinelle is missing,
 141 nobody reads standard output any more."""
-
-
-class Fault(Exception):
-    """What ends the command with status 3."""
 
 
 def parser() -> argparse.ArgumentParser:
@@ -89,7 +87,7 @@ def parser() -> argparse.ArgumentParser:
         action="store_true",
         help="a cited site is left for each item that reaches it and has no line of its own for it",
     )
-    scan_command.add_module_option(one)
+    scan_options.add_module_option(one)
     one.add_argument("files", **files)
     two = verbs.add_parser("drift", parents=[shared], epilog=ENDS, help="what has changed between two trees")
     two.add_argument("--decl", required=True, metavar="D.wq")
@@ -114,9 +112,9 @@ def parser() -> argparse.ArgumentParser:
     three.add_argument(
         "--force", action="store_true", help="overwrite OUT though it is no former draft, or was changed by hand"
     )
-    scan_command.add_module_option(three)
+    scan_options.add_module_option(three)
     three.add_argument("files", **drafted)
-    scan_command.add_parser(verbs, shared, ENDS)
+    scan_options.add_parser(verbs, shared, ENDS)
     return words
 
 
@@ -247,10 +245,13 @@ def main() -> NoReturn:
     extractor: program.ReadsFacts = coccinelle if words.facts == "coccinelle" else reader
     try:
         if words.verb == "scan":
+            # (what it needs and no other verb does takes a quarter of the time in which these begin)
+            from . import scan_command
+
             status = scan_command.run(words, reader)
         else:
             if getattr(words, "module", None):
-                words.files = scan_command.chosen_for(words.tree, words.module, reader).files
+                words.files = chosen_for(words.tree, words.module, reader).files
             status = VERBS[words.verb](words, extractor)
         sys.stdout.flush()
     except KeyboardInterrupt:
@@ -259,7 +260,7 @@ def main() -> NoReturn:
     except BrokenPipeError:
         extractor.progress.end()
         status = UNREAD
-    except (Fault, ExtractError, TableError, OSError, *scan_command.FAULTS) as fault:
+    except (Fault, ExtractError, TableError, OSError) as fault:
         extractor.progress.end()
         print(f"wqsource: {said_of(fault)}", file=sys.stderr)
         status = FAULT

@@ -73,7 +73,10 @@ def arguments(words: Tokens) -> list[Tokens]:
 def outer(words: Tokens, wanted: tuple[str, ...]) -> list[int]:
     """Where one of the wanted tokens stands outside brackets."""
     places: list[int] = []
-    if not any(word in words for word in wanted):
+    for word in wanted:
+        if word in words:
+            break
+    else:
         return places
     depth = 0
     for index, word in enumerate(words):
@@ -140,9 +143,15 @@ def is_call(words: Tokens) -> bool:
 
 def joined(words: Tokens) -> str:
     """The text without blanks, but for those between two words."""
-    text = ""
+    parts: list[str] = []
+    end = ""
     for word in words:
-        if text and re.match(r"\w", word) and re.search(r"\w$", text):
-            text += " "
-        text += word
-    return text
+        if is_of_word(end) and is_of_word(word[:1]):
+            parts.append(" ")
+        parts.append(word)
+        end = word[-1:] or end
+    return "".join(parts)
+
+
+def is_of_word(letter: str) -> bool:
+    return letter.isalnum() or letter == "_"

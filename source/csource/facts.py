@@ -268,6 +268,10 @@ class Facts:
         """The struct of the member in `base->member`: what Coccinelle says, or what the definitions do. No guess."""
         return self.said.get((place.file, place.function, ctext.joined(base), member)) or self.types.of(place, base)
 
+    def members_of(self, struct: str) -> dict[str, str]:
+        """The members of a struct, each with the struct that it is or points to."""
+        return self.structs.members(struct)
+
     def call_of(self, place: Place, words: Tokens) -> Call:
         """The call that an expression is. It may stand some lines below the place of what it is assigned to."""
         name, arguments = words[0], ctext.arguments(words[2:-1])

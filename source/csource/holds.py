@@ -13,10 +13,7 @@ from .ctext import Tokens
 from .facts import Facts
 from .places import FunctionId, Place
 from .tables import OLD_NAMES, SYSTEM_WORKQUEUE, Waits
-
-
-# These hold a work_struct `work`: to flush or queue it is to flush or queue the item.
-WRAPPED = ("delayed_work", "rcu_work", "kthread_delayed_work")
+from .wrapped import Wrapped
 
 
 class Holds:
@@ -25,6 +22,7 @@ class Holds:
     def __init__(self, facts: Facts, waits: Waits) -> None:
         self.facts = facts
         self.waits = waits
+        self.wrapped = Wrapped(facts, waits)
         self.held: dict[Cell, set[Value]] = collections.defaultdict(set)
         self.flows_to: dict[Cell, set[Cell]] = collections.defaultdict(set)
         self.changed: list[Cell] = []
@@ -58,8 +56,9 @@ class Holds:
         if not words or words[0] == "&":
             return None
         cuts = ctext.outer(words, ("->", "."))
-        if cuts and words[cuts[-1] :] == [".", "work"] and self.is_wrapped(place, words[:-2]):
-            return self.cell(place, words[:-2])
+        whole = self.wrapped.base(place, words) if cuts and words[cuts[-1]] == "." else None
+        if whole is not None:
+            return self.cell(place, whole)
         if cuts:
             return (
                 self.member(place, words[: cuts[-1]], words[-1])
@@ -80,10 +79,6 @@ class Holds:
             return Variable(place.file, place.function, name)
         return Global(name)
 
-    def is_wrapped(self, place: Place, base: Tokens) -> bool:
-        """Whether this is a delayed_work or its like: its work_struct is the same item."""
-        return self.facts.struct_of(place, base, "work") in WRAPPED
-
     def member(self, place: Place, base: Tokens, name: str) -> Member:
         return self.noted(Member(self.facts.struct_of(place, base, name) or UNKNOWN, name))
 
@@ -94,21 +89,35 @@ class Holds:
     def parts(self, place: Place, words: Tokens) -> tuple[set[Value], set[Cell]]:
         """What an expression is: values that it names, and cells that it reads."""
         words = ctext.bare(words)
-        if not words:
-            return set(), set()
+        if len(words) < 2:
+            return self.parts_of_word(place, words[0]) if words and ctext.is_name(words[0]) else (set(), set())
         branches = self.branches(words)
         if branches:
             both = [self.parts(place, branch) for branch in branches]
             return both[0][0] | both[1][0], both[0][1] | both[1][1]
         named = self.named(place, words)
-        if named is not None:
-            return named, set()
-        cell = self.cell(place, words)
-        return set(), {cell} if cell is not None else set()
+        # (what p points to is the item, wherever it is; if that isn't known, it is any such struct)
+        pointer = self.wrapped.pointer(place, words)
+        read = pointer if pointer is not None else words if named is None else None
+        cell = self.cell(place, read) if read is not None else None
+        return named or set(), {cell} if cell is not None else set()
+
+    def parts_of_word(self, place: Place, name: str) -> tuple[set[Value], set[Cell]]:
+        """The same of a single name, as most are."""
+        if self.facts.is_local(place, name):
+            return set(), {Variable(place.file, place.function, name)}
+        functions: set[Value] = {Function(function) for function in self.facts.resolve(place.file, name)}
+        if functions:
+            return functions, set()
+        if SYSTEM_WORKQUEUE.match(name):
+            return {Workqueue(OLD_NAMES.get(name, name))}, set()
+        return set(), {Global(name)}
 
     @staticmethod
     def branches(words: Tokens) -> Optional[tuple[Tokens, Tokens]]:
         """The two of `a ? b : c`."""
+        if "?" not in words:
+            return None
         marks = ctext.outer(words, ("?", ":"))
         if not marks or words[marks[0]] != "?":
             return None
@@ -124,11 +133,6 @@ class Holds:
         if words[0] == "&":
             functions = self.functions(place, words[1:])
             return functions or {Address(cell) for cell in self.pointed_at(place, words[1:])}
-        functions = self.functions(place, words)
-        if functions:
-            return functions
-        if len(words) == 1 and SYSTEM_WORKQUEUE.match(words[0]) and not self.facts.is_local(place, words[0]):
-            return {Workqueue(OLD_NAMES.get(words[0], words[0]))}
         if ctext.is_call(words) and self.makes_workqueue(place, words[0]):
             return {Workqueue(self.facts.call_id(self.facts.call_of(place, words)))}
         return None

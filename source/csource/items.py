@@ -9,7 +9,7 @@ from . import ctext
 from .cells import Address, Function, Global, Workqueue, functions_of, may_be_same
 from .ctext import Tokens
 from .facts import Facts
-from .handed import Given, Queues, handed_on, parameters_among
+from .handed import Given, Handed, Queues
 from .holds import Holds
 from .places import FunctionId, Place
 from .records import Call
@@ -48,6 +48,7 @@ class Items:
     def __init__(self, facts: Facts, holds: Holds, waits: Waits) -> None:
         self.facts = facts
         self.holds = holds
+        self.waits = waits
         self.items: dict[FunctionId, Item] = {}
         self.work_of: list[tuple[Address, FunctionId]] = []
         self.set_in: dict[FunctionId, list[tuple[Address, FunctionId]]] = collections.defaultdict(list)
@@ -57,7 +58,8 @@ class Items:
             if waits.kind(call.name).name == "item":
                 self.set_item(call)
         calls = [call for call in facts.calls if waits.kind(call.name).name == "queue"]
-        handed = [handed_on(facts, call, self.names_item) for call in calls]
+        self.handed = Handed(facts, holds.wrapped, self.names_item)
+        handed = [self.handed.on(call) for call in calls]
         wrappers = {call.place.id for call, found in zip(calls, handed) if found}
         for call, found in zip(calls, handed):
             functions = facts.resolve(call.place.file, call.name)
@@ -67,6 +69,8 @@ class Items:
 
     def set_item(self, call: Call) -> None:
         """INIT_WORK(&work, function) and its like: the function is what is one, the work the first other argument."""
+        if self.sets_for_others(call):
+            return
         functions: list[FunctionId] = []
         works: set[Address] = set()
         for words in call.arguments:
@@ -91,6 +95,14 @@ class Items:
             for work in sorted(works, key=repr):
                 self.work_of.append((work, function))
                 self.set_in[call.place.id].append((work, function))
+
+    def sets_for_others(self, call: Call) -> bool:
+        """Whether the files' own INIT_.._WORK sets what it is handed, here: then its calls name the item."""
+        definition = self.facts.definitions.get(call.place.id)
+        if definition is None or self.waits.kind(call.place.function).name != "item":
+            return False
+        is_handed = any(len(words) == 1 and words[0] in definition.parameters for words in call.arguments)
+        return is_handed and bool(self.facts.calls_of(call.place.id))
 
     def workqueues_of(self, call: Call) -> set[str]:
         """The workqueues that a call that queues names: none where they aren't known."""
@@ -144,7 +156,7 @@ class Items:
         return (
             definition is not None
             and (definition.is_local or function.file.endswith(".h") or self.facts.is_macro(definition.place))
-            and bool(parameters_among(self.facts, Queues.of(call)))
+            and bool(self.handed.parameters_among(Queues.of(call)))
             and not self.facts.calls_of(function)
             and function not in self.handed_around
         )

@@ -5,11 +5,12 @@ import functools
 from dataclasses import dataclass, field
 from typing import Iterator, Optional
 
+from . import instances
 from .calls import DIRECT, Edge
 from .places import FunctionId
 from .program import Ended, Program
 from .reach import Reached, path_to, reached_from
-from .references import PUTS, drops_one_it_took, keeps_references
+from .references import drops_one_it_took, keeps_references, undoes_one_it_made
 from .sites import TARGETED, Site
 from .ways import Tables, all_direct, reached_by_item
 
@@ -20,11 +21,13 @@ OTHER_ENDS = "others may end it"
 END_BY_POINTER = "its end is called by a pointer"
 TIMEOUT = "a time passes"
 OWN_KIND = "the own kind"
+ITSELF = "it would wait for itself"
 CONSTANT = "the arguments exclude it"
 OWN_END = "it would end its own workqueue"
 MADE_HERE = "it was made in the same function"
 LAST_REFERENCE = "the last reference is dropped on the way"
 OWN_REFERENCE = "a reference is dropped that was taken there"
+OWN_OBJECT = "what is undone was made there"
 
 ENDS_WORKQUEUE = "destroy"
 
@@ -77,8 +80,8 @@ class Lines:
         doubts = set() if all_direct(list(path)) else {BY_POINTER}
         if "timeout" in site.key.call:
             doubts.add(TIMEOUT)
-        if not doubts and self.is_behind_own_reference(item, site, path):
-            doubts.add(OWN_REFERENCE)
+        if not doubts:
+            doubts |= self.doubts_of_own(item, site, path)
         if site.kind == "flushwq":
             yield from self.for_workqueues(item, site, path, doubts)
         elif site.kind in TARGETED:
@@ -86,15 +89,20 @@ class Lines:
         else:
             yield from self.for_ends(item, site, path, doubts)
 
-    def is_behind_own_reference(self, item: FunctionId, site: Site, path: tuple[Edge, ...]) -> bool:
-        """Whether each way there drops a reference that the function took itself."""
-        return any(PUTS.fullmatch(edge.call.name) for edge in path) and site.id not in self.reached_without_own(item)
+    def doubts_of_own(self, item: FunctionId, site: Site, path: tuple[Edge, ...]) -> set[str]:
+        """Whether each way there drops a reference that the function took itself, or undoes what it made."""
+        found = set().union(*map(self.what_is_own, path))
+        return found if found and site.id not in self.reached_without_own(item) else set()
+
+    def what_is_own(self, edge: Edge) -> set[str]:
+        """What a call does to an object that is its function's own."""
+        facts = self.program.facts
+        drops = {OWN_REFERENCE} if drops_one_it_took(facts, edge) else set()
+        return drops | ({OWN_OBJECT} if undoes_one_it_made(facts, edge) else set())
 
     def find_without_own(self, item: FunctionId) -> Reached:
-        """By direct calls that drop no reference which the function took itself."""
-        facts = self.program.facts
-        follows = lambda edge: edge.how == DIRECT and not drops_one_it_took(facts, edge)
-        return reached_from(self.program.graph, item, follows)
+        """By direct calls that do nothing of the kind."""
+        return reached_from(self.program.graph, item, lambda edge: edge.how == DIRECT and not self.what_is_own(edge))
 
     def for_workqueues(self, item: FunctionId, site: Site, path: tuple[Edge, ...], doubts: set[str]) -> Iterator[Wait]:
         several = {SEVERAL} if len(site.workqueues) > 1 else set()
@@ -120,8 +128,13 @@ class Lines:
     def for_targets(self, item: FunctionId, site: Site, path: tuple[Edge, ...], doubts: set[str]) -> Iterator[Wait]:
         several = {SEVERAL} if len(site.targets) > 1 else set()
         for target in sorted(site.targets):
-            own = {OWN_KIND} if target == item else set()
+            own = self.doubts_of_own_kind(item, site, path) if target == item else set()
             yield Wait(item, target, "", site.kind, site, path, frozenset(doubts | several | own))
+
+    def doubts_of_own_kind(self, item: FunctionId, site: Site, path: tuple[Edge, ...]) -> set[str]:
+        """Of a wait for an item of the same work function: another one may be behind this one."""
+        which = instances.instance_of(self.program.facts, item, path, site)
+        return {instances.ITSELF: {ITSELF}, instances.ANOTHER: set()}.get(which, {OWN_KIND})
 
     def for_ends(self, item: FunctionId, site: Site, path: tuple[Edge, ...], doubts: set[str]) -> Iterator[Wait]:
         """A wait for what somebody signals: sure if every place that signals it is reached by direct calls from one

@@ -9,6 +9,7 @@ import tempfile
 from dataclasses import dataclass, field
 from typing import Iterable, NamedTuple
 
+from .faults import Fault
 from .lines import Wait
 from .places import FunctionId
 from .program import Program
@@ -21,7 +22,7 @@ ON_NONE = "?"
 SECONDS = 300
 
 
-class NoWqplan(Exception):
+class NoWqplan(Fault):
     """There is no program `wqplan`, or it doesn't answer."""
 
 

@@ -13,6 +13,7 @@ import re
 from dataclasses import dataclass
 from typing import Iterable, Iterator, Optional
 
+from .faults import Fault
 from .scan import Row
 
 REAL, CANNOT, ASIDE, UNREAD = "real", "can't happen", "not on the reclaim path", "unread"
@@ -23,7 +24,7 @@ VERDICT = re.compile(rf" +({'|'.join(VERDICTS)}) ([0-9a-f]+|-)(?:: (.*\S))?\s*")
 Identity = tuple[str, ...]
 
 
-class SurveyError(Exception):
+class SurveyError(Fault):
     """A line that isn't of this form."""
 
 
@@ -92,9 +93,12 @@ class Survey:
         there = {row.identity for row in rows}
         return [identity for identity in self.verdicts if identity not in there]
 
-    def text(self, rows: Iterable[Row]) -> str:
-        """The file anew: what was read stays, and what is new is unread, with its hash."""
-        found = dict(self.verdicts)
+    def text(self, rows: list[Row], is_whole: bool = False) -> str:
+        """The file anew: what was read stays, and what is new is unread, with its hash. What was unread and isn't told any
+        more goes out, if the rows are those of a whole scan."""
+        there = {row.identity for row in rows}
+        is_kept = lambda identity: not is_whole or identity in there or self.verdicts[identity].word != UNREAD
+        found = {identity: verdict for identity, verdict in self.verdicts.items() if is_kept(identity)}
         for row in rows:
             if found.get(row.identity, NOT_READ).word == UNREAD:
                 found[row.identity] = Verdict(UNREAD, row.hash)

@@ -153,3 +153,7 @@ class TokenFacts(Facts):
         if key not in self.known:
             self.known[key] = self.expressions.struct_of(place, base) or self.said.get(key)
         return self.known[key]
+
+    def members_of(self, struct: str) -> dict[str, str]:
+        types = self.expressions.types
+        return {name: types.member(struct, name) or "" for name in types.members_of(struct)}

@@ -17,6 +17,9 @@ from csource import draft, extract, program, progress, token_extract  # noqa: E4
 
 C_FILES = HERE / "c"
 
+# `wqsource` is started more than a hundred times: by this Python, and not by one that has more to do before it begins.
+os.environ["PATH"] = os.pathsep.join((os.path.dirname(sys.executable), os.environ.get("PATH", os.defpath)))
+
 # The machine may have much else to do, and the gate should say the same each time.
 hypothesis.settings.register_profile("gate", deadline=None, derandomize=True, database=None, max_examples=200)
 hypothesis.settings.load_profile("gate")
@@ -80,12 +83,37 @@ def wqsource():
     return start
 
 
+# The model, which keeps what it answered: a test asks the same of the same texts many times.
+MODEL = """#!/bin/sh
+kept={folder}/$({{ echo "$1"; cat -- "$2"; echo; cat -- "$3"; }} | sha256sum | cut -c1-64)
+if [ ! -e "$kept" ]; then
+    {python} {root}/tests/model/circles.py "$@" >"$kept.half.$$"
+    echo $? >"$kept.status.$$"
+    mv -- "$kept.status.$$" "$kept.status"
+    mv -- "$kept.half.$$" "$kept"
+fi
+cat -- "$kept"
+exit "$(cat -- "$kept.status")"
+"""
+
+
 @pytest.fixture(scope="session")
 def wqplan(tmp_path_factory):
     """The program that is asked about circles: $WQPLAN if one is built; else the model, which is another program."""
     if not os.environ.get("WQPLAN"):
-        path = tmp_path_factory.mktemp("bin") / "wqplan"
-        path.write_text(f'#!/bin/sh\nexec {sys.executable} {ROOT}/tests/model/circles.py "$@"\n')
+        folder = tmp_path_factory.mktemp("bin")
+        path = folder / "wqplan"
+        path.write_text(MODEL.format(folder=folder, python=sys.executable, root=ROOT))
         path.chmod(0o755)
         os.environ["WQPLAN"] = str(path)
     return os.environ["WQPLAN"]
+
+
+def pytest_terminal_summary(terminalreporter):
+    """What tests have measured, though they may have run in other processes."""
+    reports = [report for found in terminalreporter.stats.values() for report in found]
+    for report in reports:
+        if getattr(report, "when", "") == "call":
+            for name, text in report.user_properties:
+                if name == "measured":
+                    terminalreporter.write_line(text)

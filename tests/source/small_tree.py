@@ -7,6 +7,7 @@ struct {name} {{
 	struct work_struct a_work, b_work, c_work;
 	struct kref ref;
 	const struct {name}_ops *ops;
+	struct {name} *peer;
 }};
 """
 
@@ -136,6 +137,66 @@ static void NAME_each(void)
 	}
 }
 """
+
+# An object that flushes the workqueue when it is destroyed; it is destroyed where it was made, or by others.
+OBJECT = """
+static struct NAME *NAME_create(struct workqueue_struct *wq)
+{
+	struct NAME *y = kzalloc(sizeof(*y), GFP_KERNEL);
+
+	y->wq = wq;
+	return y;
+}
+
+static void NAME_destroy(struct NAME *y)
+{
+	flush_workqueue(y->wq);
+	kfree(y);
+}
+
+static void NAME_ask(struct NAME *x, struct NAME *old)
+{
+	struct NAME *y = BEFORE;
+
+	y = NAME_create(x->wq);
+	if (y->wq == NULL)
+		NAME_destroy(y);
+}
+"""
+
+# An item that waits for one of its own work function: itself, as whoever drops the last reference would; that of a peer;
+# each one that there is, and each other one.
+SELF = """
+static void self_free(struct kref *ref)
+{
+	struct self *y = container_of(ref, struct self, ref);
+
+	flush_work(&y->a_work);
+}
+
+static void self_put(struct self *y)
+{
+	kref_put(&y->ref, self_free);
+}
+"""
+PEER = """
+static void peer_wait(struct peer *y)
+{
+	flush_work(&y->peer->a_work);
+}
+"""
+EACH = """
+static void NAME_wait(struct NAME *x)
+{
+	struct NAME *y;
+
+	list_for_each_entry(y, &NAME_list, entry) {
+		CHECK
+		flush_work(&y->a_work);
+	}
+}
+"""
+CHECK = "if (y == x)\n\t\t\tcontinue;"
 
 # A module, a library that it stands on, and what that one stands on; another user of the library.
 LIBRARY_H = """
@@ -273,7 +334,7 @@ FILES = {
     "Makefile": "VERSION = 6\nPATCHLEVEL = 1\nSUBLEVEL = 0\n",
     "include/linux/workqueue.h": "struct work_struct { int data; };\n",
     "drivers/block/Makefile": "obj-m += own.o arg.o zero.o ptr.o bare.o cancel.o through.o plain.o ends.o last.o\n"
-    "obj-m += undo.o took.o gave.o\n",
+    "obj-m += undo.o took.o gave.o made.o older.o self.o peer.o every.o other.o\n",
     # flushes its own workqueue
     "drivers/block/own.c": module("own", "flush_workqueue(x->wq);"),
     # a constant among the arguments excludes the flush, or doesn't
@@ -294,6 +355,22 @@ FILES = {
     # drops a reference that it took; and that of a list, too
     "drivers/block/took.c": module("took", "took_each();", before=REFERENCE.replace("NAME", "took")),
     "drivers/block/gave.c": module("gave", "gave_each();\n\tgave_put(x);", before=REFERENCE.replace("NAME", "gave")),
+    # undoes what it has just made; and what may be older
+    "drivers/block/made.c": module(
+        "made", "made_ask(x, x);", before=OBJECT.replace("NAME", "made").replace("BEFORE", "NULL")
+    ),
+    "drivers/block/older.c": module(
+        "older", "older_ask(x, x);", before=OBJECT.replace("NAME", "older").replace("BEFORE", "old")
+    ),
+    # waits for itself, for its peer, for each of its kind, for each other one
+    "drivers/block/self.c": module("self", "self_put(x);", before=SELF),
+    "drivers/block/peer.c": module("peer", "peer_wait(x);", before=PEER),
+    "drivers/block/every.c": module(
+        "every", "every_wait(x);", before=EACH.replace("NAME", "every").replace("CHECK", "")
+    ),
+    "drivers/block/other.c": module(
+        "other", "other_wait(x);", before=EACH.replace("NAME", "other").replace("CHECK", CHECK)
+    ),
     # no rescuer: no module of a scan
     "drivers/block/plain.c": module("plain", "flush_workqueue(x->wq);", flags="0"),
     "drivers/md/Makefile": "obj-m += thin.o buffer.o other.o library/\n",
@@ -317,6 +394,9 @@ SURE = {
     ("drivers/block/zero", "zero_a", "*", "hangs"),
     ("drivers/block/bare", "bare_a", "bare_c", "no rescuer"),
     ("drivers/block/gave", "gave_a", "gave_b", "hangs"),
+    ("drivers/block/older", "older_a", "*", "hangs"),
+    ("drivers/block/peer", "peer_a", "peer_a", "hangs"),
+    ("drivers/block/other", "other_a", "other_a", "hangs"),
     ("drivers/block/through", "through_a", "through_c", "hangs"),
     ("drivers/block/through", "through_b", "through_c", "hangs"),
 }
@@ -326,6 +406,9 @@ UNSURE = {
     ("drivers/block/ends", "ends_a", "*", ("it would end its own workqueue",)),
     ("drivers/block/undo", "undo_a", "*", ("it was made in the same function",)),
     ("drivers/block/last", "last_a", "*", ("the last reference is dropped on the way",)),
+    ("drivers/block/made", "made_a", "*", ("what is undone was made there",)),
+    ("drivers/block/self", "self_a", "self_a", ("it would wait for itself",)),
+    ("drivers/block/every", "every_a", "every_a", ("it would wait for itself",)),
     ("drivers/block/took", "took_a", "took_b", ("a reference is dropped that was taken there",)),
     ("drivers/nvme/core", "rdma_work", "rdma_reset", ("a call by a pointer",)),
 }

@@ -143,6 +143,16 @@ def test_items_that_are_handed_on(read, wqsource, tmp_path):
     assert program.items.unknown_queueings == []
 
 
+@pytest.mark.parametrize("files", [["inside.c"], ["inside.c", "inside.h"]])
+def test_items_inside_a_struct_that_is_handed_on(drafted, read, files):
+    """What holds one work_struct and is given to INIT_.._WORK is the item, and a pointer to it names it."""
+    found = drafted(*files)
+    assert found.items == {"in_found": {"disks"}, "in_lost": {"disks"}, "in_reset": {"events"}, "in_enable": {"events"}}
+    assert found.flushes == {("flush in_reset in_enable", "inside.c:27")}
+    items = read(C_FILES, files).items
+    assert items.unknown_items == [] and items.unknown_queueings == []
+
+
 def test_a_wait_in_a_helper(drafted):
     """Its callers' calls are the sites: each names what it waits for."""
     found = drafted("wrapper.c")

@@ -52,13 +52,13 @@ def test_modules_and_tables():
     """Each module and each table has its row, and each row names what is there."""
     modules = {path.stem for path in (ROOT / "source" / "csource").glob("*.py")} - {"__init__", "__main__"}
     rows = {name for row in re.findall(r"^\| (`\w+`.*?) \|", PAGE, re.M) for name in re.findall(r"`(\w+)`", row)}
-    plumbing = {"command_line", "progress", "says", "places"}
+    plumbing = {"command_line", "scan_options", "faults", "progress", "says", "places"}
     assert modules - plumbing - rows == {"audit_text", "drift_text", "draft_text", "scan_text"}
     assert set(re.findall(r"^\| \[(\w+\.txt)\]", PAGE, re.M)) == {path.name for path in (ROOT / "source").glob("*.txt")}
 
 
 def test_options():
     """What the page says of the command line is there."""
-    source = "".join((ROOT / "source" / "csource" / name).read_text() for name in ("command_line.py", "scan_command.py"))
+    source = "".join((ROOT / "source" / "csource" / name).read_text() for name in ("command_line.py", "scan_options.py"))
     for option in set(re.findall(r"`(--[\w-]+)|(--[\w-]+) (?:D|DIR|OUT|FUNCTION)", PAGE)):
         assert f'"{option[0] or option[1]}"' in source

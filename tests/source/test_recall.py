@@ -56,32 +56,31 @@ def scanned(cache, wqplan):
 
 
 @pytest.mark.parametrize("module", dict.fromkeys([*recall.MODULES.values(), *READ]))
-def test_module(scanned, module, capsys):
-    """Each module is scanned once, for both."""
+def test_module(scanned, module, record_property):
+    """Each module is scanned once, for both. What is counted is printed at the end of all tests."""
     one = recall.scan_module(scanned, module)
-    with capsys.disabled():
-        print()
-        if module in EXAMPLES:
-            check_recall(EXAMPLES[module], recall.count(EXAMPLES[module], one))
-        if module in READ:
-            result = scan.UnitResult(module)
-            one.fill(result)
-            told = {(row.item, row.target, row.key.split()[1]) for row in result.rows if row.is_sure}
-            check_read(module, told)
+    say = lambda text: record_property("measured", text)
+    if module in EXAMPLES:
+        check_recall(EXAMPLES[module], recall.count(EXAMPLES[module], one), say)
+    if module in READ:
+        result = scan.UnitResult(module)
+        one.fill(result)
+        told = {(row.item, row.target, row.key.split()[1]) for row in result.rows if row.is_sure}
+        check_read(module, told, say)
 
 
-def check_recall(example, counted):
-    print(recall.row(example, counted.files, counted.counts), "(files, sure, unsure, missed, no item)")
+def check_recall(example, counted, say):
+    say(f"{recall.row(example, counted.files, counted.counts)} (files, sure, unsure, missed, no item)")
     if example in NOT_FOUND:
         assert counted.share == 0, "more is found than is said here"
     else:
         assert counted.share >= LEAST_RECALL, counted.missed
 
 
-def check_read(module, told):
+def check_read(module, told, say):
     """What is known to hang is told; of what can't happen, no more than is said above."""
     real = {key for key, can_happen in READ[module].items() if can_happen}
     false = set(READ[module]) - real
-    print(f"{module}: of {len(told & (real | false))} sure lines that were read {len(told & real)} can happen")
+    say(f"{module}: of {len(told & (real | false))} sure lines that were read {len(told & real)} can happen")
     assert real <= told
     assert told & false == false & FALSE_AND_TOLD

@@ -10,7 +10,7 @@ from csource import extract, progress, scan, token_extract, tree_index
 from csource.kbuild import Kbuild
 from csource.survey import Survey, SurveyError
 
-COUNTS = "# 17 calls make a workqueue: 13 with WQ_MEM_RECLAIM, 0 legacy, 4 without; 13 modules."
+COUNTS = "# 23 calls make a workqueue: 19 with WQ_MEM_RECLAIM, 0 legacy, 4 without; 19 modules."
 
 
 @pytest.fixture(scope="module")
@@ -50,6 +50,12 @@ def test_modules(results):
         "drivers/block/undo",
         "drivers/block/took",
         "drivers/block/gave",
+        "drivers/block/made",
+        "drivers/block/older",
+        "drivers/block/self",
+        "drivers/block/peer",
+        "drivers/block/every",
+        "drivers/block/other",
         "drivers/nvme/core",
     }
 
@@ -67,7 +73,8 @@ def test_what_depends(results):
 def test_workqueues(results):
     """Those with a rescuer, with their items."""
     found = {(one.name, one.items) for result in results.values() for one in result.workqueues}
-    others = {(name, 2) for name in ("own", "arg", "zero", "ptr", "bare", "cancel", "ends", "last", "undo", "took", "gave")}
+    names = "own arg zero ptr bare cancel ends last undo took gave made older self peer every other".split()
+    others = {(name, 2) for name in names}
     assert found == others | {("through", 3), ("ctrl-wq", 3)}
 
 
@@ -115,11 +122,11 @@ def test_what_is_printed(scanned):
     assert ran.status == 1
     assert ran.out.startswith(COUNTS) and "Nothing here is proved." in ran.out
     heads = re.findall(r"^# (unread.*)", ran.out, re.M)
-    assert heads == ["unread, for sure (5)", "unread, for want of a rescuer (1)"]
+    assert heads == ["unread, for sure (8)", "unread, for want of a rescuer (1)"]
     assert "drivers/block/own  own  own_a -> all of it  flushwq drivers/block/own.c:" in ran.out
     assert "drivers/block/bare  bare  bare_a -> bare_c on slow  flush drivers/block/bare.c:" in ran.out
     assert (
-        "# depends: 7 flush and flushwq lines in 7 modules (--unsure), 0 others in 0 modules (--unsure=all)" in ran.out
+        "# depends: 10 flush and flushwq lines in 10 modules (--unsure), 0 others in 0 modules (--unsure=all)" in ran.out
     )
     assert "not sure" not in ran.out and "not sure: a call by a pointer" in scanned("--unsure").out
 
@@ -138,13 +145,13 @@ def test_verdicts(scanned, tmp_path, tree):
     assert scanned("--verdicts", verdicts, "--write").status == 1
     text = verdicts.read_text()
     assert (
-        len(re.findall(r"^wait ", text, re.M)) == 13 and len(re.findall(r"^    unread [0-9a-f]{12}$", text, re.M)) == 13
+        len(re.findall(r"^wait ", text, re.M)) == 19 and len(re.findall(r"^    unread [0-9a-f]{12}$", text, re.M)) == 19
     )
     assert "wait own own own_a flushwq * | drivers/block/own.c own_a flush_workqueue(x->wq)\n" in text
     verdicts.write_text("# read by hand\n" + re.sub(r"unread ([0-9a-f]+)", r"can't happen \1: a test", text))
     ran = scanned("--verdicts", verdicts)
     assert ran.status == 0 and "# unread" not in ran.out
-    assert "# read: 0 real, 6 can't happen, 0 not on the reclaim path; 0 verdicts no longer of their source" in ran.out
+    assert "# read: 0 real, 9 can't happen, 0 not on the reclaim path; 0 verdicts no longer of their source" in ran.out
     ran = scanned("--verdicts", verdicts, "--stale")
     assert (ran.status, ran.out) == (0, "")
     own = tree / "drivers/block/own.c"
@@ -166,3 +173,12 @@ def test_a_survey_that_is_none(tmp_path):
         (tmp_path / "survey.txt").write_text(text)
         with pytest.raises(SurveyError):
             Survey.read(tmp_path / "survey.txt")
+
+
+def test_unread_rows_that_are_gone(tmp_path):
+    """A whole scan takes them out of the survey, and no other one; what was read stays."""
+    text = "wait a q i flush j | e.c f g()\n    unread 0123\nwait b q i flush j | e.c f g()\n    real 0123: because\n"
+    (tmp_path / "survey.txt").write_text(text)
+    survey = Survey.read(tmp_path / "survey.txt")
+    assert survey.text([]) == text
+    assert survey.text([], is_whole=True) == text[text.index("wait b") :]
