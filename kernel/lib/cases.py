@@ -183,7 +183,8 @@ class Case:
             if 0 <= number < len(self.setting.kinds):
                 found = {flag for flag, bit in FLAGS.items() if int(head[2], 16) & bit}
                 if found != self.setting.flags(number):
-                    return f"the kernel made {self.setting.workqueue(number)} with {', '.join(sorted(found)) or 'no flag'}"
+                    flags = ", ".join(sorted(found)) or "no flag"
+                    return f"the kernel made {self.setting.workqueue(number)} with {flags}"
         return ""
 
     def differs(self, word, expected):

@@ -87,8 +87,8 @@ def try_signals():
 
 
 # By the name of the module the declaration and the assignment, the status, and what the module says while no worker can
-# be created: that of examples/nvme-auth.md, which hangs; the one of later kernels; and one in which nobody waits for what
-# has no rescuer, so that `safe` says nothing of it.
+# be created: that of examples/nvme-auth.md, which hangs; the one of later kernels; and one in which nobody waits for
+# what has no rescuer, so that `safe` says nothing of it.
 WRITTEN = {
     "bare": (
         "rdisk/rdisk.wq",

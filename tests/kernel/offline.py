@@ -121,7 +121,7 @@ WAYS = 500
 
 
 def kept(console, events):
-    """The console, of whose events those are left whose numbers aren't among these. They are numbered from its start."""
+    """The console, and of its events those whose numbers, counted from its start, aren't among these."""
     numbers = itertools.count()
 
     def line_without(line):
@@ -141,8 +141,9 @@ def events_of(console):
 
 
 def ways_of(console, choose):
-    """Ways to remove events: each event alone, all of a case that begin with one letter, all of a case, and random ones.
-    Each has the case that it is about."""
+    """Ways to remove events: each event alone, all of a case that begin with one letter, all of a case, and random
+    ones. Each has the case that it is about.
+    """
     ways = []
     for case, events in events_of(console).items():
         numbers = [number for number, _ in events]

@@ -1,12 +1,12 @@
 #!/usr/bin/env python3
-"""Cases that a kernel has carried out, with what the guest's console said of them: a judge can be tried on these without
-a guest.
+"""Cases that a kernel has carried out, with what the guest's console said of them: a judge can be tried on these
+without a guest.
 
     recorded.py PROGRAM SERIES FILE
 
-has a guest of this series carry them out, and writes FILE. What is in consoles/ was made so. Its parts: declarations and
-assignments, how their workqueues are made, and of each case the order or the run; and of the console the lines that the
-module printed.
+has a guest of this series carry them out, and writes FILE. What is in consoles/ was made so. Its parts: declarations
+and assignments, how their workqueues are made, and of each case the order or the run; and of the console the lines that
+the module printed.
 """
 
 import json
@@ -84,7 +84,8 @@ def cases_of(asked, choose):
 
 
 def without_comments(text):
-    return "".join(f"{line}\n" for line in (line.partition("#")[0].strip() for line in text.decode().splitlines()) if line)
+    lines = (line.partition("#")[0].strip() for line in text.decode().splitlines())
+    return "".join(f"{line}\n" for line in lines if line)
 
 
 def told_of_setting(asked, made):
