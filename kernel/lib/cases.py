@@ -22,6 +22,8 @@ KINDS = {
 }
 # These execute one item at a time.
 ONE_AT_A_TIME = "o1v"
+# Of a workqueue's flags, by their bits, those that must be as it is asked for (include/linux/workqueue.h).
+FLAGS = {"WQ_UNBOUND": 1 << 1, "WQ_MEM_RECLAIM": 1 << 3, "WQ_HIGHPRI": 1 << 4}
 
 # By the directive of a wait what an item does in a free case. A wait that a comment calls `done` ends once the item has
 # done its work, as one for a completion, and not by flush_work.
@@ -92,6 +94,12 @@ class Setting:
         name = self.assignment.called.get(number)
         return f"workqueue {number}{f' ({name.decode()})' if name else ''}"
 
+    def flags(self, number):
+        """Those of FLAGS that a workqueue must have. An ordered one is WQ_UNBOUND, too."""
+        words = KINDS[self.kinds[number]][0].replace("ordered", "WQ_UNBOUND")
+        rescuer = set() if number in self.assignment.bare else {"WQ_MEM_RECLAIM"}
+        return {flag for flag in FLAGS if flag in words} | rescuer
+
     def promised(self, where):
         """Of where items are, those on workqueues with a rescuer. Of the others nobody promises anything."""
         items, assignment = self.declaration.items, self.assignment
@@ -145,7 +153,7 @@ class Case:
             why = self.compare(machine)
         except NotLawful as step:
             return f"step {step} isn't lawful by the model"
-        why = why or self.unbalanced() or self.unlike_events()
+        why = why or self.unbalanced() or self.unlike_events() or self.unlike_flags()
         ends = "end" if self.ended() else "hang"
         if not why and self.must not in (None, ends):
             found = self.shown(self.outcome.states["end"][1])
@@ -165,6 +173,18 @@ class Case:
 
     def unlike_events(self):
         """What is otherwise about its events than it must be, or nothing."""
+        return ""
+
+    def unlike_flags(self):
+        """What is otherwise about its workqueues, by the kernel's own list of those that are busy, or nothing."""
+        for line in self.outcome.busy:
+            head = re.match(r"workqueue q([0-9a-f]+): flags=0x([0-9a-f]+)", line)
+            number = int(head[1], 16) - self.first_queue if head else -1
+            if 0 <= number < len(self.setting.kinds):
+                found = {flag for flag, bit in FLAGS.items() if int(head[2], 16) & bit}
+                if found != self.setting.flags(number):
+                    flags = ", ".join(sorted(found)) or "no flag"
+                    return f"the kernel made {self.setting.workqueue(number)} with {flags}"
         return ""
 
     def differs(self, word, expected):
@@ -304,6 +324,9 @@ class FreeCase(Case):
         queued = [(letter, number) for letter, number, _, _ in self.outcome.events if letter in "qQ"]
         if queued != [("q", number) for number in numbers]:
             return f"it wasn't the items in their order that were queued: {queued}"
+        letters = "".join(letter for letter, *_ in self.outcome.events)
+        if set(letters.rpartition("q")[0]) - set("qs"):
+            return f"an item acted before all were queued: {letters}"
         where = self.outcome.states["end"][1]
         for item, waits in self.setting.waits().items():
             number = self.setting.number_of(item)

@@ -80,10 +80,13 @@ static void work_fn(struct work_struct *work)
 	complete_all(&it->done);
 }
 
-/* Says where each item is. The answer is how many aren't finished. */
-static int tell(const char *when)
+/*
+ * Says where each item is. The answer is how many aren't finished that must be: while no worker can be created nobody
+ * executes what is on a workqueue without a rescuer, and that is no hang until somebody waits for it.
+ */
+static int tell(const char *when, bool is_short)
 {
-	int i, unfinished = 0;
+	int i, unfinished = 0, left = 0;
 
 	pr_info("%s:\n", when);
 	for (i = 0; i < ARRAY_SIZE(items); i++) {
@@ -95,7 +98,10 @@ static int tell(const char *when)
 			pr_info("  %s has finished\n", it->name);
 			continue;
 		}
-		unfinished++;
+		if (is_short && !(queues[it->queue].flags & WQ_MEM_RECLAIM))
+			left++;
+		else
+			unfinished++;
 		if (!READ_ONCE(it->task)) {
 			pr_info("  %s is pending on %s\n", it->name, name);
 		} else if (waiting) {
@@ -106,7 +112,8 @@ static int tell(const char *when)
 			pr_info("  %s runs on %s\n", it->name, name);
 		}
 	}
-	pr_info("%s: %s\n", when, unfinished ? "IT HANGS" : "all have finished");
+	pr_info("%s: %s\n", when, unfinished ? "IT HANGS" : left ? "all that have a rescuer have finished" :
+		"all have finished");
 	return unfinished;
 }
 
@@ -265,7 +272,7 @@ static int __init hang_init(void)
 			queue_work_on(cpumask_first(cpu_online_mask), queues[items[order[i]].queue].wq, &items[order[i]].work);
 		complete_all(&all_queued);
 		msleep(3000);
-		tell("while no worker can be created");
+		tell("while no worker can be created", true);
 	}
 	end_shortage();
 	if (err) {
@@ -273,7 +280,7 @@ static int __init hang_init(void)
 		return err;
 	}
 	msleep(3000);
-	if (tell("with memory again"))
+	if (tell("with memory again", false))
 		__module_get(THIS_MODULE);	/* its functions are still executed */
 	return 0;
 }

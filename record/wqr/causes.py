@@ -11,8 +11,10 @@
 """
 
 import re
+from bisect import bisect_left, bisect_right
 from dataclasses import dataclass
 from enum import Enum
+from operator import attrgetter
 from typing import Iterator, Optional
 
 from .history import Agent, Call, History, Kind, Run, Sleep
@@ -55,6 +57,8 @@ class How(Enum):
         return self in (How.SOCKET, How.EARLY, How.THROUGH, How.LOCK)
 
 
+# What is in the order of these is looked up by them: long records have thousands for one thread, or one work_struct.
+TIME, END, START = attrgetter("time"), attrgetter("end"), attrgetter("start")
 CALLS = {how.value: how for how in (How.FLUSH, How.CANCEL, How.FLUSHWQ, How.DRAIN)}
 
 
@@ -125,6 +129,8 @@ class Causes:
         self.runs_of_work: dict[int, list[Run]] = {}
         for run in history.runs:
             self.runs_of_work.setdefault(run.work, []).append(run)
+        for runs in self.runs_of_work.values():
+            runs.sort(key=START)  # (what ran when the record began is known later)
         self.ever_queued = {one.work for one in history.queueings}
         for wait in self.waits():
             self.explain(wait)
@@ -168,8 +174,9 @@ class Causes:
 
     def last_run(self, call: Call) -> Optional[Run]:
         """The execution that a flush waited for, or the last one before."""
-        until = call.time + call.slept
-        return next((run for run in reversed(self.runs_of_work.get(call.work, [])) if run.start <= until), None)
+        runs = self.runs_of_work.get(call.work, [])
+        at = bisect_right(runs, call.time + call.slept, key=START)
+        return runs[at - 1] if at else None
 
     # Sleeps -----------------------------------------------------------------------------------------
 
@@ -210,13 +217,10 @@ class Causes:
         last = wait.sleeps[-1]
         if wait.by.kind is Kind.ITEM and not wait.by.run.is_barrier:
             yield self.fact(wait, How.LOCK, wait.by.run, last)
-            for sleep in self.sleeps_of.get(wait.by.pid, []):
-                if (
-                    sleep.by
-                    and sleep.by.kind is Kind.ITEM
-                    and wait.start < sleep.end < wait.end
-                    and not sleep.by.run.is_barrier
-                ):
+            sleeps = self.sleeps_of.get(wait.by.pid, [])
+            first, behind = bisect_right(sleeps, wait.start, key=END), bisect_left(sleeps, wait.end, key=END)
+            for sleep in sleeps[first:behind]:
+                if sleep.by and sleep.by.kind is Kind.ITEM and not sleep.by.run.is_barrier:
                     yield self.fact(wait, How.LOCK, sleep.by.run, last, wait.by.pid)
         elif wait.by.kind is Kind.THREAD:
             for _, target, through in self.through(wait.by, wait.start, wait.end):
@@ -238,10 +242,9 @@ class Causes:
     def through(self, by: Agent, start: int, end: int) -> Iterator[tuple[How, Run, Optional[int]]]:
         """The items that woke a thread between these times."""
         seen: set[int] = set()
-        for waking in reversed(self.history.wakings.get(by.pid, [])):
-            if waking.time <= start:
-                return
-            if waking.time < end and waking.by.kind is Kind.ITEM and id(waking.by.run) not in seen:
-                if not waking.by.run.is_barrier:
-                    seen.add(id(waking.by.run))
-                    yield How.THROUGH, waking.by.run, by.pid
+        wakings = self.history.wakings.get(by.pid, [])
+        first, behind = bisect_right(wakings, start, key=TIME), bisect_left(wakings, end, key=TIME)
+        for waking in reversed(wakings[first:behind]):
+            if waking.by.kind is Kind.ITEM and id(waking.by.run) not in seen and not waking.by.run.is_barrier:
+                seen.add(id(waking.by.run))
+                yield How.THROUGH, waking.by.run, by.pid

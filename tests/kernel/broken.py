@@ -92,9 +92,26 @@ BROKEN = {
             "accepted = it->number && queue_work_on(cpu, it->q->wq, &it->work);",
         )
     ],
+    "items act before all are queued": [
+        Edit(WAIT, "wait_event(c->news, READ_ONCE(c->begun));", ";"),
+        # (on one CPU nothing comes between the queueings, unless somebody sleeps there)
+        Edit(
+            WAIT,
+            "note(it->c, accepted ? 'q' : 'Q', it->number, -1, 0);",
+            "note(it->c, accepted ? 'q' : 'Q', it->number, -1, 0);\n\tmsleep(200);",
+        ),
+    ],
     "what hasn't happened after 40 ms doesn't happen": [Edit(WAIT, SETTLING.format("0"), SETTLING.format("looks - 1"))],
     "a work function is wrong": [Edit(WAIT, "it->task = current;", "it->task = current;\n\tBUG_ON(it->number == 1);")],
 }
+HIGHPRI = "workqueues per CPU are made with WQ_HIGHPRI"
+BROKEN[HIGHPRI] = [
+    Edit(
+        WAIT,
+        'q->wq = alloc_workqueue("%s", flags, max_active, name);',
+        'q->wq = alloc_workqueue("%s", flags | WQ_HIGHPRI, max_active, name);',
+    )
+]
 NO_SHORTAGE = "there is no shortage, and the module says that there is"
 BROKEN[NO_SHORTAGE] = [
     Edit("shortage.c", "queue_blockers();\n\tquiet();", ";"),
@@ -167,8 +184,14 @@ def cases_for(name):
 def run(kernel, names):
     """Has a guest run the cases of these, by name."""
     tried = [(name, case) for name in names for case in cases_for(name)]
+    queues = 0
+    for _, case in tried:
+        case.first_queue = queues
+        queues += len(case.setting.kinds)
+    # (a flag makes no difference to where the items are: the kernel's own list tells it)
+    listed = [case for name, case in tried if name in (NOTHING, HIGHPRI)]
     number, lines = 0, []
-    for line in cases.commands_of([case for _, case in tried], "short").splitlines():
+    for line in cases.commands_of([case for _, case in tried], "short", listed).splitlines():
         if line.startswith(("case ", "at ")):
             number = NUMBERS[tried[int(line.split()[1])][0]]
             lines.append(f"broken {number}")

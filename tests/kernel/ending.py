@@ -4,8 +4,9 @@
     ending.py PROGRAM
 
 The judge, while its guest boots, gets SIGINT, SIGTERM, SIGHUP and SIGKILL, and kernel/driver SIGTERM: each time QEMU
-must be gone, and nothing may be left. `--write-c` writes a file for an assignment that hangs, and one for another:
-their modules are built and loaded in a guest, whose script then leaves early, which kernel/driver must tell.
+must be gone, and nothing may be left. `--write-c` writes a file for an assignment that hangs, one for another, and one
+for a safe one with a workqueue without a rescuer: their modules are built and loaded in a guest, whose script then
+leaves early, which kernel/driver must tell.
 
 Where QEMU or a kernel can't be had, it says so, and skips what needs it: that is no failure. It takes some fifteen
 seconds of processor time.
@@ -85,15 +86,29 @@ def try_signals():
                 tell(not os.listdir(folder), f"{name}: nothing is left", f"{os.listdir(folder)}")
 
 
-# By the name of the module the assignment of nvme-auth.wq, and what the module says while no worker can be created:
-# that of examples/nvme-auth.md, which hangs, and the one of later kernels.
+# By the name of the module the declaration and the assignment, the status, and what the module says while no worker can
+# be created: that of examples/nvme-auth.md, which hangs; the one of later kernels; and one in which nobody waits for
+# what has no rescuer, so that `safe` says nothing of it.
 WRITTEN = {
+    "bare": (
+        "rdisk/rdisk.wq",
+        "rdisk/system.assign",
+        0,
+        [
+            "send has finished",
+            "log has finished",
+            "reconnect is pending on system_wq",
+            "receive is pending on system_wq",
+        ],
+    ),
     "later": (
+        "nvme-auth.wq",
         "nvme-auth.later.assign",
         0,
         [f"{item} has finished" for item in ("io_work", "auth_work", "dhchap_auth_work", "connect_work")],
     ),
     "before": (
+        "nvme-auth.wq",
         "nvme-auth.assign",
         1,
         [
@@ -106,12 +121,12 @@ WRITTEN = {
 }
 
 
-def written(folder, kernel, name, assignment, status):
+def written(folder, kernel, name, declaration, assignment, status):
     """The module of a file that the judge writes."""
     place = folder / name
     place.mkdir()
     examples = ROOT / "examples"
-    words = [ROOT / "kernel/judge", examples / "nvme-auth.wq", examples / assignment, "--write-c", place / f"{name}.c"]
+    words = [ROOT / "kernel/judge", examples / declaration, examples / assignment, "--write-c", place / f"{name}.c"]
     ended = run(words, capture_output=True, timeout=SECONDS)
     tell(ended.returncode == status, f"--write-c {name}.c ends with {status}", ended.stderr.decode())
     (place / "Makefile").write_text(f"obj-m := {name}.o\nall:\n\t$(MAKE) -C $(HEADERS) M=$(CURDIR) modules\n")
@@ -122,19 +137,21 @@ def written(folder, kernel, name, assignment, status):
 def try_written(kernel):
     with tempfile.TemporaryDirectory() as folder:
         folder = pathlib.Path(folder)
-        files = [written(folder, kernel, name, assignment, status) for name, (assignment, status, _) in WRITTEN.items()]
+        files = [written(folder, kernel, name, *words) for name, (*words, _) in WRITTEN.items()]
         script = "echo 7 >/proc/sys/kernel/printk\n" + "".join(f"$busybox insmod /{path.name}\n" for path in files)
         (folder / "script").write_text(script + "exit 5\n")
         words = [ROOT / "kernel/driver", *(word for path in files for word in ("--file", path)), folder / "script"]
         ended = run([*words, "--kernel", kernel.series], capture_output=True, timeout=SECONDS)
         console = ended.stdout.decode("latin-1").replace("\r", "")
-    for name, (_, _, wanted) in WRITTEN.items():
+    for name, (*_, wanted) in WRITTEN.items():
         said = re.findall(rf"^\[[ .0-9]+\] {name}: (.*)$", console, re.M)
         at = said.index("while no worker can be created:") if "while no worker can be created:" in said else 0
         found = [line.strip() for line in said[at + 1 : at + 1 + len(wanted)]]
         tell(found == wanted, f"{name}.c says where each item is", f"{said} {console[-1000:] if not said else ''}")
     tell("before: while no worker can be created: IT HANGS" in console, "before.c hangs")
     tell("later: while no worker can be created: all have finished" in console, "later.c doesn't")
+    tell("bare: while no worker can be created: all that have a rescuer have finished" in console, "nor does bare.c")
+    tell("bare: with memory again: all have finished" in console, "with memory bare.c has nothing left")
     tell(ended.returncode == 3, "a script that leaves early is a fault", f"{ended.returncode} {ended.stderr.decode()}")
 
 

@@ -1,13 +1,17 @@
 #!/usr/bin/env python3
-"""What kernel/ says and refuses without a guest: what comments mean, limits, a console of which lines are lost.
+"""What kernel/ says and refuses without a guest: what comments mean, limits, a console of which lines are lost, and
+recorded consoles from which events are removed.
 
     offline.py PROGRAM
 
 It takes seconds, and needs neither QEMU nor a kernel.
 """
 
+import itertools
 import os
 import pathlib
+import random
+import re
 import subprocess
 import sys
 import tempfile
@@ -18,6 +22,7 @@ for folder in ("kernel/lib", "tests/lib"):
     sys.path.append(str(ROOT / folder))
 import comments  # noqa: E402  (in kernel/lib, as is the next one)
 import guest  # noqa: E402
+import recorded  # noqa: E402  (beside this)
 from programs import counts_of, is_there  # noqa: E402  (in tests/lib)
 
 counts = {True: 0, False: 0}
@@ -111,6 +116,63 @@ def try_console():
     equal("a damaged line", True, "damaged" in fault_of(CONSOLE.replace("s0R", "s0[ 5.1]R")))
 
 
+# So many ways to remove events from the recorded consoles are tried.
+WAYS = 500
+
+
+def kept(console, events):
+    """The console, and of its events those whose numbers, counted from its start, aren't among these."""
+    numbers = itertools.count()
+
+    def line_without(line):
+        head, case, *words = line.groups()
+        told = [word for word in words[0].split() if next(numbers) not in events]
+        return " ".join([f"{head}events {case}", *told])
+
+    return re.sub(r"(?m)^(.*wqjudge: \d+ )events (\d+)( .*)$", line_without, console)
+
+
+def events_of(console):
+    """Of each case the numbers of its events, and each event as it is printed."""
+    found, numbers = {}, itertools.count()
+    for case, words in re.findall(r"(?m)^.*wqjudge: \d+ events (\d+)( .*)$", console):
+        found.setdefault(int(case), []).extend((next(numbers), word) for word in words.split())
+    return found
+
+
+def ways_of(console, choose):
+    """Ways to remove events: each event alone, all of a case that begin with one letter, all of a case, and random
+    ones. Each has the case that it is about.
+    """
+    ways = []
+    for case, events in events_of(console).items():
+        numbers = [number for number, _ in events]
+        letters = sorted({word[0] for _, word in events})
+        ways += [(case, {number}) for number in numbers]
+        ways += [(case, {number for number, word in events if word[0] == letter}) for letter in letters]
+        ways += [(case, set(numbers))]
+        ways += [(case, set(choose.sample(numbers, choose.randint(1, len(numbers))))) for _ in range(5)]
+    return ways
+
+
+def try_removed():
+    """Each recorded case is as it must be, and differs if any of what happened in it is missing."""
+    files = sorted(recorded.CONSOLES.glob("*.json"))
+    told = tried = 0
+    for path in files:
+        made, console = recorded.read(path)
+        found = [recorded.judged(case, number, console) for number, case in enumerate(made)]
+        equal(f"{path.name}: what the judge says", [""] * len(made), found)
+        choose = random.Random(path.name)
+        for number, events in choose.sample(ways_of(console, choose), WAYS // len(files)):
+            tried += 1
+            why = recorded.judged(made[number], number, kept(console, events))
+            told += bool(why)
+            equal(f"{path.name}: events {sorted(events)} removed from {made[number].name}", True, bool(why))
+    equal("ways to remove events", WAYS, tried)
+    print(f"events removed: the judge tells {told} of {tried}")
+
+
 # A call of the judge, which is refused before anything boots: its files, its words, and what it says.
 MANY = "".join(f"item i{number}\n" for number in range(65))
 REFUSED = {
@@ -177,6 +239,7 @@ def main(arguments):
     os.environ["WQPLAN"] = os.path.realpath(arguments[0])
     try_comments()
     try_console()
+    try_removed()
     try_refusals()
     return counts_of("kernel_offline", counts[True], counts[False])
 

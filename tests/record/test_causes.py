@@ -1,5 +1,7 @@
 """Who waited for whom, in histories that are made up. What is wanted follows from docs/WAITS.md, by hand."""
 
+import time
+
 import pytest
 from made import Made, stack
 
@@ -192,3 +194,15 @@ def test_a_delayed_item_is_queued_where_its_timer_was_armed():
     made = Made().add("delayed", PROCESS, False, stack("wait_there"), wq=1, work=A)
     made.queue(PROCESS, A, "a_work", timer=True).run(WORKER, A, "a_work")
     assert "queued to w at wait_there+0x10" in made.comment("item a_work")
+
+
+def test_a_long_record_takes_time_in_proportion():
+    # (10,000 waits through one thread, which an item woke each time; each wait was once compared with all of these)
+    made = Made(names={THREAD: "a_thread", WORKER: "kworker/0:1"})
+    for _ in range(10000):
+        made.queue(PROCESS, A, "a_work").start(WORKER, A, "a_work").sleep(WORKER, A, "a_work")
+        made.queue(PROCESS, C, "c_work", wq=3).start(THIRD, C, "c_work").wake(THIRD, THREAD).end(THIRD, C, "c_work")
+        made.wake(THREAD, WORKER).end(WORKER, A, "a_work")
+    begun = time.process_time()
+    assert len(made.causes().facts) == 10000
+    assert time.process_time() - begun < 4

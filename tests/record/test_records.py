@@ -9,6 +9,7 @@ import tarfile
 
 import pytest
 from conftest import ROOT
+from longer import lengthen
 
 from wqr.archive import Archive, Unreadable
 from wqr.causes import Causes
@@ -264,6 +265,24 @@ def test_what_cannot_be_seen_is_said_where_the_answer_is_read():
         assert (
             "# What isn't here: what didn't happen while it was recorded; waits that were over at once" in ended.stdout
         )
+
+
+def waits_seen(archive: Archive) -> dict[tuple[str, str], int]:
+    """By two items how often the one was seen to wait for the other."""
+    history = History.of(archive)
+    edges = Items(history, Causes(history)).edges.values()
+    return {(edge.source.name, edge.target.name): len(edge.exact) for edge in edges if edge.is_sure}
+
+
+def test_a_long_record_has_the_same_waits_more_often():
+    archive = Archive.read(RECORDS / "md.gz")
+    short = waits_seen(archive)
+    assert ("submit_flushes.waits", "md_submit_flush_data") in short
+    lengthen(archive, 5 * len(archive.parts["cpu0.raw"]))
+    long = waits_seen(archive)
+    assert long.keys() == short.keys()
+    # (what ran when a round began or ended is cut there)
+    assert all(4 * short[names] < times <= 5 * short[names] for names, times in long.items())
 
 
 def test_a_record_with_lost_events_says_so(tmp_path):
