@@ -1,8 +1,10 @@
 # For kernel/driver: a SCSI target whose work item waits for itself (examples/target.md). The guest has a disk by its own
-# target, tcm_loop. A process registers a key at this disk, reserves it, and then sends PREEMPT AND ABORT. No shortage is
-# made. Then another process reads from the disk.
+# target, tcm_loop. A process registers a key at this disk, reserves it, and sends PREEMPT, and then PREEMPT AND ABORT.
+# Then another process reads from the disk. No shortage is made.
 #
 #     kernel/driver --program sg_persist kernel/drivers/target.sh target_core_mod tcm_loop sd_mod sg
+#
+# With --patch kernel/drivers/target.patch the item doesn't wait for itself, and nothing hangs.
 
 $busybox mkdir /config
 $busybox mount -t configfs config /config
@@ -32,42 +34,39 @@ tell() {
     fi
 }
 
-# of_target: the stacks of workers that are in the target.
+# of_target: where the worker sleeps that carries out commands.
 of_target() {
     for task in /proc/[0-9]*; do
         read -r name <"$task/comm" 2>/dev/null || continue
         case $name in
-            kworker*) ;;
+            kworker*+target_submiss*) ;;
             *) continue ;;
         esac
-        is_there=
-        while read -r line; do
-            case $line in
-                *core_tmr_*) is_there=yes ;;
-            esac
-        done <"$task/stack"
-        [ "$is_there" ] || continue
-        echo "== $name"
+        echo "== target_submission"
         while read -r line; do echo "    $line"; done <"$task/stack"
     done
 }
 
-sg_persist --out --preempt --param-rk=0xa --param-sark=0xa --prout-type=1 /dev/sg0 &
-preempt=$!
+# send NAME: the process of this command, with the key.
+send() {
+    sg_persist --out "--$1" --param-rk=0xa --param-sark=0xa --prout-type=1 /dev/sg0 &
+    sent=$!
+}
+
+send preempt
 wait_for 5
-echo "with memory, and workers:"
-tell "PREEMPT" $preempt
-sg_persist --out --preempt-abort --param-rk=0xa --param-sark=0xa --prout-type=1 /dev/sg0 &
-abort=$!
+tell "PREEMPT" $sent
+send preempt-abort
 wait_for 5
-$busybox dd if=/dev/sda of=/dev/null bs=4k count=1 iflag=direct &
-read=$!
+$busybox dd if=/dev/sda of=/dev/null bs=4k count=1 iflag=direct 2>/dev/null &
+reads=$!
 wait_for 20
-tell "PREEMPT AND ABORT" $abort
-tell "a read from the disk" $read
+echo "with memory:"
+tell "PREEMPT AND ABORT" $sent
+tell "a read from the disk" $reads
 of_target
 wait_for 200
 echo "three minutes later:"
-tell "PREEMPT AND ABORT" $abort
-tell "a read from the disk" $read
+tell "PREEMPT AND ABORT" $sent
+tell "a read from the disk" $reads
 of_target
