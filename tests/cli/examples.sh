@@ -446,6 +446,11 @@ hangs 'srp: the kernel' srp.wq srp.assign
 to_no_rescuer 'srp: the kernel' 2 srp.wq srp.assign wb_workfn reconnect_work
 repairs 'srp: the kernel' srp.wq srp.assign 'rescuer 1'
 
+# target: an item that waits for itself.
+counts target 2 2 2 2
+answers target 'circle 1' submit_work submit_work
+hangs 'target: the kernel' target.wq target.assign
+
 # qla2xxx: an acknowledgement waits for the end of a session; and with the logout that this end waits for, there is a circle.
 counts qla2xxx 3 2 3 1
 answers qla2xxx 'plan 2' iocb_work del_work
@@ -667,6 +672,7 @@ done <<'end'
 4 nvmet-fc nvmet-fc
 4 ext4 ext4
 4 srp srp
+3 target target
 4 md md
 3 xfs.full xfs
 4 xfs xfs

@@ -7,7 +7,8 @@ On Linux 6.1, unchanged: an NFS mount that ends while a delegation is on its way
 (examples/md.md), NVMe whose connection is lost while a partition table is read (examples/nvme-multipath.md), and a thin
 pool that can't write its metadata (examples/dm-thin.md). On Linux 6.12: NVMe whose connection is lost twice
 (examples/nvme-scan.md). While no worker can be created these must hang, and the rescuer must sleep where the page says;
-and the status must be 1, since the script then says `failed`. It takes a minute of processor time.
+and the status must be 1, since the script then says `failed`. So must a SCSI target that was sent PREEMPT AND ABORT
+(examples/target.md), where a worker sleeps, and no shortage is made. It takes a minute and a half of processor time.
 
 With --patched also what the pages say of patched drivers, and of each script on the other kernel: that takes some ten
 minutes more the first time, and downloads the sources of two kernels, some 290 MB. It is run before a release.
@@ -39,6 +40,10 @@ ON_MD = "md_flush_request", "raid1_make_request", "submit_flushes"
 READS_A_TABLE = "read_part_sector", "bdev_disk_changed", "nvme_partition_scan_work"
 ABORTS = "flush_work", "dm_pool_abort_metadata", "metadata_operation_failed", "commit", "do_worker"
 SCANS = "async_synchronize_cookie_domain", "nvme_scan_ns_list", "nvme_scan_work"
+CARRIES_OUT = "__target_execute_cmd", "tcm_loop_write_pending", "transport_generic_new_cmd", "target_queued_submit_work"
+PREEMPTS = "core_tmr_lun_reset", "core_scsi3_pro_preempt", "target_scsi3_emulate_pr_out", *CARRIES_OUT, "worker_thread"
+# What a script says before what hangs, and before what does so later.
+PARTS = "while no worker can be created", "with memory again", "with memory", "three minutes later"
 
 
 class Run:
@@ -49,6 +54,8 @@ class Run:
     def __init__(self, script, *flags, hung=0, rescuer=None, frames=(), stays=False):
         self.script, self.flags, self.hung, self.rescuer, self.frames = script, flags, hung, rescuer, frames
         self.stays = stays
+        if self.frames and self.frames[-1] != "worker_thread":
+            self.frames = *frames, "rescuer_thread"
 
     def words(self):
         """The command that the script's head has, with the flags."""
@@ -58,6 +65,7 @@ class Run:
 
 
 THIN = "thin.sh", "--program", "dmsetup"
+TARGET = "target.sh", "--program", "sg_persist"
 WITH_TWICE = "nvme-twice.sh", "--file", SCRIPTS / "nvme.sh"
 UNCHANGED = [
     Run(NFS, hung=1, rescuer="rpciod", frames=ON_RPCIOD),
@@ -65,6 +73,7 @@ UNCHANGED = [
     Run(*THIN, hung=1, rescuer="dm-thin", frames=ABORTS),
     Run("nvme.sh", hung=1, rescuer="nvme-wq", frames=READS_A_TABLE),
     Run(*WITH_TWICE, "--kernel", "6.12", hung=1, rescuer="kworker/R-nvme-wq", frames=SCANS),
+    Run(*TARGET, hung=2, rescuer="target_submission", frames=("flush_work", *PREEMPTS), stays=True),
 ]
 WITH_NFS = "--patch", SCRIPTS / "nfs.patch"
 WITH_DIRTY = "nfs-dirty.sh", "--file", SCRIPTS / NFS
@@ -79,6 +88,9 @@ PATCHED = [
     Run(NFS, "--kernel", "6.12", *WITH_NFS),
     Run(*WITH_TWICE),
     Run(*THIN, "--kernel", "6.12", hung=1, rescuer="kworker/R-dm-thin", frames=("__flush_work", *ABORTS[1:])),
+    Run(*TARGET, "--kernel", "6.12", hung=2, rescuer="target_submission", frames=("__flush_work", *PREEMPTS), stays=True),
+    Run(*TARGET, "--patch", SCRIPTS / "target.patch"),
+    Run(*TARGET, "--patch", SCRIPTS / "target.patch", "--kernel", "6.12"),
 ]
 
 
@@ -89,8 +101,8 @@ def tell(passed, name, why=""):
 
 
 def parts_of(console):
-    """What the script said while no worker could be created, and what it said with memory again."""
-    return re.split(r"^(?:while no worker can be created|with memory again):\n", console, flags=re.MULTILINE)[1:]
+    """What the script said while something hangs, and what it said later."""
+    return re.split(f"^(?:{'|'.join(PARTS)}):\n", console, flags=re.MULTILINE)[1:]
 
 
 def hanging(part):
@@ -124,7 +136,7 @@ def judge(asked, console, status):
     tell(hung is not None and len(hung) == asked.hung, f"{name}: what hangs", f"{hung}")
     if asked.rescuer:
         stack = stack_of(during, asked.rescuer)
-        tell(is_part_of([*asked.frames, "rescuer_thread"], stack), f"{name}: where the rescuer sleeps", " ".join(stack))
+        tell(is_part_of(asked.frames, stack), f"{name}: where {asked.rescuer} sleeps", " ".join(stack))
     tell(hanging(after) == (hung if asked.stays else []), f"{name}: with memory again", f"{hanging(after)}")
 
 
