@@ -730,7 +730,7 @@ def reworded(made):
     if all(old.get(name, words) == words for name, words in new.items()):
         return []
     there = {parts.path: parts for parts in made}
-    listed = subprocess.run(["git", "ls-files", "--", *SHOW_MESSAGES], cwd=ROOT, stdout=subprocess.PIPE, text=True, check=True).stdout
+    listed = subprocess.run(["git", "ls-files", "--", *SHOW_MESSAGES], cwd=ROOT, stdout=subprocess.PIPE, text=True, check=True, timeout=60).stdout
     found = [there.get(ROOT / path) or Parts(path) for path in listed.splitlines()]
     return [parts for parts in found if parts.say_anew(lambda text: messages.reworded(text, old, new)) and parts.path not in there]
 
