@@ -44,9 +44,13 @@ echo "processes$flushing flush$what"
 wait_for 1
 short
 wait_for 20
-echo "while no worker can be created:"
-tell
-stacks 'md*' busybox
+if [ "$pressure" ]; then
+    blocked
+else
+    echo "while no worker can be created:"
+    tell
+    stacks 'md*' busybox
+fi
 plenty
 wait_for 20
 echo "with memory again:"

@@ -47,12 +47,18 @@ wait_for 2
 short
 exec 7>/go 7>&-
 wait_for 5
-tell "umount" $umount
+[ "$pressure" ] && wait_for 300
+[ "$pressure" ] || tell "umount" $umount
 exec 7>/go.other 7>&-
 wait_for 20
-echo "while no worker can be created:"
-tell "fsync of another mount" $fsync
-stacks 'rpciod*' 'kworker/R-rpcio*' 'nfsiod*' 'kworker/R-nfsio*' 'writeback*' 'kworker/R-write*' busybox
+if [ "$pressure" ]; then
+    wait_for 300
+    blocked
+else
+    echo "while no worker can be created:"
+    tell "fsync of another mount" $fsync
+    stacks 'rpciod*' 'kworker/R-rpcio*' 'nfsiod*' 'kworker/R-nfsio*' 'writeback*' 'kworker/R-write*' busybox
+fi
 plenty
 wait_for 20
 echo "with memory again:"
