@@ -3,7 +3,7 @@ use Rattle.std.proofs.Common.{◌≡◌, ℕ, ◌*◌, ◌<◌, ◌≤◌, ◌�
 use Rattle.std.specs.Prelude.{flat_map, slice_index, slice_index_or, option_map, MatchOption, IfSome, IfNone, Contains}
 use Rattle.std.specs.List.{All}
 use Rattle.std.proofs.lemmas.List.Elements.{All-nil, All-cons}
-use Rattle.wq_core.specs.Wiring.{Wiring, IsWiring, HasRescuer, items, lane_of}
+use Rattle.wq_core.specs.Wiring.{Wiring, IsWiring, HasRescuer, items, lane_of, declared_by}
 use Rattle.wq_core.specs.Deadlock.{IsSafe}
 use Rattle.wq_hang.specs.declared.hop.Hop.{Hop}
 use Rattle.wq_hang.specs.Walk.{IsHop, IsPath, IsRound, IsWalk, IsLeastWalk, IsRoundOrFirst, target_beside, walk_cost}
@@ -60,6 +60,14 @@ module _ (w : Wiring) (limit : ℕ) (tried now : List ℕ) (i least : ℕ) (foun
 -- no round begins with an item on a bare lane
 pub IsNoBetter-bare : (w : Wiring) (first least : ℕ) → (¬ HasRescuer w (lane_of w first)) → IsNoBetter w first least
 IsNoBetter-bare w first least bare hops some path = absurd (bare (path_rescuer w first first hops some path).1)
+
+-- no round begins with an item that flushes nothing
+pub IsNoBetter-still : (w : Wiring) (first least : ℕ) → length (declared_by w first) ≡ 0 → IsNoBetter w first least
+IsNoBetter-still w first least none [] some path = absurd (omega arith)
+IsNoBetter-still w first least none (h ∷ hops) some path =
+    let there : Contains (declared_by w first) h.flush =
+    subst (λ (k : ℕ). Contains (declared_by w k) h.flush) path.0 path.1.declared in
+    absurd (omega (arith, there.1, none))
 
 -- no round costs less than 3
 pub IsNoBetter-low : (w : Wiring) (first least : ℕ) → least ≤ 3 → IsNoBetter w first least

@@ -91,6 +91,9 @@ fn better_round<A: Allocator + Copy>(
     if least <= 3 {
         return Ok(None);
     }
+    if waits.flushes(first).is_empty() {
+        return Ok(None);
+    }
     if !waits.has_rescuer(waits.lane_of(first)) {
         return Ok(None);
     }

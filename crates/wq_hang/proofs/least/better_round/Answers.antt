@@ -1,9 +1,10 @@
-use Rattle.std.proofs.Common.{◌<◌, ℕ, ◌∙◌, sym, subst, arith}
+use Rattle.std.proofs.Common.{◌<◌, ℕ, List, length, ◌∙◌, sym, ap, subst, arith}
 use Rattle.std.specs.Prelude.{slice_index}
-use Rattle.std.proofs.lemmas.Bool.{false≢true}
+use Rattle.std.proofs.lemmas.Bool.{eqb-true, false≢true}
 use Rattle.wq_core.specs.Wiring.{HasRescuer}
 use Rattle.wq_hang.specs.Search.{IsBetter}
-use Rattle.wq_hang.proofs.LeastFound.{IsNoBetter-low, IsNoBetter-bare, IsNoBetter-searched, IsBetter-searched}
+use Rattle.wq_items.specs.declared.target.Target.{Target}
+use Rattle.wq_hang.proofs.LeastFound.{IsNoBetter-still, IsNoBetter-low, IsNoBetter-bare, IsNoBetter-searched, IsBetter-searched}
 use Rattle.wq_hang.proofs.least.better_round.Goals as goal
 
 pub returns-then-least-le3 : goal.returns-then-least-le3
@@ -31,3 +32,9 @@ returns g c =
     let less : slice_index s.costs c.args.first < c.args.least = omega (arith, c.if-cost-least.false, c.cost-cost.ensures) in
     let better = IsBetter-searched w c.args.first c.args.least s hops c.in_ok-search_from.ensures less c.in_ok-hops.ensures.round c.in_ok-hops.ensures.cost in
     record { some = subst (λ (n : ℕ). IsBetter w c.args.first c.args.least n hops) (sym c.cost-cost.ensures) better; none = tt }
+
+pub returns-then-is_empty-clause-none : goal.returns-then-is_empty-clause-none
+returns-then-is_empty-clause-none g c =
+    IsNoBetter-still c.args.waits.now c.args.first c.args.least
+    (ap (λ (l : List Target). length l) (sym c.flushes.ensures)
+    ∙ eqb-true (length c.flushes.result.now) 0 (sym c.is_empty.ensures ∙ c.if-is_empty.true))
