@@ -7,8 +7,8 @@ use crate::command::{NAMES, SEED};
 use crate::declarations::{PLAN_OF_TWO, TWO};
 use std::alloc::{AllocError, Allocator};
 use wq_commands::{
-    CheckCommand, Command, DeadlockCommand, PlanCommand, ReplayCommand, Stop, Texts, Voice,
-    read_declaration,
+    CheckCommand, Command, DeadlockCommand, PlanCommand, ReplayCommand, SaysRefusal, Stop, Texts,
+    Voice, read_declaration,
 };
 use wq_diagnosis::{Source, of_failed, of_no_item, of_too_many};
 

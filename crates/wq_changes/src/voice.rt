@@ -13,7 +13,7 @@ ghost use Rattle.wq_changes.specs.Voice.{SaysRead, SaysRepair};
 use crate::answer::say_answer;
 use crate::unknown::say_unknown;
 use std::alloc::{AllocError, Allocator};
-use wq_commands::{Found, Texts, Voice};
+use wq_commands::{Found, SaysRefusal, Texts, Voice};
 use wq_diagnosis::Source;
 use wq_groups::Declaration;
 use wq_repair_command::{RepairCommand, Repairing};
@@ -81,28 +81,11 @@ fn say_repair<A: Allocator + Copy>(
     }
 }
 
-impl<A: Allocator + Copy> Voice<RepairCommand<'_>, A> for RepairVoice<'_> {
-    ghost use Rattle.std.specs.Prelude.{Some, map};
+impl<A: Allocator + Copy> SaysRefusal<A> for RepairVoice<'_> {
+    ghost use Rattle.std.specs.Prelude.{Some};
     ghost use Rattle.wq_diagnosis.specs.Refused.{Diagnoses};
-    ghost use Rattle.wq_changes.specs.Voice.{SaysRepair};
-
-    ghost says = { λ voice command s texts found said.
-        SaysRepair voice.files.declaration.now voice.files.second.now voice.files.run.now
-        (map (λ n. n.now) command.names.now) s texts found said };
 
     ghost refuses = { λ voice _ r said. Diagnoses voice.files.declaration.now (Some r) said };
-
-    fn say(
-        &self,
-        alloc: A,
-        _seed: u64,
-        command: &RepairCommand<'_>,
-        declared: &Declaration<'_, A>,
-        texts: &Texts<A>,
-        found: &Found<Option<Repairing<A>>>,
-    ) -> Result<Option<Vec<u8, A>>, AllocError> {
-        say_repair(alloc, &self.files, command.names, declared, texts, found)
-    }
 
     fn refuse(
         &self,
@@ -117,5 +100,26 @@ impl<A: Allocator + Copy> Voice<RepairCommand<'_>, A> for RepairVoice<'_> {
             (option_map (λ text. text.items) said)) }
     {
         say_refusal(alloc, seed, &self.files, texts, code, line)
+    }
+}
+
+impl<A: Allocator + Copy> Voice<RepairCommand<'_>, A> for RepairVoice<'_> {
+    ghost use Rattle.std.specs.Prelude.{map};
+    ghost use Rattle.wq_changes.specs.Voice.{SaysRepair};
+
+    ghost says = { λ voice command s texts found said.
+        SaysRepair voice.files.declaration.now voice.files.second.now voice.files.run.now
+        (map (λ n. n.now) command.names.now) s texts found said };
+
+    fn say(
+        &self,
+        alloc: A,
+        _seed: u64,
+        command: &RepairCommand<'_>,
+        declared: &Declaration<'_, A>,
+        texts: &Texts<A>,
+        found: &Found<Option<Repairing<A>>>,
+    ) -> Result<Option<Vec<u8, A>>, AllocError> {
+        say_repair(alloc, &self.files, command.names, declared, texts, found)
     }
 }

@@ -38,5 +38,7 @@ pub use plan::{PlanCommand, plan_cmd};
 pub use refusal::{TOO_MANY_LANES, refuse};
 pub use replay::{ReplayCommand, replay_cmd};
 pub use replaying::Replayed;
-pub use shell::{Answered, Command, Finds, Silent, Voice, carry_out, respond_refused, tell};
+pub use shell::{
+    Answered, Command, Finds, SaysRefusal, Silent, Voice, carry_out, respond_refused, tell,
+};
 pub use wq_meter::{Fault, Limits, Metered, Texts, read_text, write_text};

@@ -87,34 +87,14 @@ pub trait Command<A: Allocator>: Finds<A> {
         ensures { IfOk result (λ a. Self.answers self.now declared.now texts.now a.found a.end a.text.items) };
 }
 
-/// Says in more words what a command found.
-pub trait Voice<C: Finds<A>, A: Allocator> {
+/// Says why a declaration is refused.
+pub trait SaysRefusal<A: Allocator> {
     ghost use Rattle.std.specs.Prelude.{List, Option, ℕ};
     ghost use Rattle.wq_text.specs.Refusal.{Refusal};
     ghost use Rattle.wq_meter.specs.Shell.{Given};
-    ghost use Rattle.wq_groups.specs.DeclaredGroups.{Declared};
 
-    // this is said of what the command found in this declaration and these texts; nothing may be said
-    ghost says: { Self → C → Declared → Given → C.Found → Option (List ℕ) → Type 0 };
-
-    // this is said of texts whose declaration is refused
+    // this is said of texts whose declaration is refused; nothing may be said
     ghost refuses: { Self → Given → Refusal → Option (List ℕ) → Type 0 };
-
-    /// What is said of what the command found.
-    ///
-    /// The only error is out of memory (20). The names are hashed with `seed`. Nothing that is said depends on it.
-    fn say(
-        &self,
-        alloc: A,
-        seed: u64,
-        command: &C,
-        declared: &Declaration<'_, A>,
-        texts: &Texts<A>,
-        found: &C::Found,
-    ) -> Result<Option<Vec<u8, A>>, AllocError>
-        requires found { (end : End) × (out : List ℕ) × C.answers command.now declared.now texts.now found.now end out }
-        ensures { IfOk result (λ said. says self.now command.now declared.now texts.now found.now
-            (option_map (λ text. text.items) said)) };
 
     /// What is said of texts whose declaration is refused, for the fault of this number on this line.
     ///
@@ -131,16 +111,57 @@ pub trait Voice<C: Finds<A>, A: Allocator> {
             (option_map (λ text. text.items) said)) };
 }
 
+/// Says in more words what a command found.
+pub trait Voice<C: Finds<A>, A: Allocator>: SaysRefusal<A> {
+    ghost use Rattle.std.specs.Prelude.{List, Option, ℕ};
+    ghost use Rattle.wq_meter.specs.Shell.{Given};
+    ghost use Rattle.wq_groups.specs.DeclaredGroups.{Declared};
+
+    // this is said of what the command found in this declaration and these texts; nothing may be said
+    ghost says: { Self → C → Declared → Given → C.Found → Option (List ℕ) → Type 0 };
+
+    /// What is said of what the command found.
+    ///
+    /// The only error is out of memory (20). The names are hashed with `seed`. Nothing that is said depends on it.
+    fn say(
+        &self,
+        alloc: A,
+        seed: u64,
+        command: &C,
+        declared: &Declaration<'_, A>,
+        texts: &Texts<A>,
+        found: &C::Found,
+    ) -> Result<Option<Vec<u8, A>>, AllocError>
+        requires found { (end : End) × (out : List ℕ) × C.answers command.now declared.now texts.now found.now end out }
+        ensures { IfOk result (λ said. says self.now command.now declared.now texts.now found.now
+            (option_map (λ text. text.items) said)) };
+}
+
 /// Says nothing.
 #[derive(Clone, Copy, Debug)]
 pub struct Silent;
+
+impl<A: Allocator> SaysRefusal<A> for Silent {
+    ghost use Rattle.std.specs.Prelude.{None};
+
+    ghost refuses = { λ _ _ _ said. said ≡ None };
+
+    fn refuse(
+        &self,
+        _alloc: A,
+        _seed: u64,
+        _texts: &Texts<A>,
+        _code: u32,
+        _line: u32,
+    ) -> Result<Option<Vec<u8, A>>, AllocError> {
+        Ok(None)
+    }
+}
 
 impl<C: Finds<A>, A: Allocator> Voice<C, A> for Silent {
     ghost use Rattle.std.specs.Prelude.{None};
 
     ghost says = { λ _ _ _ _ _ said. said ≡ None };
-
-    ghost refuses = { λ _ _ _ said. said ≡ None };
 
     fn say(
         &self,
@@ -150,17 +171,6 @@ impl<C: Finds<A>, A: Allocator> Voice<C, A> for Silent {
         _declared: &Declaration<'_, A>,
         _texts: &Texts<A>,
         _found: &C::Found,
-    ) -> Result<Option<Vec<u8, A>>, AllocError> {
-        Ok(None)
-    }
-
-    fn refuse(
-        &self,
-        _alloc: A,
-        _seed: u64,
-        _texts: &Texts<A>,
-        _code: u32,
-        _line: u32,
     ) -> Result<Option<Vec<u8, A>>, AllocError> {
         Ok(None)
     }
@@ -235,10 +245,9 @@ fn respond_declared<C: Command<A>, V: Voice<C, A>, W: Write, E: Write, A: Alloca
 }
 
 /// Writes the refusal of a declaration, and then says what there is to be said.
-pub fn respond_refused<C: Finds<A>, V: Voice<C, A>, W: Write, E: Write, A: Allocator + Copy>(
+pub fn respond_refused<V: SaysRefusal<A>, W: Write, E: Write, A: Allocator + Copy>(
     alloc: A,
     seed: u64,
-    _command: &C,
     voice: &V,
     texts: &Texts<A>,
     code: u32,
@@ -299,9 +308,7 @@ fn respond<C: Command<A>, V: Voice<C, A>, W: Write, E: Write, A: Allocator + Cop
             ended
         }
         Err(Stop::Refused { code, line }) => {
-            respond_refused(
-                alloc, seed, command, voice, texts, code, line, writer, teller,
-            )
+            respond_refused(alloc, seed, voice, texts, code, line, writer, teller)
         }
         Err(Stop::OutOfMemory) => Err(Fault::Memory),
     }

@@ -13,7 +13,7 @@ use std::alloc::{AllocError, Allocator};
 use wq_commands::{Found, Texts, Voice};
 use wq_diagnosis::{CertificateKind, of_no_item};
 use wq_groups::Declaration;
-use wq_voice::{FileNames, say_refusal, say_refused_text};
+use wq_voice::{FileNames, say_refused_text};
 
 /// What is said of a drawing, or of the text that is refused.
 fn say_dot<A: Allocator + Copy>(
@@ -36,14 +36,10 @@ fn say_dot<A: Allocator + Copy>(
 }
 
 impl<A: Allocator + Copy> Voice<DotCommand, A> for FileNames<'_> {
-    ghost use Rattle.std.specs.Prelude.{Some};
-    ghost use Rattle.wq_diagnosis.specs.Refused.{Diagnoses};
     ghost use Rattle.wq_dot.specs.Saying.{SaysDot};
 
     ghost says = { λ names _ s _ found said.
         SaysDot names.declaration.now names.second.now names.run.now s found said };
-
-    ghost refuses = { λ names _ r said. Diagnoses names.declaration.now (Some r) said };
 
     fn say(
         &self,
@@ -55,16 +51,5 @@ impl<A: Allocator + Copy> Voice<DotCommand, A> for FileNames<'_> {
         found: &Found<Drawn<A>>,
     ) -> Result<Option<Vec<u8, A>>, AllocError> {
         say_dot(alloc, self, declared, texts, found)
-    }
-
-    fn refuse(
-        &self,
-        alloc: A,
-        seed: u64,
-        texts: &Texts<A>,
-        code: u32,
-        line: u32,
-    ) -> Result<Option<Vec<u8, A>>, AllocError> {
-        say_refusal(alloc, seed, self, texts, code, line)
     }
 }

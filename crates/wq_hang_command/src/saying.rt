@@ -19,9 +19,7 @@ use wq_core::Assigned;
 use wq_diagnosis::Source;
 use wq_groups::Declaration;
 use wq_hang::Answer;
-use wq_voice::{
-    CertificateKind, FileNames, assigned_of, say_hops, say_refusal, say_refused_text, say_safe,
-};
+use wq_voice::{CertificateKind, FileNames, assigned_of, say_hops, say_refused_text, say_safe};
 
 /// What is said of this answer to workqueues whose text is the second.
 fn say_answer<A: Allocator + Copy>(
@@ -79,14 +77,10 @@ fn say_hang<A: Allocator + Copy>(
 }
 
 impl<A: Allocator + Copy> Voice<HangCommand, A> for FileNames<'_> {
-    ghost use Rattle.std.specs.Prelude.{Some};
-    ghost use Rattle.wq_diagnosis.specs.Refused.{Diagnoses};
     ghost use Rattle.wq_hang_command.specs.Saying.{SaysHangOf};
 
     ghost says = { λ names _ s texts found said.
         SaysHangOf names.declaration.now names.second.now names.run.now s texts found said };
-
-    ghost refuses = { λ names _ r said. Diagnoses names.declaration.now (Some r) said };
 
     fn say(
         &self,
@@ -98,16 +92,5 @@ impl<A: Allocator + Copy> Voice<HangCommand, A> for FileNames<'_> {
         found: &Found<Hanging<A>>,
     ) -> Result<Option<Vec<u8, A>>, AllocError> {
         say_hang(alloc, self, declared, texts, found)
-    }
-
-    fn refuse(
-        &self,
-        alloc: A,
-        seed: u64,
-        texts: &Texts<A>,
-        code: u32,
-        line: u32,
-    ) -> Result<Option<Vec<u8, A>>, AllocError> {
-        say_refusal(alloc, seed, self, texts, code, line)
     }
 }

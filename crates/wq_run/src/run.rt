@@ -171,9 +171,7 @@ fn respond<
             ended
         }
         Err(Stop::Refused { code, line }) => {
-            match respond_refused(
-                alloc, seed, command, voice, texts, code, line, writer, teller,
-            ) {
+            match respond_refused(alloc, seed, voice, texts, code, line, writer, teller) {
                 Ok(end) => Ok(end),
                 Err(fault) => Err(Stopped::Faulted(fault)),
             }

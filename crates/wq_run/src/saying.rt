@@ -10,7 +10,7 @@ use std::alloc::{AllocError, Allocator};
 use wq_commands::{End, Texts, Voice};
 use wq_diagnosis::{Source, of_no_item, of_too_many};
 use wq_groups::Declaration;
-use wq_voice::{FileNames, say_refusal};
+use wq_voice::FileNames;
 
 /// What is said of a declaration on which `run` ended like this.
 fn say_run<A: Allocator + Copy>(
@@ -37,13 +37,9 @@ fn say_run<A: Allocator + Copy>(
 }
 
 impl<A: Allocator + Copy> Voice<RunCommand, A> for FileNames<'_> {
-    ghost use Rattle.std.specs.Prelude.{Some};
-    ghost use Rattle.wq_diagnosis.specs.Refused.{Diagnoses};
     ghost use Rattle.wq_run.specs.Running.{SaysRun};
 
     ghost says = { λ names _ s _ end said. SaysRun names.declaration.now s end said };
-
-    ghost refuses = { λ names _ r said. Diagnoses names.declaration.now (Some r) said };
 
     fn say(
         &self,
@@ -55,16 +51,5 @@ impl<A: Allocator + Copy> Voice<RunCommand, A> for FileNames<'_> {
         found: &End,
     ) -> Result<Option<Vec<u8, A>>, AllocError> {
         say_run(alloc, self, declared, texts, *found)
-    }
-
-    fn refuse(
-        &self,
-        alloc: A,
-        seed: u64,
-        texts: &Texts<A>,
-        code: u32,
-        line: u32,
-    ) -> Result<Option<Vec<u8, A>>, AllocError> {
-        say_refusal(alloc, seed, self, texts, code, line)
     }
 }

@@ -10,7 +10,7 @@ ghost use Rattle.wq_voice.specs.Voice.{SaysAnswer, SaysCheck, SaysLacking};
 
 use crate::file_names::FileNames;
 use crate::reason::of_declared;
-use crate::refused::{say_refusal, say_refused_text};
+use crate::refused::say_refused_text;
 use std::alloc::{AllocError, Allocator};
 use wq_checker::{No, Yes};
 use wq_commands::{CheckCommand, Found, Texts, Voice};
@@ -105,14 +105,10 @@ fn say_check<A: Allocator + Copy>(
 }
 
 impl<A: Allocator + Copy> Voice<CheckCommand, A> for FileNames<'_> {
-    ghost use Rattle.std.specs.Prelude.{Some};
-    ghost use Rattle.wq_diagnosis.specs.Refused.{Diagnoses};
     ghost use Rattle.wq_voice.specs.Voice.{SaysCheck};
 
     ghost says = { λ names _ s texts found said.
         SaysCheck names.declaration.now names.second.now names.run.now s texts found said };
-
-    ghost refuses = { λ names _ r said. Diagnoses names.declaration.now (Some r) said };
 
     fn say(
         &self,
@@ -124,16 +120,5 @@ impl<A: Allocator + Copy> Voice<CheckCommand, A> for FileNames<'_> {
         found: &Found<Result<Yes, No>>,
     ) -> Result<Option<Vec<u8, A>>, AllocError> {
         say_check(alloc, self, declared, texts, found)
-    }
-
-    fn refuse(
-        &self,
-        alloc: A,
-        seed: u64,
-        texts: &Texts<A>,
-        code: u32,
-        line: u32,
-    ) -> Result<Option<Vec<u8, A>>, AllocError> {
-        say_refusal(alloc, seed, self, texts, code, line)
     }
 }

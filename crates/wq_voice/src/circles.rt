@@ -22,7 +22,7 @@ ghost use Rattle.wq_voice.specs.declared.waits.Wording.TheVariants.{OfGroups, On
 
 use crate::file_names::FileNames;
 use crate::flush_lines::FlushLines;
-use crate::refused::{say_refusal, say_refused_text};
+use crate::refused::say_refused_text;
 use crate::rounds::put_rounds;
 use crate::safe::say_safe;
 use crate::subject::{Subject, put_walk};
@@ -295,14 +295,10 @@ fn say_circles<A: Allocator + Copy>(
 }
 
 impl<A: Allocator + Copy> Voice<CirclesCommand, A> for FileNames<'_> {
-    ghost use Rattle.std.specs.Prelude.{Some};
-    ghost use Rattle.wq_diagnosis.specs.Refused.{Diagnoses};
     ghost use Rattle.wq_voice.specs.Voice.{SaysCirclesOf};
 
     ghost says = { λ names command s texts found said.
         SaysCirclesOf names.declaration.now names.second.now names.run.now command.assigned s texts found said };
-
-    ghost refuses = { λ names _ r said. Diagnoses names.declaration.now (Some r) said };
 
     fn say(
         &self,
@@ -314,16 +310,5 @@ impl<A: Allocator + Copy> Voice<CirclesCommand, A> for FileNames<'_> {
         found: &Found<Circling<A>>,
     ) -> Result<Option<Vec<u8, A>>, AllocError> {
         say_circles(alloc, self, command.assigned, declared, texts, found)
-    }
-
-    fn refuse(
-        &self,
-        alloc: A,
-        seed: u64,
-        texts: &Texts<A>,
-        code: u32,
-        line: u32,
-    ) -> Result<Option<Vec<u8, A>>, AllocError> {
-        say_refusal(alloc, seed, self, texts, code, line)
     }
 }

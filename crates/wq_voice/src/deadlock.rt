@@ -11,7 +11,7 @@ ghost use Rattle.wq_voice.specs.Voice.{SaysVerdict, SaysVerdictOf};
 
 use crate::file_names::FileNames;
 use crate::reason::say_reason;
-use crate::refused::{say_refusal, say_refused_text};
+use crate::refused::say_refused_text;
 use crate::safe::say_safe;
 use crate::was_read::assigned_of;
 use std::alloc::{AllocError, Allocator};
@@ -74,14 +74,10 @@ fn say_deadlock<A: Allocator + Copy>(
 }
 
 impl<A: Allocator + Copy> Voice<DeadlockCommand, A> for FileNames<'_> {
-    ghost use Rattle.std.specs.Prelude.{Some};
-    ghost use Rattle.wq_diagnosis.specs.Refused.{Diagnoses};
     ghost use Rattle.wq_voice.specs.Voice.{SaysVerdictOf};
 
     ghost says = { λ names _ s texts found said.
         SaysVerdictOf names.declaration.now names.second.now names.run.now s texts found said };
-
-    ghost refuses = { λ names _ r said. Diagnoses names.declaration.now (Some r) said };
 
     fn say(
         &self,
@@ -93,16 +89,5 @@ impl<A: Allocator + Copy> Voice<DeadlockCommand, A> for FileNames<'_> {
         found: &Found<Verdict<A>>,
     ) -> Result<Option<Vec<u8, A>>, AllocError> {
         say_deadlock(alloc, self, declared, texts, found)
-    }
-
-    fn refuse(
-        &self,
-        alloc: A,
-        seed: u64,
-        texts: &Texts<A>,
-        code: u32,
-        line: u32,
-    ) -> Result<Option<Vec<u8, A>>, AllocError> {
-        say_refusal(alloc, seed, self, texts, code, line)
     }
 }

@@ -7,7 +7,6 @@ ghost use Rattle.wq_voice.specs.Voice.{SaysPlan};
 
 use crate::file_names::FileNames;
 use crate::reason::of_groups;
-use crate::refused::say_refusal;
 use std::alloc::{AllocError, Allocator};
 use wq_commands::{End, PlanCommand, Texts, Voice};
 use wq_diagnosis::{Source, of_no_item};
@@ -37,14 +36,10 @@ fn say_plan<A: Allocator + Copy>(
 }
 
 impl<A: Allocator + Copy> Voice<PlanCommand, A> for FileNames<'_> {
-    ghost use Rattle.std.specs.Prelude.{Some};
-    ghost use Rattle.wq_diagnosis.specs.Refused.{Diagnoses};
     ghost use Rattle.wq_voice.specs.Voice.{SaysPlan};
 
     ghost says = { λ names _ s _ end said.
         SaysPlan names.declaration.now s end said };
-
-    ghost refuses = { λ names _ r said. Diagnoses names.declaration.now (Some r) said };
 
     fn say(
         &self,
@@ -56,16 +51,5 @@ impl<A: Allocator + Copy> Voice<PlanCommand, A> for FileNames<'_> {
         found: &End,
     ) -> Result<Option<Vec<u8, A>>, AllocError> {
         say_plan(alloc, self, declared, texts, *found)
-    }
-
-    fn refuse(
-        &self,
-        alloc: A,
-        seed: u64,
-        texts: &Texts<A>,
-        code: u32,
-        line: u32,
-    ) -> Result<Option<Vec<u8, A>>, AllocError> {
-        say_refusal(alloc, seed, self, texts, code, line)
     }
 }

@@ -1,4 +1,4 @@
-//! What is said of a text that is refused: its diagnosis.
+//! What is said of a text that is refused: its diagnosis. Of a declaration it is the same for all commands.
 //!
 //! The form is that of "Diagnoses" in docs/FORMAT.md. A call takes the time and the memory of the diagnosis.
 
@@ -8,7 +8,7 @@ ghost use Rattle.wq_voice.specs.Voice.{SaysRefused};
 
 use crate::file_names::FileNames;
 use std::alloc::{AllocError, Allocator};
-use wq_commands::{Texts, Which};
+use wq_commands::{SaysRefusal, Texts, Which};
 use wq_diagnosis::{CertificateKind, Source, of_refused_certificate, of_refused_declaration};
 use wq_groups::Declaration;
 
@@ -32,6 +32,24 @@ pub fn say_refusal<A: Allocator + Copy>(
     };
     let said = of_refused_declaration(alloc, seed, declaration, code, line)?;
     Ok(Some(said))
+}
+
+impl<A: Allocator + Copy> SaysRefusal<A> for FileNames<'_> {
+    ghost use Rattle.std.specs.Prelude.{Some};
+    ghost use Rattle.wq_diagnosis.specs.Refused.{Diagnoses};
+
+    ghost refuses = { λ names _ r said. Diagnoses names.declaration.now (Some r) said };
+
+    fn refuse(
+        &self,
+        alloc: A,
+        seed: u64,
+        texts: &Texts<A>,
+        code: u32,
+        line: u32,
+    ) -> Result<Option<Vec<u8, A>>, AllocError> {
+        say_refusal(alloc, seed, self, texts, code, line)
+    }
 }
 
 /// Says that a text behind this declaration is refused, for the fault of this number on this line. The second text is

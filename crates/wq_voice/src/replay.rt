@@ -13,7 +13,7 @@ ghost use Rattle.wq_voice.specs.Voice.{SaysEnd, SaysEndOf};
 
 use crate::file_names::FileNames;
 use crate::reason::say_reason;
-use crate::refused::{say_refusal, say_refused_text};
+use crate::refused::say_refused_text;
 use crate::was_read::assigned_of;
 use std::alloc::{AllocError, Allocator};
 use wq_checker::RunEnd;
@@ -113,14 +113,10 @@ fn say_replay<A: Allocator + Copy>(
 }
 
 impl<A: Allocator + Copy> Voice<ReplayCommand, A> for FileNames<'_> {
-    ghost use Rattle.std.specs.Prelude.{Some};
-    ghost use Rattle.wq_diagnosis.specs.Refused.{Diagnoses};
     ghost use Rattle.wq_voice.specs.Voice.{SaysEndOf};
 
     ghost says = { λ names _ s texts found said.
         SaysEndOf names.declaration.now names.second.now names.run.now s texts found said };
-
-    ghost refuses = { λ names _ r said. Diagnoses names.declaration.now (Some r) said };
 
     fn say(
         &self,
@@ -132,16 +128,5 @@ impl<A: Allocator + Copy> Voice<ReplayCommand, A> for FileNames<'_> {
         found: &Found<Replayed<A>>,
     ) -> Result<Option<Vec<u8, A>>, AllocError> {
         say_replay(alloc, self, declared, texts, found)
-    }
-
-    fn refuse(
-        &self,
-        alloc: A,
-        seed: u64,
-        texts: &Texts<A>,
-        code: u32,
-        line: u32,
-    ) -> Result<Option<Vec<u8, A>>, AllocError> {
-        say_refusal(alloc, seed, self, texts, code, line)
     }
 }

@@ -19,7 +19,7 @@ returns-in-Ok-clause-answered g c =
       h.3,
       Tells-weaker g.E.Write.contents c.args.teller.now c.respond_declared-ended.new.teller
           (says c.in-Ok.declared c.args.texts.now h.0)
-          (SaysOfTexts says (g.V.Voice.refuses c.args.voice.now) c.args.texts.now (Ok h.0))
+          (SaysOfTexts says (g.V.SaysRefusal.refuses c.args.voice.now) c.args.texts.now (Ok h.0))
           (λ said s. (c.in-Ok.declared, is, s)) h.4,
     )) c.respond_declared-ended.ensures.answered
 

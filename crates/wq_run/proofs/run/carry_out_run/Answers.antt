@@ -9,7 +9,7 @@ use Rattle.wq_run.proofs.run.carry_out_run.Goals as goal
 pub returns-clause-answered : goal.returns-clause-answered
 returns-clause-answered g c =
     let says = g.V.Voice.says c.args.voice.now c.args.command.now in
-    let refuses = g.V.Voice.refuses c.args.voice.now in
+    let refuses = g.V.SaysRefusal.refuses c.args.voice.now in
     IfOk-weaker c.respond-ended.result _ _ (λ end h.
     IsAnsweredByRun-read c.args.command.now.helpers c.in_ok-text.ensures.given c.only-texts.result
     c.only-texts.ensures h.0 end

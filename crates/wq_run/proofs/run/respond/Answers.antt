@@ -18,7 +18,7 @@ returns-in-Ok-clause-answered g c =
       (c.in-Ok.declared, is, (refl, h.1)),
       h.2,
       told_of_texts g.E.Write.contents c.args.teller.now c.respond_declared-ended.new.teller c.args.texts.now
-          c.in-Ok.declared is says (g.V.Voice.refuses c.args.voice.now) end h.3,
+          c.in-Ok.declared is says (g.V.SaysRefusal.refuses c.args.voice.now) end h.3,
     )) c.respond_declared-ended.ensures.answered
 
 pub returns-in-Ok-clause-prefix : goal.returns-in-Ok-clause-prefix
