@@ -55,7 +55,7 @@ cli      rows         pytest.sh WQPLAN cli/test_rows.py
 cli      forged       pytest.sh WQPLAN cli/test_forged.py
 cli      examples     cli/examples.sh WQPLAN
 cli      explain      cli/explain.sh WQPLAN
-cli      diagnoses    pytest.sh WQPLAN cli/test_diagnoses.py
+cli      diagnoses    pytest.sh WQPLAN cli/test_diagnoses.py cli/test_messages.py
 cli      worst        cli/worst.py WQPLAN
 model    model        pytest.sh WQPLAN model | model/repair_search.py WQPLAN
 source   source       source/main.sh

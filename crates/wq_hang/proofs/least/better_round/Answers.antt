@@ -4,7 +4,8 @@ use Rattle.std.proofs.lemmas.Bool.{eqb-true, false≢true}
 use Rattle.wq_core.specs.Wiring.{HasRescuer}
 use Rattle.wq_hang.specs.Search.{IsBetter}
 use Rattle.wq_items.specs.declared.target.Target.{Target}
-use Rattle.wq_hang.proofs.LeastFound.{IsNoBetter-still, IsNoBetter-low, IsNoBetter-bare, IsNoBetter-searched, IsBetter-searched}
+use Rattle.wq_hang.proofs.LeastFound.{IsNoBetter-still, IsNoBetter-low, IsNoBetter-bare, IsNoBetter-searched}
+use Rattle.wq_hang.proofs.LeastFound.{IsBetter-searched}
 use Rattle.wq_hang.proofs.least.better_round.Goals as goal
 
 pub returns-then-least-le3 : goal.returns-then-least-le3
