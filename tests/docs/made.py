@@ -42,6 +42,8 @@ HELP_WIDTH = 80
 RUST_WIDTH = 100
 ARGUMENTS_WIDTH = 60
 LONG_TEXT = 80
+# The bytes for which a message has room where something stands in it, so that it seldom grows.
+ROOM_OF_HOLE = 32
 SPECS_WIDTH = 113
 COUNTS = ["none", "one", "two", "three", "four", "five", "six", "seven", "eight", "nine"]
 # Text, or `bold` or *italic*, with what stands directly behind it.
@@ -665,15 +667,20 @@ def message_of_holes(name, holes, parts):
         made = head + "\n" + "".join(f"    {one},\n" for one in given) + result
     clause = f"    ensures {{ IfOk result (λ words. words.items ≡ {name}"
     made += joined(clause, [f"{hole}.now" for hole in holes], ") }", SPECS_WIDTH, "        ")
-    made += "{\n"
-    for at, (is_hole, part) in enumerate(parts):
-        call, first = ("    put(", "&mut words") if at else ("    let mut words = Vec::from_slice(", "alloc")
+    made += "{\n" + room_for(parts)
+    for is_hole, part in parts:
         second = part if is_hole else f'b"{part}"'
-        if len(f"{first}, {second}") > ARGUMENTS_WIDTH:
-            made += f"{call}\n        {first},\n        {second},\n    )?;\n"
+        if len(f"&mut words, {second}") > ARGUMENTS_WIDTH:
+            made += f"    put(\n        &mut words,\n        {second},\n    )?;\n"
         else:
-            made += f"{call}{first}, {second})?;\n"
+            made += f"    put(&mut words, {second})?;\n"
     return made + "    Ok(words)\n}\n"
+
+
+def room_for(parts):
+    """The line that makes a vector with room for the texts, and for what usually stands between them."""
+    room = sum(ROOM_OF_HOLE if is_hole else len(part) for is_hole, part in parts)
+    return f"    let mut words = Vec::with_capacity(alloc, {room})?;\n"
 
 
 def messages_source():

@@ -19,7 +19,7 @@ fn few_line<A: Allocator + Copy>(alloc: A, file: &str) -> Result<Vec<u8, A>, All
 {
     let line = messages::names_are_too_few(alloc, file.as_bytes())?;
     let mut text = Vec::new(alloc);
-    put_line(alloc, &mut text, &line)?;
+    put_line(&mut text, &line)?;
     Ok(text)
 }
 

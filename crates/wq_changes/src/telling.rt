@@ -60,7 +60,7 @@ fn line_at<A: Allocator + Copy>(
     let place = place_words(alloc, place)?;
     let line = messages::at_place(alloc, file.as_bytes(), &place, what)?;
     let mut text = Vec::new(alloc);
-    put_line(alloc, &mut text, &line)?;
+    put_line(&mut text, &line)?;
     Ok(text)
 }
 

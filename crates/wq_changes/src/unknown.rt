@@ -40,7 +40,7 @@ fn unknown_line<A: Allocator + Copy>(
 {
     let line = messages::unknown_item(alloc, file.as_bytes(), name.as_bytes())?;
     let mut text = Vec::new(alloc);
-    put_line(alloc, &mut text, &line)?;
+    put_line(&mut text, &line)?;
     Ok(text)
 }
 
@@ -69,7 +69,7 @@ fn put_meant<A: Allocator + Copy>(
     ensures { OnOk result (text.new.items ≡ text.old.items ++ meant_line file.now item.now) }
 {
     let line = messages::did_you_mean(alloc, file.as_bytes(), item)?;
-    put_line(alloc, text, &line)
+    put_line(text, &line)
 }
 
 /// That this is the name of no item, and which item was most likely meant.

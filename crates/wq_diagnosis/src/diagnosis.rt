@@ -128,8 +128,8 @@ fn whole_text<A: Allocator + Copy>(
 {
     let head = head(alloc, file, place, what, word, code)?;
     let mut out = Vec::new(alloc);
-    put_line(alloc, &mut out, &head)?;
-    put_lines(alloc, &mut out, details)?;
+    put_line(&mut out, &head)?;
+    put_lines(&mut out, details)?;
     Ok(out)
 }
 
@@ -300,7 +300,7 @@ fn no_item_note<A: Allocator + Copy>(alloc: A, file: &str) -> Result<Vec<u8, A>,
 {
     let line = messages::no_item(alloc, file.as_bytes())?;
     let mut out = Vec::new(alloc);
-    put_line(alloc, &mut out, &line)?;
+    put_line(&mut out, &line)?;
     Ok(out)
 }
 

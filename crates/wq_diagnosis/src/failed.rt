@@ -23,6 +23,6 @@ pub fn of_failed<A: Allocator + Copy>(
 {
     let line = messages::failed(alloc, file.as_bytes(), why.as_bytes())?;
     let mut said = Vec::new(alloc);
-    put_line(alloc, &mut said, &line)?;
+    put_line(&mut said, &line)?;
     Ok(said)
 }

@@ -11,41 +11,23 @@ use std::alloc::{AllocError, Allocator};
 use wq_findings::{Excerpt, Hint, Mark, Marks, put_place, shown};
 use wq_text::Text;
 
-/// The bytes as they are shown.
-fn shown_bytes<A: Allocator + Copy>(alloc: A, bytes: &[u8]) -> Result<Vec<u8, A>, AllocError>
-    ensures { IfOk result (λ line. line.items ≡ map shown bytes.now) }
-{
-    let mut line = Vec::new(alloc);
-    for byte in bytes {
-        line.push(shown(*byte))?;
-    }
-    Ok(line)
-}
-
 /// Adds a line as it is shown.
-pub fn put_line<A: Allocator + Copy>(
-    alloc: A,
-    out: &mut Vec<u8, A>,
-    line: &[u8],
-) -> Result<(), AllocError>
+pub fn put_line<A: Allocator>(out: &mut Vec<u8, A>, line: &[u8]) -> Result<(), AllocError>
     ensures { OnOk result (out.new.items ≡ out.old.items ++ (map shown line.now ++ (10 ∷ []))) }
 {
-    let line = shown_bytes(alloc, line)?;
-    out.extend_from_slice(&line)?;
+    for byte in line {
+        out.push(shown(*byte))?;
+    }
     out.push(b'\n')?;
     Ok(())
 }
 
 /// Adds lines as they are shown.
-pub fn put_lines<A: Allocator + Copy>(
-    alloc: A,
-    out: &mut Vec<u8, A>,
-    lines: &[Vec<u8, A>],
-) -> Result<(), AllocError>
+pub fn put_lines<A: Allocator>(out: &mut Vec<u8, A>, lines: &[Vec<u8, A>]) -> Result<(), AllocError>
     ensures { OnOk result (out.new.items ≡ out.old.items ++ shown_lines (map (λ line. line.items) lines.now)) }
 {
     for line in lines {
-        put_line(alloc, out, line)?;
+        put_line(out, line)?;
     }
     Ok(())
 }

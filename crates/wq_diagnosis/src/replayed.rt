@@ -108,8 +108,8 @@ fn whole_text<A: Allocator + Copy>(
 {
     let head = head(alloc, file, place, what, number)?;
     let mut out = Vec::new(alloc);
-    put_line(alloc, &mut out, &head)?;
-    put_lines(alloc, &mut out, details)?;
+    put_line(&mut out, &head)?;
+    put_lines(&mut out, details)?;
     Ok(out)
 }
 

@@ -24,7 +24,8 @@ use wq_text::put;
 pub fn an_item<A: Allocator + Copy>(alloc: A, name: &[u8]) -> Result<Vec<u8, A>, AllocError>
     ensures { IfOk result (λ words. words.items ≡ an_item name.now) }
 {
-    let mut words = Vec::from_slice(alloc, b"`")?;
+    let mut words = Vec::with_capacity(alloc, 34)?;
+    put(&mut words, b"`")?;
     put(&mut words, name)?;
     put(&mut words, b"`")?;
     Ok(words)
@@ -38,7 +39,8 @@ pub fn a_workqueue<A: Allocator + Copy>(
 ) -> Result<Vec<u8, A>, AllocError>
     ensures { IfOk result (λ words. words.items ≡ a_workqueue number.now called.now) }
 {
-    let mut words = Vec::from_slice(alloc, b"workqueue ")?;
+    let mut words = Vec::with_capacity(alloc, 74)?;
+    put(&mut words, b"workqueue ")?;
     put(&mut words, number)?;
     put(&mut words, called)?;
     Ok(words)
@@ -48,7 +50,8 @@ pub fn a_workqueue<A: Allocator + Copy>(
 pub fn its_name<A: Allocator + Copy>(alloc: A, name: &[u8]) -> Result<Vec<u8, A>, AllocError>
     ensures { IfOk result (λ words. words.items ≡ its_name name.now) }
 {
-    let mut words = Vec::from_slice(alloc, b" (")?;
+    let mut words = Vec::with_capacity(alloc, 35)?;
+    put(&mut words, b" (")?;
     put(&mut words, name)?;
     put(&mut words, b")")?;
     Ok(words)
@@ -63,7 +66,8 @@ pub fn at_place<A: Allocator + Copy>(
 ) -> Result<Vec<u8, A>, AllocError>
     ensures { IfOk result (λ words. words.items ≡ at_place file.now place.now what.now) }
 {
-    let mut words = Vec::from_slice(alloc, file)?;
+    let mut words = Vec::with_capacity(alloc, 98)?;
+    put(&mut words, file)?;
     put(&mut words, place)?;
     put(&mut words, b": ")?;
     put(&mut words, what)?;
@@ -81,7 +85,8 @@ pub fn answered<A: Allocator + Copy>(
 ) -> Result<Vec<u8, A>, AllocError>
     ensures { IfOk result (λ words. words.items ≡ answered file.now place.now what.now word.now code.now) }
 {
-    let mut words = Vec::from_slice(alloc, file)?;
+    let mut words = Vec::with_capacity(alloc, 217)?;
+    put(&mut words, file)?;
     put(&mut words, place)?;
     put(&mut words, b": ")?;
     put(&mut words, what)?;
@@ -105,7 +110,8 @@ pub fn answered_unlawful<A: Allocator + Copy>(
 ) -> Result<Vec<u8, A>, AllocError>
     ensures { IfOk result (λ words. words.items ≡ answered_unlawful file.now place.now what.now number.now) }
 {
-    let mut words = Vec::from_slice(alloc, file)?;
+    let mut words = Vec::with_capacity(alloc, 144)?;
+    put(&mut words, file)?;
     put(&mut words, place)?;
     put(&mut words, b": ")?;
     put(&mut words, what)?;
@@ -123,7 +129,8 @@ pub fn failed<A: Allocator + Copy>(
 ) -> Result<Vec<u8, A>, AllocError>
     ensures { IfOk result (λ words. words.items ≡ failed file.now why.now) }
 {
-    let mut words = Vec::from_slice(alloc, b"wqplan: ")?;
+    let mut words = Vec::with_capacity(alloc, 74)?;
+    put(&mut words, b"wqplan: ")?;
     put(&mut words, file)?;
     put(&mut words, b": ")?;
     put(&mut words, why)?;
@@ -134,7 +141,8 @@ pub fn failed<A: Allocator + Copy>(
 pub fn no_item<A: Allocator + Copy>(alloc: A, file: &[u8]) -> Result<Vec<u8, A>, AllocError>
     ensures { IfOk result (λ words. words.items ≡ no_item file.now) }
 {
-    let mut words = Vec::from_slice(alloc, file)?;
+    let mut words = Vec::with_capacity(alloc, 84)?;
+    put(&mut words, file)?;
     put(
         &mut words,
         b": note: no item is declared: is this the right file?",
@@ -149,7 +157,8 @@ pub const NO_SUCH_ITEM: &[u8] = b"there is no such item";
 pub fn is_pending<A: Allocator + Copy>(alloc: A, item: &[u8]) -> Result<Vec<u8, A>, AllocError>
     ensures { IfOk result (λ words. words.items ≡ is_pending item.now) }
 {
-    let mut words = Vec::from_slice(alloc, item)?;
+    let mut words = Vec::with_capacity(alloc, 51)?;
+    put(&mut words, item)?;
     put(&mut words, b" is pending already")?;
     Ok(words)
 }
@@ -158,7 +167,8 @@ pub fn is_pending<A: Allocator + Copy>(alloc: A, item: &[u8]) -> Result<Vec<u8, 
 pub fn isnt_pending<A: Allocator + Copy>(alloc: A, item: &[u8]) -> Result<Vec<u8, A>, AllocError>
     ensures { IfOk result (λ words. words.items ≡ isnt_pending item.now) }
 {
-    let mut words = Vec::from_slice(alloc, item)?;
+    let mut words = Vec::with_capacity(alloc, 46)?;
+    put(&mut words, item)?;
     put(&mut words, b" isn't pending")?;
     Ok(words)
 }
@@ -171,7 +181,8 @@ pub fn runs<A: Allocator + Copy>(
 ) -> Result<Vec<u8, A>, AllocError>
     ensures { IfOk result (λ words. words.items ≡ runs workqueue.now item.now) }
 {
-    let mut words = Vec::from_slice(alloc, workqueue)?;
+    let mut words = Vec::with_capacity(alloc, 70)?;
+    put(&mut words, workqueue)?;
     put(&mut words, b" runs ")?;
     put(&mut words, item)?;
     Ok(words)
@@ -184,7 +195,8 @@ pub fn nothing_is_pending<A: Allocator + Copy>(
 ) -> Result<Vec<u8, A>, AllocError>
     ensures { IfOk result (λ words. words.items ≡ nothing_is_pending workqueue.now) }
 {
-    let mut words = Vec::from_slice(alloc, b"nothing is pending on ")?;
+    let mut words = Vec::with_capacity(alloc, 54)?;
+    put(&mut words, b"nothing is pending on ")?;
     put(&mut words, workqueue)?;
     Ok(words)
 }
@@ -196,7 +208,8 @@ pub fn nothing_runs<A: Allocator + Copy>(
 ) -> Result<Vec<u8, A>, AllocError>
     ensures { IfOk result (λ words. words.items ≡ nothing_runs workqueue.now) }
 {
-    let mut words = Vec::from_slice(alloc, b"nothing runs on ")?;
+    let mut words = Vec::with_capacity(alloc, 48)?;
+    put(&mut words, b"nothing runs on ")?;
     put(&mut words, workqueue)?;
     Ok(words)
 }
@@ -208,7 +221,8 @@ pub fn no_workqueue<A: Allocator + Copy>(
 ) -> Result<Vec<u8, A>, AllocError>
     ensures { IfOk result (λ words. words.items ≡ no_workqueue workqueue.now) }
 {
-    let mut words = Vec::from_slice(alloc, b"there is no ")?;
+    let mut words = Vec::with_capacity(alloc, 44)?;
+    put(&mut words, b"there is no ")?;
     put(&mut words, workqueue)?;
     Ok(words)
 }
@@ -222,7 +236,8 @@ pub fn isnt_first<A: Allocator + Copy>(
 ) -> Result<Vec<u8, A>, AllocError>
     ensures { IfOk result (λ words. words.items ≡ isnt_first item.now workqueue.now first.now) }
 {
-    let mut words = Vec::from_slice(alloc, item)?;
+    let mut words = Vec::with_capacity(alloc, 133)?;
+    put(&mut words, item)?;
     put(&mut words, b" isn't the first entry of ")?;
     put(&mut words, workqueue)?;
     put(&mut words, b", which is ")?;
@@ -239,7 +254,8 @@ pub fn runner_waits<A: Allocator + Copy>(
 ) -> Result<Vec<u8, A>, AllocError>
     ensures { IfOk result (λ words. words.items ≡ runner_waits item.now workqueue.now target.now) }
 {
-    let mut words = Vec::from_slice(alloc, item)?;
+    let mut words = Vec::with_capacity(alloc, 124)?;
+    put(&mut words, item)?;
     put(&mut words, b", which runs on ")?;
     put(&mut words, workqueue)?;
     put(&mut words, b", waits for ")?;
@@ -258,7 +274,8 @@ pub fn runner_waits_for_all<A: Allocator + Copy>(
     ensures { IfOk result (λ words. words.items ≡ runner_waits_for_all item.now workqueue.now target.now
         called.now) }
 {
-    let mut words = Vec::from_slice(alloc, item)?;
+    let mut words = Vec::with_capacity(alloc, 173)?;
+    put(&mut words, item)?;
     put(&mut words, b", which runs on ")?;
     put(&mut words, workqueue)?;
     put(&mut words, b", waits for the workqueue of ")?;
@@ -276,7 +293,8 @@ pub fn declares_no_flush<A: Allocator + Copy>(
 ) -> Result<Vec<u8, A>, AllocError>
     ensures { IfOk result (λ words. words.items ≡ declares_no_flush item.now workqueue.now target.now) }
 {
-    let mut words = Vec::from_slice(alloc, item)?;
+    let mut words = Vec::with_capacity(alloc, 135)?;
+    put(&mut words, item)?;
     put(&mut words, b", which runs on ")?;
     put(&mut words, workqueue)?;
     put(&mut words, b", declares no flush of ")?;
@@ -293,7 +311,8 @@ pub fn declares_no_flushwq<A: Allocator + Copy>(
 ) -> Result<Vec<u8, A>, AllocError>
     ensures { IfOk result (λ words. words.items ≡ declares_no_flushwq item.now workqueue.now target.now) }
 {
-    let mut words = Vec::from_slice(alloc, item)?;
+    let mut words = Vec::with_capacity(alloc, 139)?;
+    put(&mut words, item)?;
     put(&mut words, b", which runs on ")?;
     put(&mut words, workqueue)?;
     put(&mut words, b", declares no `flushwq` of ")?;
@@ -310,7 +329,8 @@ pub fn has_made_all<A: Allocator + Copy>(
 ) -> Result<Vec<u8, A>, AllocError>
     ensures { IfOk result (λ words. words.items ≡ has_made_all item.now workqueue.now number.now) }
 {
-    let mut words = Vec::from_slice(alloc, item)?;
+    let mut words = Vec::with_capacity(alloc, 141)?;
+    put(&mut words, item)?;
     put(&mut words, b", which runs on ")?;
     put(&mut words, workqueue)?;
     put(&mut words, b", has made all of its waits: ")?;
@@ -326,7 +346,8 @@ pub fn doesnt_wait<A: Allocator + Copy>(
 ) -> Result<Vec<u8, A>, AllocError>
     ensures { IfOk result (λ words. words.items ≡ doesnt_wait item.now workqueue.now) }
 {
-    let mut words = Vec::from_slice(alloc, item)?;
+    let mut words = Vec::with_capacity(alloc, 94)?;
+    put(&mut words, item)?;
     put(&mut words, b", which runs on ")?;
     put(&mut words, workqueue)?;
     put(&mut words, b", doesn't wait")?;
@@ -337,7 +358,8 @@ pub fn doesnt_wait<A: Allocator + Copy>(
 pub fn is_unfinished<A: Allocator + Copy>(alloc: A, item: &[u8]) -> Result<Vec<u8, A>, AllocError>
     ensures { IfOk result (λ words. words.items ≡ is_unfinished item.now) }
 {
-    let mut words = Vec::from_slice(alloc, b"an entry of ")?;
+    let mut words = Vec::with_capacity(alloc, 80)?;
+    put(&mut words, b"an entry of ")?;
     put(&mut words, item)?;
     put(&mut words, b" from before this wait is unfinished")?;
     Ok(words)
@@ -351,8 +373,9 @@ pub fn one_is_unfinished<A: Allocator + Copy>(
 ) -> Result<Vec<u8, A>, AllocError>
     ensures { IfOk result (λ words. words.items ≡ one_is_unfinished item.now called.now) }
 {
-    let mut words = Vec::from_slice(
-        alloc,
+    let mut words = Vec::with_capacity(alloc, 129)?;
+    put(
+        &mut words,
         b"an entry from before this wait is unfinished on the workqueue of ",
     )?;
     put(&mut words, item)?;
@@ -376,7 +399,8 @@ pub fn has_no_rescuer<A: Allocator + Copy>(
 ) -> Result<Vec<u8, A>, AllocError>
     ensures { IfOk result (λ words. words.items ≡ has_no_rescuer workqueue.now) }
 {
-    let mut words = Vec::from_slice(alloc, workqueue)?;
+    let mut words = Vec::with_capacity(alloc, 47)?;
+    put(&mut words, workqueue)?;
     put(&mut words, b" has no rescuer")?;
     Ok(words)
 }
@@ -391,7 +415,8 @@ pub fn waits_for_bare<A: Allocator + Copy>(
 ) -> Result<Vec<u8, A>, AllocError>
     ensures { IfOk result (λ words. words.items ≡ waits_for_bare item.now workqueue.now target.now other.now) }
 {
-    let mut words = Vec::from_slice(alloc, item)?;
+    let mut words = Vec::with_capacity(alloc, 195)?;
+    put(&mut words, item)?;
     put(&mut words, b", on ")?;
     put(&mut words, workqueue)?;
     put(&mut words, b", waits for ")?;
@@ -413,7 +438,8 @@ pub fn waits_for_all_of_bare<A: Allocator + Copy>(
     ensures { IfOk result (λ words. words.items ≡ waits_for_all_of_bare item.now workqueue.now target.now
         other.now) }
 {
-    let mut words = Vec::from_slice(alloc, item)?;
+    let mut words = Vec::with_capacity(alloc, 212)?;
+    put(&mut words, item)?;
     put(&mut words, b", on ")?;
     put(&mut words, workqueue)?;
     put(&mut words, b", waits for the workqueue of ")?;
@@ -434,7 +460,8 @@ pub fn waits_for_next<A: Allocator + Copy>(
 ) -> Result<Vec<u8, A>, AllocError>
     ensures { IfOk result (λ words. words.items ≡ waits_for_next item.now workqueue.now target.now other.now) }
 {
-    let mut words = Vec::from_slice(alloc, item)?;
+    let mut words = Vec::with_capacity(alloc, 162)?;
+    put(&mut words, item)?;
     put(&mut words, b", on ")?;
     put(&mut words, workqueue)?;
     put(&mut words, b", waits for ")?;
@@ -452,7 +479,8 @@ pub fn waits_for_itself<A: Allocator + Copy>(
 ) -> Result<Vec<u8, A>, AllocError>
     ensures { IfOk result (λ words. words.items ≡ waits_for_itself item.now workqueue.now) }
 {
-    let mut words = Vec::from_slice(alloc, item)?;
+    let mut words = Vec::with_capacity(alloc, 87)?;
+    put(&mut words, item)?;
     put(&mut words, b", on ")?;
     put(&mut words, workqueue)?;
     put(&mut words, b", waits for itself")?;
@@ -471,7 +499,8 @@ pub fn waits_for_behind<A: Allocator + Copy>(
     ensures { IfOk result (λ words. words.items ≡ waits_for_behind item.now workqueue.now target.now next.now
         other.now) }
 {
-    let mut words = Vec::from_slice(alloc, item)?;
+    let mut words = Vec::with_capacity(alloc, 199)?;
+    put(&mut words, item)?;
     put(&mut words, b", on ")?;
     put(&mut words, workqueue)?;
     put(&mut words, b", waits for ")?;
@@ -492,7 +521,8 @@ pub fn waits_for_behind_it<A: Allocator + Copy>(
 ) -> Result<Vec<u8, A>, AllocError>
     ensures { IfOk result (λ words. words.items ≡ waits_for_behind_it item.now workqueue.now target.now) }
 {
-    let mut words = Vec::from_slice(alloc, item)?;
+    let mut words = Vec::with_capacity(alloc, 133)?;
+    put(&mut words, item)?;
     put(&mut words, b", on ")?;
     put(&mut words, workqueue)?;
     put(&mut words, b", waits for ")?;
@@ -511,7 +541,8 @@ pub fn waits_for_all<A: Allocator + Copy>(
 ) -> Result<Vec<u8, A>, AllocError>
     ensures { IfOk result (λ words. words.items ≡ waits_for_all item.now workqueue.now other.now next.now) }
 {
-    let mut words = Vec::from_slice(alloc, item)?;
+    let mut words = Vec::with_capacity(alloc, 166)?;
+    put(&mut words, item)?;
     put(&mut words, b", on ")?;
     put(&mut words, workqueue)?;
     put(&mut words, b", waits for all of ")?;
@@ -530,7 +561,8 @@ pub fn waits_for_all_of_its_own<A: Allocator + Copy>(
 ) -> Result<Vec<u8, A>, AllocError>
     ensures { IfOk result (λ words. words.items ≡ waits_for_all_of_its_own item.now workqueue.now) }
 {
-    let mut words = Vec::from_slice(alloc, item)?;
+    let mut words = Vec::with_capacity(alloc, 101)?;
+    put(&mut words, item)?;
     put(&mut words, b", on ")?;
     put(&mut words, workqueue)?;
     put(&mut words, b", waits for all of its workqueue")?;
@@ -545,7 +577,8 @@ pub fn group_waits_for_next<A: Allocator + Copy>(
 ) -> Result<Vec<u8, A>, AllocError>
     ensures { IfOk result (λ words. words.items ≡ group_waits_for_next item.now target.now) }
 {
-    let mut words = Vec::from_slice(alloc, item)?;
+    let mut words = Vec::with_capacity(alloc, 88)?;
+    put(&mut words, item)?;
     put(&mut words, b" waits for ")?;
     put(&mut words, target)?;
     put(&mut words, b", which waits")?;
@@ -559,7 +592,8 @@ pub fn group_waits_for_itself<A: Allocator + Copy>(
 ) -> Result<Vec<u8, A>, AllocError>
     ensures { IfOk result (λ words. words.items ≡ group_waits_for_itself item.now) }
 {
-    let mut words = Vec::from_slice(alloc, item)?;
+    let mut words = Vec::with_capacity(alloc, 49)?;
+    put(&mut words, item)?;
     put(&mut words, b" waits for itself")?;
     Ok(words)
 }
@@ -573,7 +607,8 @@ pub fn group_waits_for_behind<A: Allocator + Copy>(
 ) -> Result<Vec<u8, A>, AllocError>
     ensures { IfOk result (λ words. words.items ≡ group_waits_for_behind item.now target.now next.now) }
 {
-    let mut words = Vec::from_slice(alloc, item)?;
+    let mut words = Vec::with_capacity(alloc, 145)?;
+    put(&mut words, item)?;
     put(&mut words, b" waits for ")?;
     put(&mut words, target)?;
     put(&mut words, b", which is behind ")?;
@@ -590,7 +625,8 @@ pub fn group_waits_for_behind_it<A: Allocator + Copy>(
 ) -> Result<Vec<u8, A>, AllocError>
     ensures { IfOk result (λ words. words.items ≡ group_waits_for_behind_it item.now target.now) }
 {
-    let mut words = Vec::from_slice(alloc, item)?;
+    let mut words = Vec::with_capacity(alloc, 115)?;
+    put(&mut words, item)?;
     put(&mut words, b" waits for ")?;
     put(&mut words, target)?;
     put(&mut words, b", which is behind it: they are `ordered`")?;
@@ -606,7 +642,8 @@ pub fn group_waits_for_all<A: Allocator + Copy>(
 ) -> Result<Vec<u8, A>, AllocError>
     ensures { IfOk result (λ words. words.items ≡ group_waits_for_all item.now target.now next.now) }
 {
-    let mut words = Vec::from_slice(alloc, item)?;
+    let mut words = Vec::with_capacity(alloc, 138)?;
+    put(&mut words, item)?;
     put(&mut words, b" waits for the workqueue of ")?;
     put(&mut words, target)?;
     put(&mut words, b", where ")?;
@@ -622,7 +659,8 @@ pub fn group_waits_for_all_of_its_own<A: Allocator + Copy>(
 ) -> Result<Vec<u8, A>, AllocError>
     ensures { IfOk result (λ words. words.items ≡ group_waits_for_all_of_its_own item.now) }
 {
-    let mut words = Vec::from_slice(alloc, item)?;
+    let mut words = Vec::with_capacity(alloc, 56)?;
+    put(&mut words, item)?;
     put(&mut words, b" waits for its workqueue")?;
     Ok(words)
 }
@@ -631,7 +669,8 @@ pub fn group_waits_for_all_of_its_own<A: Allocator + Copy>(
 pub fn is_given<A: Allocator + Copy>(alloc: A, workqueue: &[u8]) -> Result<Vec<u8, A>, AllocError>
     ensures { IfOk result (λ words. words.items ≡ is_given workqueue.now) }
 {
-    let mut words = Vec::from_slice(alloc, workqueue)?;
+    let mut words = Vec::with_capacity(alloc, 51)?;
+    put(&mut words, workqueue)?;
     put(&mut words, b" is given a rescuer")?;
     Ok(words)
 }
@@ -645,7 +684,8 @@ pub fn moves<A: Allocator + Copy>(
 ) -> Result<Vec<u8, A>, AllocError>
     ensures { IfOk result (λ words. words.items ≡ moves item.now workqueue.now other.now) }
 {
-    let mut words = Vec::from_slice(alloc, item)?;
+    let mut words = Vec::with_capacity(alloc, 112)?;
+    put(&mut words, item)?;
     put(&mut words, b" moves from ")?;
     put(&mut words, workqueue)?;
     put(&mut words, b" to ")?;
@@ -661,7 +701,8 @@ pub fn with_more<A: Allocator + Copy>(
 ) -> Result<Vec<u8, A>, AllocError>
     ensures { IfOk result (λ words. words.items ≡ with_more item.now number.now) }
 {
-    let mut words = Vec::from_slice(alloc, item)?;
+    let mut words = Vec::with_capacity(alloc, 90)?;
+    put(&mut words, item)?;
     put(&mut words, b", with ")?;
     put(&mut words, number)?;
     put(&mut words, b" more of its group,")?;
@@ -672,7 +713,8 @@ pub fn with_more<A: Allocator + Copy>(
 pub fn a_new_one<A: Allocator + Copy>(alloc: A, workqueue: &[u8]) -> Result<Vec<u8, A>, AllocError>
     ensures { IfOk result (λ words. words.items ≡ a_new_one workqueue.now) }
 {
-    let mut words = Vec::from_slice(alloc, workqueue)?;
+    let mut words = Vec::with_capacity(alloc, 43)?;
+    put(&mut words, workqueue)?;
     put(&mut words, b", a new one")?;
     Ok(words)
 }
@@ -684,7 +726,8 @@ pub fn which_is_given<A: Allocator + Copy>(
 ) -> Result<Vec<u8, A>, AllocError>
     ensures { IfOk result (λ words. words.items ≡ which_is_given workqueue.now) }
 {
-    let mut words = Vec::from_slice(alloc, workqueue)?;
+    let mut words = Vec::with_capacity(alloc, 58)?;
+    put(&mut words, workqueue)?;
     put(&mut words, b", which is given a rescuer")?;
     Ok(words)
 }
@@ -702,7 +745,8 @@ pub fn names_are_too_few<A: Allocator + Copy>(
 ) -> Result<Vec<u8, A>, AllocError>
     ensures { IfOk result (λ words. words.items ≡ names_are_too_few file.now) }
 {
-    let mut words = Vec::from_slice(alloc, file)?;
+    let mut words = Vec::with_capacity(alloc, 112)?;
+    put(&mut words, file)?;
     put(
         &mut words,
         b": note: wherever these items move, the workqueues can hang; the run is on these:",
@@ -718,7 +762,8 @@ pub fn unknown_item<A: Allocator + Copy>(
 ) -> Result<Vec<u8, A>, AllocError>
     ensures { IfOk result (λ words. words.items ≡ unknown_item file.now name.now) }
 {
-    let mut words = Vec::from_slice(alloc, file)?;
+    let mut words = Vec::with_capacity(alloc, 120)?;
+    put(&mut words, file)?;
     put(&mut words, b": no item `")?;
     put(&mut words, name)?;
     put(&mut words, b"` is declared [refused 8, `wqplan explain 8`]")?;
@@ -733,7 +778,8 @@ pub fn did_you_mean<A: Allocator + Copy>(
 ) -> Result<Vec<u8, A>, AllocError>
     ensures { IfOk result (λ words. words.items ≡ did_you_mean file.now name.now) }
 {
-    let mut words = Vec::from_slice(alloc, file)?;
+    let mut words = Vec::with_capacity(alloc, 88)?;
+    put(&mut words, file)?;
     put(&mut words, b": note: did you mean `")?;
     put(&mut words, name)?;
     put(&mut words, b"`?")?;
@@ -748,7 +794,8 @@ pub fn item_on_workqueue<A: Allocator + Copy>(
 ) -> Result<Vec<u8, A>, AllocError>
     ensures { IfOk result (λ words. words.items ≡ item_on_workqueue item.now workqueue.now) }
 {
-    let mut words = Vec::from_slice(alloc, item)?;
+    let mut words = Vec::with_capacity(alloc, 68)?;
+    put(&mut words, item)?;
     put(&mut words, b" on ")?;
     put(&mut words, workqueue)?;
     Ok(words)
@@ -762,7 +809,8 @@ pub fn nothing_guarantees<A: Allocator + Copy>(
 ) -> Result<Vec<u8, A>, AllocError>
     ensures { IfOk result (λ words. words.items ≡ nothing_guarantees file.now items.now) }
 {
-    let mut words = Vec::from_slice(alloc, file)?;
+    let mut words = Vec::with_capacity(alloc, 129)?;
+    put(&mut words, file)?;
     put(
         &mut words,
         b": note: nothing guarantees that these run while memory is short: ",
@@ -778,7 +826,8 @@ pub fn declare_who_waits<A: Allocator + Copy>(
 ) -> Result<Vec<u8, A>, AllocError>
     ensures { IfOk result (λ words. words.items ≡ declare_who_waits file.now) }
 {
-    let mut words = Vec::from_slice(alloc, file)?;
+    let mut words = Vec::with_capacity(alloc, 147)?;
+    put(&mut words, file)?;
     put(
         &mut words,
         b": note: where reclaim waits for one of them, declare who waits: an item of its ",

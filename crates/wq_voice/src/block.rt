@@ -74,6 +74,9 @@ impl<'a> Spot<'a> {
     }
 }
 
+/// The bytes for which such lines have room, so that they seldom grow.
+const ROOM: usize = 256;
+
 /// Lines of which the first says this, and then these.
 fn whole_text<A: Allocator + Copy>(
     alloc: A,
@@ -86,9 +89,9 @@ fn whole_text<A: Allocator + Copy>(
         ≡ shown_lines (plain_head file.now place.now what.now ∷ map (λ line. line.items) more.now)) }
 {
     let head = plain_head(alloc, file, place, what)?;
-    let mut out = Vec::new(alloc);
-    put_line(alloc, &mut out, &head)?;
-    put_lines(alloc, &mut out, more)?;
+    let mut out = Vec::with_capacity(alloc, ROOM)?;
+    put_line(&mut out, &head)?;
+    put_lines(&mut out, more)?;
     Ok(out)
 }
 

@@ -124,8 +124,8 @@ fn bare_note<A: Allocator + Copy>(
     let note = messages::nothing_guarantees(alloc, file.as_bytes(), &items)?;
     let advice = messages::declare_who_waits(alloc, file.as_bytes())?;
     let mut out = Vec::new(alloc);
-    put_line(alloc, &mut out, &note)?;
-    put_line(alloc, &mut out, &advice)?;
+    put_line(&mut out, &note)?;
+    put_line(&mut out, &advice)?;
     Ok(out)
 }
 

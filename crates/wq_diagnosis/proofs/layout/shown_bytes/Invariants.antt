@@ -1,7 +1,0 @@
-use Rattle.std.proofs.Common.{◌≡◌, take, map}
-use Rattle.wq_findings.specs.Shown.{shown}
-use Rattle.wq_diagnosis.proofs.layout.shown_bytes.Given as goal
-
--- the bytes so far
-abbrev pub invariant-loop-byte : goal.invariant-loop-byte
-invariant-loop-byte g l = l.line.items ≡ map shown (take l.byte-index l.bytes)
