@@ -36,6 +36,11 @@ HANGS, NO_RESCUER = "hangs", "no rescuer"
 MOST_FILES = 700
 
 
+def name_of(module: str) -> str:
+    """That of a module, without its folder."""
+    return module.rpartition("/")[2]
+
+
 @dataclass(frozen=True)
 class Row:
     """A wait that lies on a circle of workqueues, or that leads to one without a rescuer."""
@@ -65,7 +70,7 @@ class Row:
     @property
     def identity(self) -> tuple[str, ...]:
         """What a verdict is kept by: no line, and no folder, for modules are moved."""
-        return self.module.rpartition("/")[2], self.workqueue, self.item, self.word, self.target, self.key
+        return name_of(self.module), self.workqueue, self.item, self.word, self.target, self.key
 
 
 @dataclass
@@ -87,12 +92,16 @@ class UnitResult:
     """What was found in a module."""
 
     module: str
-    files: int = 0
+    files: frozenset[str] = frozenset()
     rows: list[Row] = field(default_factory=list)
     workqueues: list[WorkqueueRow] = field(default_factory=list)
     seconds: float = 0.0
     megabytes: int = 0
     error: str = ""
+
+    @property
+    def name(self) -> str:
+        return name_of(self.module)
 
 
 @dataclass
@@ -214,7 +223,7 @@ class UnitScan:
                 if is_sure:
                     how = HANGS if flush in sure.circles else NO_RESCUER
                 found.rows.append(self.row(flush, how, is_sure))
-        found.files = len(self.files)
+        found.files = frozenset(self.files)
         found.workqueues = list(self.workqueue_rows())
 
     def row(self, flush: Flush, how: str, is_sure: bool) -> Row:
