@@ -14,12 +14,12 @@ from typing import Iterable, Iterator, Optional
 
 from . import ctext, ranks
 from .choose import Chooser, Chosen
-from .constants import Ways
 from .facts import Facts
 from .kbuild import Module
 from .layers import Layers
 from .lexer import without_comments
-from .lines import BY_POINTER, CONSTANT, Lines, Wait
+from .doubts import CONSTANT
+from .lines import BY_POINTER, Lines, Wait
 from .makers import VARIABLE, Maker, makers_of
 from .places import FunctionId
 from .program import Program, Tables
@@ -148,7 +148,8 @@ class TreeScan:
     def include_types(self) -> Types:
         """Those of all headers of include/."""
         headers = sorted((self.tree / "include").rglob("*.h"))
-        return self.extractor.types_together(self.tree, [str(path.relative_to(self.tree)) for path in headers])
+        names = [str(path.relative_to(self.tree)) for path in headers]
+        return self.extractor.types_together(self.tree, names)
 
     def chosen(self, unit: Unit) -> Chosen:
         found = self.chooser.choose(unit.module, lambda _: self.users)
@@ -205,7 +206,7 @@ class UnitScan:
     def with_constants(self, waits: list[Wait]) -> list[Wait]:
         """The waits; one that the constants among the arguments exclude isn't sure, and has another way if there is
         one that they admit."""
-        ways, found = Ways(self.program, self.facts), []
+        ways, found = self.lines.doubts.ways, []
         for wait in waits:
             if wait.is_sure:
                 path = ways.leads_to(wait.item, wait.site)
