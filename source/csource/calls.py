@@ -6,10 +6,10 @@ from dataclasses import dataclass, field
 from typing import Iterator, NamedTuple
 
 from . import ctext
-from .cells import UNKNOWN, Address, Cell, Kept, Member, Value, Variable, functions_of, may_be_same
+from .cells import UNKNOWN, Address, Kept, Member, Variable, functions_of, may_be_same
 from .ctext import Tokens
 from .facts import Facts
-from .holds import Holds
+from .holds import Holds, Parts
 from .places import FunctionId, Place
 from .records import Call, ExpressionCall
 from .tables import Idioms
@@ -40,7 +40,7 @@ class Handing:
     members: list[Member] = field(default_factory=list)
     makers: list[str] = field(default_factory=list)
     # of each argument the values that it names, and the cells that it reads
-    arguments: list[tuple[set[Value], set[Cell]]] = field(default_factory=list)
+    arguments: list[Parts] = field(default_factory=list)
 
 
 class CallGraph:
@@ -56,6 +56,8 @@ class CallGraph:
             (call, Call(call.place, ctext.joined(call.callee), call.arguments)) for call in facts.expression_calls
         ]
         self.by_variable = [call for call in facts.calls if self.is_of_variable(call)]
+        # each call that was added, by what it is of, and how it calls
+        self.added: set[tuple[FunctionId, int, str]] = set()
         # of each caller, the functions that it calls, and all the calls by which it does
         self.edges: dict[FunctionId, dict[FunctionId, list[Edge]]] = collections.defaultdict(dict)
         # calls by a pointer whose functions aren't in the files
@@ -89,13 +91,13 @@ class CallGraph:
 
     def add(self, place: Place, function: FunctionId, arguments: list[Tokens], how: str, call: Call) -> int:
         """Notes a call, and what its parameters may hold. Answers 1 where it is new."""
-        if function not in self.facts.definitions:
+        definition = self.facts.definitions.get(function)
+        key = function, id(call), how
+        if definition is None or key in self.added:
             return 0
-        edges = self.edges[place.id].setdefault(function, [])
-        if any(edge.how == how and edge.call is call for edge in edges):
-            return 0
-        edges.append(Edge(place, how, call))
-        for parameter, argument in zip(self.facts.definitions[function].parameters, arguments):
+        self.added.add(key)
+        self.edges[place.id].setdefault(function, []).append(Edge(place, how, call))
+        for parameter, argument in zip(definition.parameters, arguments):
             if parameter:
                 self.holds.flow_into_parameter(function, parameter, place, argument)
         return 1
@@ -108,8 +110,8 @@ class CallGraph:
     def add_kept(self) -> None:
         """percpu_ref_init(&ref, release, ..): who puts &ref may call `release`."""
         for maker, _ in self.idioms.kept:
-            for call in self.facts.calls:
-                if call.name == maker and len(call.arguments) > 1:
+            for call in self.facts.calls_named.get(maker, ()):
+                if len(call.arguments) > 1:
                     for value in self.holds.values(call.place, call.arguments[0]):
                         if isinstance(value, Address):
                             self.holds.flow(Kept(maker, value.cell), call.place, call.arguments[1])

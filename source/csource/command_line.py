@@ -11,11 +11,10 @@ import signal
 import sys
 from typing import Any, NoReturn, Optional
 
-from . import audit, audit_text, draft, draft_text, drift, drift_text, outputs, program, scan_options
+from . import outputs, program, scan_options
 from .declaration import Declaration
 from .extract import ExtractError, Extractor, default_cache
 from .faults import Fault
-from .named_module import chosen_for
 from .names import from_top
 from .progress import Progress
 from .tables import TableError
@@ -174,6 +173,9 @@ def declared(path: str) -> Declaration:
 
 
 def run_audit(words: argparse.Namespace, extractor: program.ReadsFacts) -> int:
+    # (each verb imports what it needs alone: that is a tenth of the time that it takes)
+    from . import audit, audit_text
+
     declaration = declared(words.decl)
     files = files_of(words.tree, words.files, declaration)
     found = audit.Audit(
@@ -187,6 +189,8 @@ def run_audit(words: argparse.Namespace, extractor: program.ReadsFacts) -> int:
 
 
 def run_drift(words: argparse.Namespace, extractor: program.ReadsFacts) -> int:
+    from . import drift, drift_text
+
     declaration = declared(words.decl)
     if not words.new.is_dir():
         raise Fault(f"{words.new}: no such folder")
@@ -210,6 +214,8 @@ def run_drift(words: argparse.Namespace, extractor: program.ReadsFacts) -> int:
 
 
 def run_draft(words: argparse.Namespace, extractor: program.ReadsFacts) -> int:
+    from . import draft, draft_text
+
     if not words.files:
         for name in words.only:
             if pathlib.PurePath(name).suffix in outputs.SOURCES:
@@ -245,12 +251,13 @@ def main() -> NoReturn:
     extractor: program.ReadsFacts = coccinelle if words.facts == "coccinelle" else reader
     try:
         if words.verb == "scan":
-            # (what it needs and no other verb does takes a quarter of the time in which these begin)
             from . import scan_command
 
             status = scan_command.run(words, reader)
         else:
             if getattr(words, "module", None):
+                from .named_module import chosen_for
+
                 words.files = chosen_for(words.tree, words.module, reader).files
             status = VERBS[words.verb](words, extractor)
         sys.stdout.flush()

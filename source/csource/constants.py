@@ -1,23 +1,28 @@
 """Whether constants among the arguments exclude a way: f(.., 1), where f calls on only `if (!on_wq)`."""
 
 import collections
+import itertools
+import math
 import re
 from dataclasses import dataclass
-from typing import Iterator, Optional
+from typing import Iterator, Optional, Sequence
 
 from . import ctext
 from .calls import DIRECT, Edge
 from .ctext import Tokens
 from .places import FunctionId
 from .program import Program
+from .reach import Follows, everywhere
+from .records import Call
 from .sites import Site
-from .token_facts import TokenFacts
 
 CONSTANT = re.compile(r"-?\d\w*|[A-Z][A-Z0-9_]*|true|false|NULL")
 FALSE = ("0", "false", "NULL")
 MOST_STEPS = 8
 # So many functions, each with its arguments, are looked at.
 MOST_STATES = 20000
+# A call may hand over so many constants, if its arguments have `?:`.
+MOST_ALTERNATIVES = 64
 
 # The constants that parameters have, each as the words of an expression: A, or A | B.
 Known = frozenset[tuple[str, tuple[str, ...]]]
@@ -105,7 +110,8 @@ def equals(constant: tuple[str, ...], other: str) -> Optional[bool]:
 class Ways:
     """Ways along direct calls that the constants among the arguments admit."""
 
-    def __init__(self, program: Program, facts: TokenFacts) -> None:
+    def __init__(self, program: Program) -> None:
+        facts = program.facts
         self.program = program
         self.guards = facts.guards
         times = collections.Counter((place.id, left[0]) for place, left, _ in facts.assignments if len(left) == 1)
@@ -117,9 +123,11 @@ class Ways:
 
     def known_in(self, edge: Edge, called: FunctionId, known: Known) -> Known:
         """The constants that the parameters of a called function have."""
-        definition, here = self.program.facts.definitions[called], dict(known)
+        return self.handed(edge.call.arguments, called, dict(known))
+
+    def handed(self, arguments: Sequence[Tokens], called: FunctionId, here: dict[str, tuple[str, ...]]) -> Known:
         found = []
-        for parameter, argument in zip(definition.parameters, edge.call.arguments):
+        for parameter, argument in zip(self.program.facts.definitions[called].parameters, arguments):
             constant = self.constant(argument, here)
             if constant and parameter and not self.is_assigned(called, parameter):
                 found.append((parameter, constant))
@@ -147,8 +155,17 @@ class Ways:
             if guard.first <= line <= guard.last
         )
 
-    def leads_to(self, item: FunctionId, site: Site) -> Optional[list[Edge]]:
-        """The shortest way from an item to a site that the constants admit. None if there is none."""
+    def may_get_to(self, call: Call, called: FunctionId, line: int) -> bool:
+        """Whether the constants among the arguments of a call admit a line of the function that it calls. `c ? A : B` is
+        once A, and once B."""
+        ways = [ctext.alternatives(words) for words in call.arguments]
+        if math.prod(map(len, ways)) > MOST_ALTERNATIVES:
+            return True
+        return any(self.admits(called, line, self.handed(way, called, {})) for way in itertools.product(*ways))
+
+    def leads_to(self, item: FunctionId, site: Site, follows: Follows = everywhere) -> Optional[list[Edge]]:
+        """The shortest way from an item to a site that the constants admit, along calls that `follows` admits, too. None
+        if there is none."""
         start = (item, frozenset())
         back: dict = {start: None}
         waiting = collections.deque([start])
@@ -157,17 +174,17 @@ class Ways:
             function, known = state
             if function == site.id and any(self.admits(function, line, known) for line in site.lines):
                 return self.path(back, state)
-            for called, edge in self.calls(function, known):
+            for called, edge in self.calls(function, known, follows):
                 further = (called, self.known_in(edge, called, known))
                 if further not in back:
                     back[further] = (state, edge)
                     waiting.append(further)
         return None
 
-    def calls(self, function: FunctionId, known: Known) -> Iterator[tuple[FunctionId, Edge]]:
+    def calls(self, function: FunctionId, known: Known, follows: Follows) -> Iterator[tuple[FunctionId, Edge]]:
         for called, edges in self.program.graph.edges.get(function, {}).items():
             for edge in edges:
-                if edge.how == DIRECT and self.admits(function, edge.place.line, known):
+                if edge.how == DIRECT and self.admits(function, edge.place.line, known) and follows(edge):
                     yield called, edge
 
     @staticmethod

@@ -6,6 +6,7 @@ from typing import Iterator
 
 from .backstop import Missed, missed_calls
 from .calls import DIRECT, Edge
+from .doubts import CONSTANT, Doubts
 from .items import Item
 from .places import FunctionId, Place
 from .program import Ends, Program
@@ -33,6 +34,8 @@ class Open:
     site: Site
     ends: Ends
     ways: dict[FunctionId, list[Edge]] = field(default_factory=dict)
+    # why it is no line, though its target is known
+    doubts: set[str] = field(default_factory=set)
 
     @property
     def targets(self) -> list[FunctionId]:
@@ -56,6 +59,8 @@ MANY = 4
 # How an edge leads from the cancel of an item to its function: who cancels waits while that runs.
 CANCEL = "cancel"
 
+Stage = tuple[FunctionId, Site]
+
 
 def is_direct(path: list[Edge]) -> bool:
     return all(edge.how in (DIRECT, CANCEL) for edge in path)
@@ -66,6 +71,7 @@ class Draft:
 
     def __init__(self, program: Program, only: list[str]) -> None:
         self.program = program
+        self.doubts = Doubts(program)
         self.items = [function for function in program.items.items if not only or function.name in only]
         self.missing = [name for name in only if not any(function.name == name for function in self.items)]
         self.lines: list[Line] = []
@@ -79,23 +85,38 @@ class Draft:
 
     def take(self, function: FunctionId) -> None:
         """The sites in reach of an item: each becomes a line, or stays open."""
-        for site, path in self.waits_of(function, {function}):
+        for site, path, stages in self.waits_of(function, {function}):
             line = self.line(function, site, path) if is_direct(path) else None
-            if line is not None:
+            doubts = self.doubts_of(line, stages) if line is not None else set()
+            if line is not None and not doubts:
                 self.lines.append(line)
             else:
                 is_network = self.program.tables.waits.is_network(site.key.call)
                 to = self.of_network if is_network else self.open
                 one = to.setdefault(site.key, Open(site, self.program.ends(site)))
                 one.ways.setdefault(function, path)
+                one.doubts |= doubts
 
-    def waits_of(self, function: FunctionId, seen: set[FunctionId]) -> Iterator[tuple[Site, list[Edge]]]:
-        """The sites in reach of an item, each with the way there. A cancel of an item stands for the sites of that."""
+    def doubts_of(self, line: Line, stages: list[Stage]) -> set[str]:
+        """Why a line may not happen. If its way is one that can't, it gets one that can, if there is one."""
+        found = self.doubts.of_own(line.item, line.site, tuple(line.path))
+        for workqueue in line.site.workqueues if line.word == "flushwq" else ():
+            found |= self.doubts.of_workqueue(line.item, line.site, workqueue, len(stages) == 1)
+        ways = [self.doubts.way(item, site) for item, site in stages] if not found else []
+        if None in ways:
+            found.add(CONSTANT)
+        elif len(ways) == 1:
+            line.path = ways[0] or []
+        return found
+
+    def waits_of(self, function: FunctionId, seen: set[FunctionId]) -> Iterator[tuple[Site, list[Edge], list[Stage]]]:
+        """The sites in reach of an item, each with the way there. A cancel of an item stands for the sites of that: then
+        the way has several stages, from the item to the cancel, and from what it cancels to the site."""
         reached = self.program.sleeps[function]
         for site in sorted(self.program.sites_of(reached), key=lambda site: (site.key.file, site.lines)):
             path = path_to(reached, site.id)
             if site.kind != "cancel" or not site.targets or function in site.targets:
-                yield site, path
+                yield site, path, [(function, site)]
                 continue
             self.cancels[site.key] = site
             how = CANCEL if len(site.targets) == 1 else f"~{site.key.call}"
@@ -103,8 +124,8 @@ class Draft:
             edge = Edge(place, how, Call(place, site.key.call, []))
             for target in sorted(site.targets - seen):
                 seen.add(target)
-                for inner, way in self.waits_of(target, seen):
-                    yield inner, [*path, edge, *way]
+                for inner, way, stages in self.waits_of(target, seen):
+                    yield inner, [*path, edge, *way], [(function, site), *stages]
 
     def line(self, function: FunctionId, site: Site, path: list[Edge]) -> "Line | None":
         """The line for a site, if its target is known. An item that waits for itself is left to the reader."""

@@ -232,6 +232,8 @@ class Printer:
         items = sorted(one.ways, key=lambda function: (len(one.ways[function]), function))
         first = f"{self.name(items[0])}{self.way(one.ways[items[0]])}"
         self.comment(f"in reach of {first}" + (f"; and of {self.names(items[1:])}" if items[1:] else ""))
+        if one.doubts:
+            self.comment(f"not sure: {'; '.join(sorted(one.doubts))}")
         for text in layers.known().elsewhere(site.key.call, self.program.facts.files):
             self.comment(text)
         if site.workqueues:

@@ -1,6 +1,5 @@
 """Runs Coccinelle on C files, and keeps what it finds in a cache, by what is in the file."""
 
-import concurrent.futures
 import hashlib
 import os
 import pathlib
@@ -54,6 +53,9 @@ class Extractor:
     def extract_all(self, tree: pathlib.Path, files: list[str], kept: dict[str, pathlib.Path]) -> None:
         if shutil.which("spatch") is None:
             raise ExtractError("spatch isn't on the PATH. It is Coccinelle's: apt-get install coccinelle")
+        # (most commands need none of these, and to import them takes a while)
+        import concurrent.futures
+
         # (long files first, so that none is left alone at the end)
         files = sorted(files, key=lambda file: -(tree / file).stat().st_size)
         with concurrent.futures.ThreadPoolExecutor(self.jobs) as pool:

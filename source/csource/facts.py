@@ -1,16 +1,19 @@
 """What Coccinelle says of C files, put together: definitions, calls, assignments, types."""
 
 import collections
+import functools
 import pathlib
 import posixpath
 import re
-from typing import Optional
+from typing import Iterable, Optional
 
 from . import ctext
 from .ctext import Tokens
+from .guards import Guard
 from .initialisers import initialised
 from .loops import is_in_loop
 from .macros import macros_of
+from .named_calls import called_in
 from .places import FunctionId, Place
 from .records import Assignment, Call, Definition, ExpressionCall, Initialiser, PointerCall, Return
 from .structs import Structs, declared, struct_in
@@ -20,6 +23,7 @@ OUTSIDE = "something_else"
 UNKNOWN_TYPES = ("", "void", "unknown")
 
 
+@functools.cache
 def struct_name(text: str) -> str:
     """The name of a type without `struct`, stars and the like."""
     name = re.sub(r"\b(struct|const|volatile|union)\b|\*", "", text).strip()
@@ -59,6 +63,7 @@ class Facts:
         self.spans: dict[FunctionId, list[tuple[int, int]]] = collections.defaultdict(list)
         self.spans_in: dict[str, list[tuple[int, int, str]]] = collections.defaultdict(list)
         self.named: dict[str, list[FunctionId]] = collections.defaultdict(list)
+        self.resolved: dict[tuple[str, str], list[FunctionId]] = {}
         self.calls: list[Call] = []
         self.pointer_calls: list[PointerCall] = []
         self.assignments: list[Assignment] = []
@@ -67,12 +72,14 @@ class Facts:
         self.expression_calls: list[ExpressionCall] = []
         # (macro, which of its parameters, struct): it declares a variable by this name
         self.declared_by: list[tuple[str, int, str]] = []
+        # conditions of parameters, around lines of a function: the reader of tokens says them
+        self.guards: dict[FunctionId, list[Guard]] = collections.defaultdict(list)
         # what Coccinelle says itself of the struct of a member: (file, function, base, member)
         self.said: dict[tuple[str, str, str, str], str] = {}
         self.locals: set[tuple[str, str, str]] = set()
         self.globals: set[str] = set()
         for file in self.files:
-            facts = [line.split("\t") for line in dict.fromkeys(lines[file])]
+            facts = [line.split("\t") for line in dict.fromkeys(self.taken(lines[file]))]
             for words in sorted(facts, key=lambda words: (int(words[1]), int(words[2]))):
                 self.take(file, words)
         for file in self.files:
@@ -93,6 +100,10 @@ class Facts:
         """The structs that the files and their headers define, and of which of them an expression is."""
         structs = Structs(self.tree, self.texts)
         return structs, Types(structs)
+
+    def taken(self, lines: list[str]) -> Iterable[str]:
+        """The lines of facts that `take` heeds."""
+        return lines
 
     def take(self, file: str, words: list[str]) -> None:
         """One line of facts."""
@@ -137,6 +148,7 @@ class Facts:
     def define(self, place: Place, name: str, parameters: list[str]) -> None:
         is_local = place.file.endswith(".c") and self.is_static(place)
         function = FunctionId(place.file, name)
+        self.resolved.clear()
         if function not in self.definitions:
             self.named[name].append(function)
         self.definitions[function] = Definition(place, parameters, is_local)
@@ -191,6 +203,10 @@ class Facts:
                     self.locals.add((file, place.function, one.member))
                 else:
                     self.globals.add(one.member)
+
+    def called_in(self, file: str) -> Iterable[tuple[str, int]]:
+        """What a file calls by its text alone: names, with their lines."""
+        return called_in(self.texts[file])
 
     def is_in_loop(self, place: Place) -> bool:
         """Whether a place is in a loop of its function."""
@@ -288,6 +304,12 @@ class Facts:
 
     def resolve(self, file: str, name: str) -> list[FunctionId]:
         """The functions that this name may stand for in a file: its own, or else those that other files show."""
+        found = self.resolved.get((file, name))
+        if found is None:
+            found = self.resolved[file, name] = self.find_resolved(file, name)
+        return found
+
+    def find_resolved(self, file: str, name: str) -> list[FunctionId]:
         own = FunctionId(file, name)
         if own in self.definitions:
             return [own]

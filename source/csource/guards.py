@@ -1,6 +1,6 @@
 """Lines of a function that run only if its parameters have some value: `if (!on_wq) {..}`, `if (flags & A) return;`."""
 
-from typing import NamedTuple
+from typing import Iterator, NamedTuple
 
 from .ctext import Tokens
 from .sink import Sink
@@ -45,6 +45,7 @@ class Guards:
     def branches(self, at: int, end: int, parameters: set[str]) -> int:
         """An `if`. Answers where to go on: behind it."""
         close = self.source.closed_by[at + 1]
+        self.within(at + 2, close, parameters)
         then_end = self.statement_end(close + 1, end)
         self.say(at + 2, close, close + 1, then_end, True, parameters)
         self.read(close + 1, then_end, parameters)
@@ -56,6 +57,40 @@ class Guards:
         if self.jumps(close + 1, then_end):
             self.say(at + 2, close, then_end, end, False, parameters)
         return then_end
+
+    def within(self, start: int, end: int, parameters: set[str]) -> None:
+        """The condition itself: in `a && f()` the call is made only if a holds, in `a || f()` only if it doesn't."""
+        mark = "||" if "||" in self.outer(start, end) else "&&"
+        at = start
+        for first, last in self.parts(start, end, mark):
+            if not self.is_simple(self.words[first:last], parameters):
+                break
+            at = last + 1
+        # (what is behind `||` is on lines of its own: a body on the same line runs if `a` holds, too)
+        is_apart = mark == "&&" or self.source.lines[end - 1] < self.source.lines[min(end + 1, len(self.words) - 1)]
+        if start < at < end and is_apart:
+            self.say(start, at - 1, at, end, mark == "&&", parameters)
+
+    def outer(self, start: int, end: int) -> Tokens:
+        """The words between two tokens that are in no brackets."""
+        found, at = [], start
+        while at < end:
+            found.append(self.words[at])
+            at = self.behind(at, end)
+        return found
+
+    def parts(self, start: int, end: int, mark: str) -> Iterator[tuple[int, int]]:
+        """What stands between these marks outside brackets: from, to."""
+        first = at = start
+        while at < end:
+            if self.words[at] == mark:
+                yield first, at
+                first = at + 1
+            at = self.behind(at, end)
+        yield first, end
+
+    def behind(self, at: int, end: int) -> int:
+        return min(self.source.behind[at], end)
 
     def statement_end(self, at: int, end: int) -> int:
         """The index behind the statement that begins here."""
@@ -93,16 +128,20 @@ class Guards:
         )
 
     @staticmethod
-    def tests(condition: Tokens, parameters: set[str]) -> bool:
-        """Whether one of the parts between `&&` and `||` is of parameters and constants alone."""
+    def is_simple(part: Tokens, parameters: set[str]) -> bool:
+        """Whether it is of parameters and constants alone."""
+        calls = any(is_word(part[at]) and part[at + 1] == "(" for at in range(len(part) - 1))
+        is_plain = all(word in OPERATORS or is_word(word) or word[0].isdigit() for word in part)
+        return is_plain and not calls and any(word in parameters for word in part)
+
+    def tests(self, condition: Tokens, parameters: set[str]) -> bool:
+        """Whether one of the parts between `&&` and `||` is such."""
         part: Tokens = []
         for word in [*condition, "&&"]:
             if word not in AND_OR:
                 part.append(word)
                 continue
-            calls = any(is_word(part[at]) and part[at + 1] == "(" for at in range(len(part) - 1))
-            is_simple = all(word in OPERATORS or is_word(word) or word[0].isdigit() for word in part)
-            if is_simple and not calls and any(word in parameters for word in part):
+            if self.is_simple(part, parameters):
                 return True
             part = []
         return False

@@ -1,14 +1,29 @@
 """The headers that files include, and the types that these define."""
 
+import hashlib
 import os
 import pathlib
 import posixpath
 import re
 from typing import Iterable, Iterator, Optional
 
-INCLUDE = re.compile(r'^[ \t]*#[ \t]*include[ \t]+([<"])([^>"]+)[>"]', re.M)
+INCLUDE = re.compile(rb'[ \t]*#[ \t]*include[ \t]+([<"])([^>"]+)[>"]')
+WORD = b"include"
 # Where a header of the kernel may be, from the top of the tree. (Which architecture it is doesn't matter here.)
 FOLDERS = ("include", "include/uapi", "arch/x86/include")
+
+
+def included(data: bytes) -> Iterator[tuple[str, str]]:
+    """Each name that a text includes, with the mark before it: `<` or `"`. (Most lines have no such word: to look for it
+    first is several times as fast as to try the pattern at each.)"""
+    at, end = data.find(WORD), 0
+    while at >= 0:
+        start = data.rfind(b"\n", 0, at) + 1
+        match = INCLUDE.match(data, start) if start >= end else None
+        if match:
+            end = match.end()
+            yield match[1].decode(), match[2].decode(errors="replace")
+        at = data.find(WORD, max(at + len(WORD), end))
 
 
 class Includes:
@@ -18,6 +33,7 @@ class Includes:
         self.tree = tree
         self.there: dict[str, bool] = {}
         self.named: dict[str, list[tuple[str, str]]] = {}
+        self.digests: dict[str, bytes] = {}
         # what a name means in a folder: many headers include the same ones
         self.meant: dict[tuple[str, str], Optional[str]] = {}
 
@@ -27,10 +43,22 @@ class Includes:
         return self.there[file]
 
     def names_in(self, file: str) -> list[tuple[str, str]]:
-        """Each name that a file includes, with the mark before it: `<` or `"`."""
+        """Each name that a file includes, with the mark before it."""
         if file not in self.named:
-            self.named[file] = INCLUDE.findall((self.tree / file).read_text(errors="replace"))
+            self.look_into(file)
         return self.named[file]
+
+    def digest(self, file: str) -> bytes:
+        """That of what is in a file."""
+        if file not in self.digests:
+            self.look_into(file)
+        return self.digests[file]
+
+    def look_into(self, file: str) -> None:
+        with open(os.path.join(self.tree, file), "rb") as opened:
+            data = opened.read()
+        self.named[file] = list(included(data))
+        self.digests[file] = hashlib.sha256(data).digest()
 
     def of(self, file: str) -> Iterator[str]:
         """The files that one includes, as far as the tree has them."""

@@ -5,7 +5,7 @@ may always be held. A member is one cell for all structs of its type.
 """
 
 import collections
-from typing import Iterable, Optional
+from typing import AbstractSet as Set, Iterable, Optional
 
 from . import ctext
 from .cells import UNKNOWN, Address, Cell, Function, Global, Member, Result, Value, Variable, Workqueue
@@ -14,6 +14,10 @@ from .facts import Facts
 from .places import FunctionId, Place
 from .tables import OLD_NAMES, SYSTEM_WORKQUEUE, Waits
 from .wrapped import Wrapped
+
+# The values that an expression names, and the cells that it reads.
+Parts = tuple[Set[Value], Set[Cell]]
+NOTHING: Parts = (frozenset(), frozenset())
 
 
 class Holds:
@@ -27,6 +31,7 @@ class Holds:
         self.flows_to: dict[Cell, set[Cell]] = collections.defaultdict(set)
         self.changed: list[Cell] = []
         self.of_member: dict[str, set[Member]] = collections.defaultdict(set)
+        self.of_words: dict[tuple[str, str], Parts] = {}
         self.take_facts()
         self.settle()
 
@@ -86,11 +91,12 @@ class Holds:
         self.of_member[member.name].add(member)
         return member
 
-    def parts(self, place: Place, words: Tokens) -> tuple[set[Value], set[Cell]]:
+    def parts(self, place: Place, words: Tokens) -> Parts:
         """What an expression is: values that it names, and cells that it reads."""
-        words = ctext.bare(words)
+        if words and words[0] == "(":
+            words = ctext.bare(words)
         if len(words) < 2:
-            return self.parts_of_word(place, words[0]) if words and ctext.is_name(words[0]) else (set(), set())
+            return self.parts_of_word(place, words[0]) if words and ctext.is_name(words[0]) else NOTHING
         branches = self.branches(words)
         if branches:
             both = [self.parts(place, branch) for branch in branches]
@@ -100,18 +106,25 @@ class Holds:
         pointer = self.wrapped.pointer(place, words)
         read = pointer if pointer is not None else words if named is None else None
         cell = self.cell(place, read) if read is not None else None
-        return named or set(), {cell} if cell is not None else set()
+        return named or set(), {cell} if cell is not None else frozenset()
 
-    def parts_of_word(self, place: Place, name: str) -> tuple[set[Value], set[Cell]]:
+    def parts_of_word(self, place: Place, name: str) -> Parts:
         """The same of a single name, as most are."""
         if self.facts.is_local(place, name):
-            return set(), {Variable(place.file, place.function, name)}
-        functions: set[Value] = {Function(function) for function in self.facts.resolve(place.file, name)}
+            return frozenset(), {Variable(place.file, place.function, name)}
+        key = place.file, name
+        if key not in self.of_words:
+            self.of_words[key] = self.parts_of_global(*key)
+        return self.of_words[key]
+
+    def parts_of_global(self, file: str, name: str) -> Parts:
+        """Of one that is no variable of a function."""
+        functions = frozenset(map(Function, self.facts.resolve(file, name)))
         if functions:
-            return functions, set()
+            return functions, frozenset()
         if SYSTEM_WORKQUEUE.match(name):
-            return {Workqueue(OLD_NAMES.get(name, name))}, set()
-        return set(), {Global(name)}
+            return frozenset({Workqueue(OLD_NAMES.get(name, name))}), frozenset()
+        return frozenset(), frozenset({Global(name)})
 
     @staticmethod
     def branches(words: Tokens) -> Optional[tuple[Tokens, Tokens]]:
@@ -160,11 +173,15 @@ class Holds:
     def flow(self, to: Cell, place: Place, words: Tokens) -> None:
         """`to` may hold what the expression is."""
         values, cells = self.parts(place, words)
-        self.add(to, values)
+        if values:
+            self.add(to, values)
         for cell in cells:
-            if cell != to and to not in self.flows_to[cell]:
-                self.flows_to[cell].add(to)
-                self.add(to, self.held[cell])
+            flows_to = self.flows_to[cell]
+            if cell != to and to not in flows_to:
+                flows_to.add(to)
+                held = self.held.get(cell)
+                if held:
+                    self.add(to, held)
 
     def flow_into_parameter(self, function: FunctionId, parameter: str, place: Place, words: Tokens) -> None:
         self.flow(Variable(function.file, function.name, parameter), place, words)
@@ -197,9 +214,9 @@ class Holds:
     def values(self, place: Place, words: Tokens) -> set[Value]:
         return self.values_of(*self.parts(place, words))
 
-    def values_of(self, values: set[Value], cells: set[Cell]) -> set[Value]:
+    def values_of(self, values: Set[Value], cells: Set[Cell]) -> set[Value]:
         """What an expression may be that names these values and reads these cells."""
-        return values.union(*[self.lookup(cell) for cell in cells])
+        return set(values).union(*[self.lookup(cell) for cell in cells])
 
     def objects(self, place: Place, words: Tokens) -> frozenset[Address]:
         """The objects that a pointer may point to; where none is known, what the pointer itself is."""

@@ -73,7 +73,7 @@ class Items:
             return
         functions: list[FunctionId] = []
         works: set[Address] = set()
-        for words in call.arguments:
+        for words in [self.holds.wrapped.inside(call.place, words) for words in call.arguments]:
             values = self.holds.values(call.place, words)
             here = [function for function in functions_of(values) if function in self.facts.definitions]
             if here:

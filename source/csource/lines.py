@@ -1,16 +1,15 @@
 """The waits of a program's items, each as sure or unsure: what `scan` asks `wqplan` about."""
 
 import collections
-import functools
 from dataclasses import dataclass, field
 from typing import Iterator, Optional
 
 from . import instances
-from .calls import DIRECT, Edge
+from .calls import Edge
+from .doubts import Doubts
 from .places import FunctionId
 from .program import Ended, Program
-from .reach import Reached, path_to, reached_from
-from .references import drops_one_it_took, keeps_references, undoes_one_it_made
+from .reach import path_to
 from .sites import TARGETED, Site
 from .ways import Tables, all_direct, reached_by_item
 
@@ -22,14 +21,6 @@ END_BY_POINTER = "its end is called by a pointer"
 TIMEOUT = "a time passes"
 OWN_KIND = "the own kind"
 ITSELF = "it would wait for itself"
-CONSTANT = "the arguments exclude it"
-OWN_END = "it would end its own workqueue"
-MADE_HERE = "it was made in the same function"
-LAST_REFERENCE = "the last reference is dropped on the way"
-OWN_REFERENCE = "a reference is dropped that was taken there"
-OWN_OBJECT = "what is undone was made there"
-
-ENDS_WORKQUEUE = "destroy"
 
 
 @dataclass(frozen=True)
@@ -60,7 +51,7 @@ class Lines:
 
     def __init__(self, program: Program, tables: Tables) -> None:
         self.program = program
-        self.reached_without_own = functools.cache(self.find_without_own)
+        self.doubts = Doubts(program)
         self.waits: list[Wait] = []
         self.cancels: list[Wait] = []
         # sites whose end isn't known, of each item
@@ -81,7 +72,7 @@ class Lines:
         if "timeout" in site.key.call:
             doubts.add(TIMEOUT)
         if not doubts:
-            doubts |= self.doubts_of_own(item, site, path)
+            doubts |= self.doubts.of_own(item, site, path)
         if site.kind == "flushwq":
             yield from self.for_workqueues(item, site, path, doubts)
         elif site.kind in TARGETED:
@@ -89,41 +80,12 @@ class Lines:
         else:
             yield from self.for_ends(item, site, path, doubts)
 
-    def doubts_of_own(self, item: FunctionId, site: Site, path: tuple[Edge, ...]) -> set[str]:
-        """Whether each way there drops a reference that the function took itself, or undoes what it made."""
-        found = set().union(*map(self.what_is_own, path))
-        return found if found and site.id not in self.reached_without_own(item) else set()
-
-    def what_is_own(self, edge: Edge) -> set[str]:
-        """What a call does to an object that is its function's own."""
-        facts = self.program.facts
-        drops = {OWN_REFERENCE} if drops_one_it_took(facts, edge) else set()
-        return drops | ({OWN_OBJECT} if undoes_one_it_made(facts, edge) else set())
-
-    def find_without_own(self, item: FunctionId) -> Reached:
-        """By direct calls that do nothing of the kind."""
-        return reached_from(self.program.graph, item, lambda edge: edge.how == DIRECT and not self.what_is_own(edge))
-
     def for_workqueues(self, item: FunctionId, site: Site, path: tuple[Edge, ...], doubts: set[str]) -> Iterator[Wait]:
         several = {SEVERAL} if len(site.workqueues) > 1 else set()
         for workqueue in sorted(site.workqueues):
             if self.program.items.items_on({workqueue}):
-                why = doubts | several | self.doubts_of_an_end(item, site, workqueue, all_direct(list(path)))
+                why = doubts | several | self.doubts.of_workqueue(item, site, workqueue, all_direct(list(path)))
                 yield Wait(item, None, workqueue, "flushwq", site, path, frozenset(why))
-
-    def doubts_of_an_end(self, item: FunctionId, site: Site, workqueue: str, is_direct: bool) -> set[str]:
-        """Of a call that ends a workqueue. On that of the item itself it would hang each time, with memory or without:
-        then somebody else makes it. Where it was just made, nothing is queued yet. Behind the last reference no item is
-        left that holds one."""
-        if ENDS_WORKQUEUE not in site.key.call:
-            return set()
-        found = {OWN_END} if workqueue in self.program.item(item).workqueues else set()
-        made = self.program.workqueues.made.get(workqueue)
-        if made is not None and made.call.place.id == site.id:
-            found.add(MADE_HERE)
-        if is_direct and site.id not in reached_from(self.program.graph, item, keeps_references):
-            found.add(LAST_REFERENCE)
-        return found
 
     def for_targets(self, item: FunctionId, site: Site, path: tuple[Edge, ...], doubts: set[str]) -> Iterator[Wait]:
         several = {SEVERAL} if len(site.targets) > 1 else set()

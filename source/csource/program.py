@@ -68,7 +68,7 @@ class Program:
                 self.reached_by[function].add(item)
 
     def may_sleep(self, edge: Edge) -> bool:
-        return not (edge.how.startswith("~") and self.tables.idioms.is_atomic(edge.how[1:]))
+        return edge.how[0] != "~" or not self.tables.idioms.is_atomic(edge.how[1:])
 
     def item(self, function: FunctionId) -> Item:
         return self.items.items[function]

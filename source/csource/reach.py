@@ -16,6 +16,7 @@ class Step(NamedTuple):
 
 Reached = dict[FunctionId, Optional[Step]]
 Follows = Callable[[Edge], bool]
+NONE: dict[FunctionId, list[Edge]] = {}
 
 
 def everywhere(_: Edge) -> bool:
@@ -33,12 +34,14 @@ def reached_from(
     waiting = collections.deque([start])
     while waiting:
         caller = waiting.popleft()
-        for function, edges in graph.edges.get(caller, {}).items():
-            is_new = function not in reached and function not in closed
-            edge = next(filter(follows, edges), None) if is_new else None
-            if edge is not None:
-                reached[function] = Step(caller, edge)
-                waiting.append(function)
+        for function, edges in graph.edges.get(caller, NONE).items():
+            if function in reached or function in closed:
+                continue
+            for edge in edges:
+                if follows(edge):
+                    reached[function] = Step(caller, edge)
+                    waiting.append(function)
+                    break
     return reached
 
 

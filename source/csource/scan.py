@@ -14,12 +14,12 @@ from typing import Iterable, Iterator, Optional
 
 from . import ctext, ranks
 from .choose import Chooser, Chosen
-from .constants import Ways
 from .facts import Facts
 from .kbuild import Module
 from .layers import Layers
 from .lexer import without_comments
-from .lines import BY_POINTER, CONSTANT, Lines, Wait
+from .doubts import CONSTANT
+from .lines import BY_POINTER, Lines, Wait
 from .makers import VARIABLE, Maker, makers_of
 from .places import FunctionId
 from .program import Program, Tables
@@ -34,6 +34,11 @@ from .ways import Tables as OperationTables
 HANGS, NO_RESCUER = "hangs", "no rescuer"
 # A unit with more files than this is read with its own files alone.
 MOST_FILES = 700
+
+
+def name_of(module: str) -> str:
+    """That of a module, without its folder."""
+    return module.rpartition("/")[2]
 
 
 @dataclass(frozen=True)
@@ -65,7 +70,7 @@ class Row:
     @property
     def identity(self) -> tuple[str, ...]:
         """What a verdict is kept by: no line, and no folder, for modules are moved."""
-        return self.module.rpartition("/")[2], self.workqueue, self.item, self.word, self.target, self.key
+        return name_of(self.module), self.workqueue, self.item, self.word, self.target, self.key
 
 
 @dataclass
@@ -87,12 +92,16 @@ class UnitResult:
     """What was found in a module."""
 
     module: str
-    files: int = 0
+    files: frozenset[str] = frozenset()
     rows: list[Row] = field(default_factory=list)
     workqueues: list[WorkqueueRow] = field(default_factory=list)
     seconds: float = 0.0
     megabytes: int = 0
     error: str = ""
+
+    @property
+    def name(self) -> str:
+        return name_of(self.module)
 
 
 @dataclass
@@ -139,7 +148,8 @@ class TreeScan:
     def include_types(self) -> Types:
         """Those of all headers of include/."""
         headers = sorted((self.tree / "include").rglob("*.h"))
-        return self.extractor.types_together(self.tree, [str(path.relative_to(self.tree)) for path in headers])
+        names = [str(path.relative_to(self.tree)) for path in headers]
+        return self.extractor.types_together(self.tree, names)
 
     def chosen(self, unit: Unit) -> Chosen:
         found = self.chooser.choose(unit.module, lambda _: self.users)
@@ -196,7 +206,7 @@ class UnitScan:
     def with_constants(self, waits: list[Wait]) -> list[Wait]:
         """The waits; one that the constants among the arguments exclude isn't sure, and has another way if there is
         one that they admit."""
-        ways, found = Ways(self.program, self.facts), []
+        ways, found = self.lines.doubts.ways, []
         for wait in waits:
             if wait.is_sure:
                 path = ways.leads_to(wait.item, wait.site)
@@ -214,7 +224,7 @@ class UnitScan:
                 if is_sure:
                     how = HANGS if flush in sure.circles else NO_RESCUER
                 found.rows.append(self.row(flush, how, is_sure))
-        found.files = len(self.files)
+        found.files = frozenset(self.files)
         found.workqueues = list(self.workqueue_rows())
 
     def row(self, flush: Flush, how: str, is_sure: bool) -> Row:

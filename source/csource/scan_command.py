@@ -57,7 +57,7 @@ def run(words: argparse.Namespace, extractor: TokenExtractor) -> int:
     scan = TreeScan(words.tree, extractor, TreeIndex.kept(words.tree, extractor.cache))
     units = selected(scan, [from_top(words.tree, name) for name in words.module])
     results = scanned(scan, units, words)
-    printer = Printer(sys.stdout, survey, results)
+    printer = Printer(sys.stdout, survey, results, not words.module)
     if not words.stale:
         took = divmod(round(time.monotonic() - began), 60)
         printer.note(f"{counts_of_makers(scan.makers, len(units))} {took[0]} min {took[1]} s.")

@@ -30,13 +30,15 @@ def best_of(rows: Iterable[Row]) -> list[Row]:
 class Printer:
     """The results of a scan, beside a survey."""
 
-    def __init__(self, to: TextIO, survey: Survey, results: list[UnitResult]) -> None:
+    def __init__(self, to: TextIO, survey: Survey, results: list[UnitResult], is_whole: bool) -> None:
         self.to = to
         self.survey = survey
         self.results = sorted(results, key=lambda result: result.module)
         self.rows = best_of(row for result in self.results for row in result.rows)
         self.sure = [row for row in self.rows if row.is_sure]
         self.unsure = [row for row in self.rows if not row.is_sure]
+        read = {result.name: result.files for result in results}
+        self.gone = survey.gone(self.rows, None if is_whole else read)
 
     def print(self, unsure: str, only_stale: bool) -> None:
         if only_stale:
@@ -57,7 +59,7 @@ class Printer:
     def is_told(self, only_stale: bool) -> bool:
         """Whether there is something for a reader to do."""
         if only_stale:
-            return any(self.survey.stale(self.rows)) or bool(self.survey.gone(self.rows))
+            return any(self.survey.stale(self.rows)) or bool(self.gone)
         return any(self.survey.of(row).word == UNREAD for row in self.sure)
 
     def note(self, text: str) -> None:
@@ -75,7 +77,7 @@ class Printer:
         words = collections.Counter(self.survey.of(row).word for row in self.sure)
         stale = len(list(self.survey.stale(self.rows)))
         if self.survey.verdicts:
-            gone = len(self.survey.gone(self.rows))
+            gone = len(self.gone)
             self.note(
                 f"read: {words[REAL]} real, {words[CANNOT]} can't happen, {words[ASIDE]} not on the reclaim path; "
                 f"{says.counted(stale, 'verdict')} no longer of their source (--stale), {gone} of waits that are gone"
@@ -85,7 +87,7 @@ class Printer:
         for row, verdict in self.survey.stale(self.rows):
             self.note(f"stale: {verdict}")
             self.print_rows([row])
-        for identity in self.survey.gone(self.rows):
+        for identity in self.gone:
             self.note(f"gone: {' '.join(identity)}: {self.survey.verdicts[identity]}")
 
     def print_depends(self, unsure: str) -> None:

@@ -19,6 +19,8 @@ from .tables import Waits
 SIGNALLED = ("done", "pool")
 TARGETED = ("flush", "cancel", "flushwq")
 SLEEPS = (*TARGETED, "event", "done", "prepare", "pool", "other")
+# Most calls are of none of these: they neither wait nor end a wait.
+NO_SITES = ("none", "never", "item", "queue", "workqueue")
 # So many functions may hand on what is waited for, one to the next.
 MOST_WRAPPERS = 3
 
@@ -105,6 +107,8 @@ class Sites:
         enters = []
         for call in facts.calls:
             kind = waits.kind(call.name)
+            if kind.name in NO_SITES:
+                continue
             words = kind.object_of(call.arguments)
             if kind.name in ("sleep", "poll"):
                 sleeps.append(call)

@@ -11,7 +11,7 @@ functions on its way when the verdict was given: if they are others now, the ver
 import pathlib
 import re
 from dataclasses import dataclass
-from typing import Iterable, Iterator, Optional
+from typing import AbstractSet as Set, Iterable, Iterator, Mapping, Optional
 
 from .faults import Fault
 from .scan import Row
@@ -44,6 +44,11 @@ class Verdict:
 
 
 NOT_READ = Verdict(UNREAD, "")
+
+
+def file_of(identity: Identity) -> str:
+    """The file that a wait is in."""
+    return identity[-1].partition(" ")[0]
 
 
 def identity_text(identity: Identity) -> str:
@@ -88,10 +93,12 @@ class Survey:
             if self.of(row).is_stale(row):
                 yield row, self.of(row)
 
-    def gone(self, rows: Iterable[Row]) -> list[Identity]:
-        """What has a verdict and isn't told any more."""
+    def gone(self, rows: Iterable[Row], read: Optional[Mapping[str, Set[str]]] = None) -> list[Identity]:
+        """What has a verdict and isn't told any more. `read` has the modules that were scanned, where these aren't all,
+        each with its files: of waits of other modules, or in other files, nothing is known then."""
         there = {row.identity for row in rows}
-        return [identity for identity in self.verdicts if identity not in there]
+        is_asked = lambda identity: read is None or file_of(identity) in read.get(identity[0], ())
+        return [identity for identity in self.verdicts if identity not in there and is_asked(identity)]
 
     def text(self, rows: list[Row], is_whole: bool = False) -> str:
         """The file anew: what was read stays, and what is new is unread, with its hash. What was unread and isn't told any

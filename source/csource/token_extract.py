@@ -5,12 +5,13 @@ import os
 import pathlib
 import tempfile
 from dataclasses import dataclass, field
-from typing import Callable
+from typing import Callable, Optional
 
 from . import reader
 from .extract import Extractor
 from .facts import Facts
 from .headers import Includes
+from .named_calls import called_in
 from .progress import Progress
 from .token_facts import TokenFacts
 from .token_types import TYPE_KINDS, Types
@@ -20,6 +21,8 @@ READS = ("lexer.py", "words_of_c.py", "sink.py", "reader.py", "bodies.py", "guar
 VERSION = hashlib.sha256(b"\0".join((HERE / name).read_bytes() for name in READS)).hexdigest()
 # Of what is made of the types that the reader says.
 TOGETHER = hashlib.sha256(b"\0".join((HERE / name).read_bytes() for name in (*READS, "token_types.py"))).hexdigest()
+# Of what a file calls by its text alone.
+CALLS = hashlib.sha256(b"\0".join((HERE / name).read_bytes() for name in ("ctext.py", "named_calls.py"))).hexdigest()
 # What Coccinelle's facts of a file lack, the reader's give.
 KEPT_OF_READER = (*TYPE_KINDS, "LOC", "GRD")
 
@@ -48,8 +51,11 @@ class TokenExtractor:
             self.progress.say(f"reading C: {done} of {len(files)} files")
             lines[file] = self.lines_of(tree, file)
         self.ask_coccinelle(tree, lines)
-        headers = Includes(tree).all_of(lines)
-        return TokenFacts(tree, lines, self.types(tree, lines, headers), headers)
+        includes = Includes(tree)
+        headers = includes.all_of(lines)
+        facts = TokenFacts(tree, lines, self.types(tree, lines, headers, includes), headers)
+        facts.called_in = lambda file: self.called_in(tree, file)
+        return facts
 
     def ask_coccinelle(self, tree: pathlib.Path, lines: dict[str, list[str]]) -> None:
         """Takes Coccinelle's facts of files of which the reader isn't sure."""
@@ -63,16 +69,16 @@ class TokenExtractor:
             own = [line for line in lines[file] if line.startswith(KEPT_OF_READER)]
             lines[file] = theirs + own
 
-    def types(self, tree: pathlib.Path, lines: dict[str, list[str]], headers: list[str]) -> Types:
+    def types(self, tree: pathlib.Path, lines: dict[str, list[str]], headers: list[str], includes: Includes) -> Types:
         """The types that the files define; above them those of all headers that they include."""
-        own = Types(self.types_together(tree, [file for file in headers if file not in lines]))
+        own = Types(self.types_together(tree, [file for file in headers if file not in lines], includes))
         for found in lines.values():
             own.take_lines(found)
         return own
 
-    def types_together(self, tree: pathlib.Path, headers: list[str]) -> Types:
+    def types_together(self, tree: pathlib.Path, headers: list[str], includes: Optional[Includes] = None) -> Types:
         """Those that some headers define. They are kept together as well: each call about a driver has the same ones."""
-        digests = [hashlib.sha256((tree / file).read_bytes()).digest() for file in headers]
+        digests = list(map((includes or Includes(tree)).digest, headers))
         name = hashlib.sha256(b"\0".join([TOGETHER.encode(), *digests])).hexdigest()
         return Types.of_text(self.cached(name, lambda: self.types_one_by_one(tree, headers).text()))
 
@@ -85,6 +91,11 @@ class TokenExtractor:
 
     def lines_of(self, tree: pathlib.Path, file: str) -> list[str]:
         return self.kept(tree / file, "facts", reader.facts_of)
+
+    def called_in(self, tree: pathlib.Path, file: str) -> list[tuple[str, int]]:
+        """What a file calls by its text alone."""
+        lines = self.kept(tree / file, f"called {CALLS}", lambda text: [f"{name}\t{line}" for name, line in called_in(text)])
+        return [(name, int(line)) for name, _, line in (line.partition("\t") for line in lines)]
 
     def types_of(self, tree: pathlib.Path, file: str) -> list[str]:
         """The types that a header defines."""

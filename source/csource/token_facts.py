@@ -14,7 +14,8 @@ from .structs import Structs
 from .token_types import TYPE_KINDS, Expressions, Types
 from .types import Types as TypesOfText
 
-NOT_TAKEN = (*TYPE_KINDS, "ODD")
+# What `take` doesn't heed: the types, but for variables outside functions, and where the reader wasn't sure.
+NOT_TAKEN = ("ODD", *(kind for kind in TYPE_KINDS if kind != "GLB"))
 # A value that stands in an initialiser without a member: the number of its place.
 BY_PLACE = "#"
 
@@ -70,7 +71,6 @@ class TokenFacts(Facts):
     def __init__(self, tree: pathlib.Path, lines: dict[str, list[str]], types: Types, headers: Iterable[str]) -> None:
         self.headers = headers
         self.expressions = Expressions(types)
-        self.guards: dict[FunctionId, list[Guard]] = collections.defaultdict(list)
         self.known: dict[tuple[str, str, str, str], Optional[str]] = {}
         # of the parameters of macros: (file, macro, parameter)
         self.handed_over: dict[tuple[str, str, str], Optional[str]] = {}
@@ -80,6 +80,9 @@ class TokenFacts(Facts):
     def find_types(self) -> tuple[Structs, TypesOfText]:
         structs = NoStructs(HeaderTexts(self.tree, self.texts, self.headers))
         return structs, MacroTypes(structs, self.expressions.types.returns)
+
+    def taken(self, lines: list[str]) -> Iterable[str]:
+        return (line for line in lines if not line.startswith(NOT_TAKEN))
 
     def take(self, file: str, words: list[str]) -> None:
         kind, line, _, function, *rest = words
@@ -106,7 +109,7 @@ class TokenFacts(Facts):
         elif kind == "GLB":
             self.expressions.declare(place, rest[0], rest[1])
             self.globals.add(rest[0])
-        elif kind not in NOT_TAKEN:
+        else:
             super().take(file, words)
 
     def take_initialiser(self, place: Place, struct: str, member: str, value: Tokens) -> None:

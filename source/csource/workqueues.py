@@ -63,7 +63,7 @@ class Workqueues:
             if waits.kind(call.name).name == "workqueue" and not facts.resolve(call.place.file, call.name):
                 self.made.setdefault(facts.call_id(call), Made(call))
         for place, left, right in facts.assignments:
-            right = ctext.bare(right)
+            right = ctext.bare(right) if len(right) > 2 else right
             if ctext.is_call(right) and waits.kind(right[0]).name == "workqueue":
                 made = self.made.get(facts.call_id(facts.call_of(place, right)))
                 if made:

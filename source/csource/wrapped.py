@@ -29,6 +29,17 @@ class Wrapped:
                         self.take(call.place, words)
         self.members = set(self.member_of.values())
 
+    def inside(self, place: Place, words: Tokens) -> Tokens:
+        """What is set by a call that is given a pointer to a struct, as INIT_SAS_EVENT(ev, ..): its only member that is a
+        struct which stands for its work_struct, `& ev -> work`."""
+        struct = self.facts.struct_of(place, words, "") if len(words) == 1 else None
+        if struct is None or struct in WORKS or struct in self.member_of:
+            return words
+        members = self.facts.members_of(struct).items()
+        held = [name for name, kind in members if kind in self.member_of or kind in WORKS]
+        is_one = len(held) == 1 and self.facts.members_of(struct)[held[0]] not in WORKS
+        return ["&", *words, "->", held[0]] if is_one else words
+
     def take(self, place: Place, words: Tokens) -> None:
         """`& x -> m`, given to INIT_.._WORK: if m is a struct with one work_struct, that is the item."""
         if len(words) < 4 or words[0] != "&" or words[-2] not in ("->", "."):

@@ -110,3 +110,34 @@ def test_a_workqueue_without_a_rescuer(wqsource, tmp_path):
         "norescuer 1 nr_plain  # nr-plain, no_rescuer.c:17 nr_init, NO WQ_MEM_RECLAIM: no rescuer, WQ_UNBOUND",
         "norescuer 2 nr_system  # system_wq, no rescuer",
     ]
+
+
+def test_lines_that_cannot_happen_are_questions(drafted, wqsource):
+    """A constant that excludes the way, a workqueue that no call makes, a last reference: no line, but a question."""
+    found = drafted("doubts.c")
+    assert found.flushes == {("flush db_a db_c", "doubts.c:50"), ("flush db_h db_e", "doubts.c:125")}
+    assert found.open == {
+        ("doubts.c:35", "destroy_workqueue(set->rescue)"): ({"db_b"}, {"db_rescue"}),
+        ("doubts.c:45", "flush_work(&x->c_work)"): ({"db_a"}, {"db_c"}),
+        ("doubts.c:73", "destroy_workqueue(x->other)"): ({"db_d"}, {"db_e"}),
+        ("doubts.c:107", "cancel_work_sync(&x->f_work)"): ({"db_f", "db_g"}, {"db_f"}),
+        ("doubts.c:109", "cancel_work_sync(&x->g_work)"): ({"db_f", "db_g"}, {"db_g"}),
+    }
+    out = wqsource("draft", "--tree", C_FILES, "doubts.c").out
+    lines = out.splitlines()
+    after = {line.split(": ")[1]: lines[at + 2] for at, line in enumerate(lines) if line.startswith("? ")}
+    assert after == {
+        "destroy_workqueue(set->rescue)": "#   not sure: the arguments of all calls exclude that it was made",
+        "flush_work(&x->c_work)": "#   not sure: the arguments exclude it",
+        "destroy_workqueue(x->other)": "#   not sure: the last reference is dropped on the way",
+        "cancel_work_sync(&x->f_work)": "#   not sure: the arguments exclude it",
+        "cancel_work_sync(&x->g_work)": "#   not sure: the arguments exclude it",
+    }
+    # (the shortest way is that of what it made itself)
+    way = "from doubts.c:130 db_later, doubts.c:141 db_h"
+    assert f"flush db_h db_e  # flush doubts.c:125 db_destroy: flush_work, {way}\n" in out
+
+
+def test_a_workqueue_that_one_call_makes(drafted):
+    found = drafted("doubts.c", "doubts_made.c")
+    assert ("flushwq db_b db_rescue", "doubts.c:35") in found.flushes

@@ -35,8 +35,8 @@ def test_percpu_ref(drafted):
 def test_kref(drafted):
     found = drafted("kref.c")
     assert found.items == {"kr_work": {"kr-stop"}, "kr_log_work": {"kr-log"}}
-    assert found.flushes == {("flushwq kr_work kr_log_work", "kref.c:6")}
-    assert found.open == {}
+    assert found.flushes == set()
+    assert found.open == {("kref.c:6", "destroy_workqueue(k->wq)"): ({"kr_work"}, {"kr_log_work"})}
 
 
 def test_end_of_a_bio(drafted):
@@ -149,6 +149,16 @@ def test_items_inside_a_struct_that_is_handed_on(drafted, read, files):
     found = drafted(*files)
     assert found.items == {"in_found": {"disks"}, "in_lost": {"disks"}, "in_reset": {"events"}, "in_enable": {"events"}}
     assert found.flushes == {("flush in_reset in_enable", "inside.c:27")}
+    items = read(C_FILES, files).items
+    assert items.unknown_items == [] and items.unknown_queueings == []
+
+
+@pytest.mark.parametrize("files", [["event.c"], ["event.c", "event.h"]])
+def test_items_that_are_set_by_what_they_are_in(drafted, read, files):
+    """INIT_SAS_EVENT is given the event, whose only member of such a struct is the item: with and without its header."""
+    found = drafted(*files)
+    assert found.items == {"ev_found": {"events"}, "ev_lost": {"events"}, "ev_reset": {"events"}}
+    assert found.flushes == {("flush ev_found ev_reset", "event.c:17")}
     items = read(C_FILES, files).items
     assert items.unknown_items == [] and items.unknown_queueings == []
 

@@ -101,6 +101,27 @@ def test_what_runs_only_for_some_arguments(facts):
     assert [tuple(words) for _, _, *words in facts["GRD"]] == [("59", "59", "1", "! wait"), ("60", "65", "0", "! wait")]
 
 
+# The function's second line has the condition. Of each: the lines that run only for some arguments, and for which.
+CONDITIONS = {
+    "\tif (tx && cancel(x))\n\t\tlog(x);": [("2", "2", "1", "tx"), ("3", "3", "1", "tx && cancel ( x )")],
+    "\tif (!tx ||\n\t    cancel(x))\n\t\tlog(x);": [("3", "3", "0", "! tx"), ("4", "4", "1", "! tx || cancel ( x )")],
+    # the body on the same line runs for other arguments, too
+    "\tif (!tx || cancel(x)) log(x);": [("2", "2", "1", "! tx || cancel ( x )")],
+    # not a condition of parameters alone, or nothing behind it
+    "\tif (busy(tx) && cancel(x))\n\t\tlog(x);": [],
+    "\tif (tx)\n\t\tlog(x);": [("3", "3", "1", "tx")],
+    # `&&` binds tighter: what is behind `||` is called whatever `tx && rx` is made of
+    "\tif (tx && rx || cancel(x))\n\t\tlog(x);": [("3", "3", "1", "tx && rx || cancel ( x )")],
+}
+
+
+@pytest.mark.parametrize("body", CONDITIONS)
+def test_calls_in_conditions(body):
+    """In `a && f()` the call is made only if a holds; in `a || f()` only if it doesn't."""
+    lines = reader.facts_of(f"static void f(struct x *x, bool tx, bool rx) {{\n{body}\n}}\n")
+    assert [tuple(line.split("\t")[4:]) for line in lines if line.startswith("GRD")] == CONDITIONS[body]
+
+
 @pytest.mark.parametrize(
     "words, struct",
     [

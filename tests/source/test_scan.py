@@ -164,8 +164,29 @@ def test_verdicts(scanned, tmp_path, tree):
     own.write_text(before.replace("\tflush_workqueue(x->wq);\n", ""))
     ran = scanned("--verdicts", verdicts, "--stale")
     assert ran.status == 1 and "# gone: own own own_a flushwq *" in ran.out
+    ran = scanned("--verdicts", verdicts, "--stale", "--module", "drivers/block/own")
+    assert ran.status == 1 and re.findall(r"^# gone: (\w+)", ran.out, re.M) == ["own"]
     own.write_text(before)
     assert verdicts.read_text().startswith("# read by hand\n")
+
+
+def test_modules_that_were_not_scanned(scanned, tmp_path):
+    """The scan of one module says nothing of the rows of others."""
+    verdicts = tmp_path / "linux.txt"
+    scanned("--verdicts", verdicts, "--write")
+    verdicts.write_text(re.sub(r"unread ([0-9a-f]+)", r"can't happen \1: a test", verdicts.read_text()))
+    own = "--verdicts", verdicts, "--module", "drivers/block/own"
+    ran = scanned(*own, "--stale")
+    assert (ran.status, ran.out) == (0, "")
+    assert "0 of waits that are gone" in scanned(*own).out.replace("\n# ", " ")
+    with verdicts.open("a") as file:
+        file.write("wait own own own_b flush own_a | drivers/block/own.c own_b flush_work(&x->a_work)\n    real 01: once\n")
+        file.write("wait zero zero zero_b flush zero_a | drivers/block/zero.c z flush_work(&x->a)\n    real 02: once\n")
+        file.write("wait own own own_b flush other_a | drivers/block/other.c o flush_work(&x->a)\n    real 03: once\n")
+    ran = scanned(*own, "--stale")
+    assert (ran.status, ran.out.count("\n")) == (1, 1) and ran.out.startswith("# gone: own own own_b flush own_a ")
+    assert "1 of waits that are gone" in scanned(*own).out.replace("\n# ", " ")
+    assert scanned("--verdicts", verdicts, "--stale").out.count("# gone: ") == 3
 
 
 def test_a_survey_that_is_none(tmp_path):
