@@ -33,28 +33,18 @@ umount=$!
 ) &
 fsync=$!
 
-# tell WHAT PID: whether this process is over.
-tell() {
-    if ended "$2"; then
-        echo "$1: returned"
-    else
-        echo "$1: HANGS"
-        failed "$1 hangs"
-    fi
-}
-
 wait_for 2
 short
 exec 7>/go 7>&-
 wait_for 5
-tell "umount" $umount
+must_end "umount" $umount
 exec 7>/go.other 7>&-
 wait_for 20
 echo "while no worker can be created:"
-tell "fsync of another mount" $fsync
+must_end "fsync of another mount" $fsync
 stacks 'rpciod*' 'kworker/R-rpcio*' 'nfsiod*' 'kworker/R-nfsio*' 'writeback*' 'kworker/R-write*' busybox
 plenty
 wait_for 20
 echo "with memory again:"
-tell "fsync of another mount" $fsync
+must_end "fsync of another mount" $fsync
 stacks busybox

@@ -24,16 +24,6 @@ sg_persist --out --register --param-sark=0xa /dev/sg0
 sg_persist --out --reserve --param-rk=0xa --prout-type=1 /dev/sg0
 sg_persist --in --read-keys /dev/sg0
 
-# tell WHAT PID: whether this process is over.
-tell() {
-    if ended "$2"; then
-        echo "$1: returned"
-    else
-        echo "$1: HANGS"
-        failed "$1 hangs"
-    fi
-}
-
 # of_target: where the worker sleeps that carries out commands.
 of_target() {
     for task in /proc/[0-9]*; do
@@ -55,18 +45,18 @@ send() {
 
 send preempt
 wait_for 5
-tell "PREEMPT" $sent
+must_end "PREEMPT" $sent
 send preempt-abort
 wait_for 5
 $busybox dd if=/dev/sda of=/dev/null bs=4k count=1 iflag=direct 2>/dev/null &
 reads=$!
 wait_for 20
 echo "with memory:"
-tell "PREEMPT AND ABORT" $sent
-tell "a read from the disk" $reads
+must_end "PREEMPT AND ABORT" $sent
+must_end "a read from the disk" $reads
 of_target
 wait_for 200
 echo "three minutes later:"
-tell "PREEMPT AND ABORT" $sent
-tell "a read from the disk" $reads
+must_end "PREEMPT AND ABORT" $sent
+must_end "a read from the disk" $reads
 of_target

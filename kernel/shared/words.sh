@@ -48,3 +48,13 @@ ended() {
     esac
     return 1
 }
+
+# must_end WHAT PID: says whether this process of the script is over. One that isn't has failed.
+must_end() {
+    if ended "$2"; then
+        echo "$1: returned"
+    else
+        echo "$1: HANGS"
+        failed "$1 hangs"
+    fi
+}

@@ -45,13 +45,27 @@ WAITS = {
 # Items for which nfs.wq dismisses the wait by a function that the compiler has inlined. There are no debug symbols
 # here, so the stack doesn't show it.
 INLINED = {"wb_update_bandwidth_workfn"}
-# What recorder.sh says, in lines that begin so.
+# What recorder.sh says, in lines that begin so; # stands for a number.
 SAID = """\
 ended: 7, left:
 input: 0, left:
 input: given to the command
 terminated: 143, left:
+wqrecord: interrupted by SIGTERM: COMMAND was ended (3 processes); by SIGKILL 1 process
+wqrecord: /tmp/terminated: # KB of events in # s (# KB a second), mode default
 terminated: 1 raw
+interrupted: 130, left:
+wqrecord: interrupted by SIGINT: COMMAND was ended (3 processes); by SIGKILL 1 process
+wqrecord: /tmp/interrupted: # KB of events in # s (# KB a second), mode default
+interrupted: 1 raw
+hung-up: 129, left:
+wqrecord: interrupted by SIGHUP: COMMAND was ended (3 processes); by SIGKILL 1 process
+wqrecord: /tmp/hung-up: # KB of events in # s (# KB a second), mode default
+hung-up: 1 raw
+killed: 137, left:
+wqrecord: killed: COMMAND was ended (3 processes); by SIGKILL 1 process
+wqrecord: /tmp/killed: # KB of events in # s (# KB a second), mode default
+killed: 1 raw
 nowhere: 3, left:
 wqrecord: /nowhere/record can't be written
 wqrecord: /tmp is a folder
@@ -75,6 +89,11 @@ lacking: 12, left:
 wqrecord: the kernel refuses the probe p:wqrecord/refused __flush_work
 wqrecord: 1 probes were refused by the kernel
 refused: 0, left:
+unmounted: 0, left:
+wqrecord: there is no tracefs at /sys/kernel/tracing, and it can't be mounted: mount: permission denied
+unmountable: 11, left:
+wqrecord: the kernel has no tracefs (CONFIG_TRACING)
+traceless: 11, left:
 unprepared: 3, left:
 untyped: 14, left:
 wqrecord: only root may record
@@ -84,7 +103,7 @@ locked: 13, left:
 wrong: 2, left:
 probeless: 12, left:
 """
-NEVER = ["terminated: the command still runs", "/tmp/ran"]
+NEVER = ["/tmp/ran", "unmounted: it is mounted now"]
 
 
 def tell(passed, name, why=""):
@@ -176,12 +195,10 @@ def recorder(folder):
         return
     at, lines = 0, said.splitlines()
     for wanted in SAID.splitlines():
-        # (what is left stands behind the colon, so the whole line must be the same there)
-        is_whole = ", left:" in wanted
-        where = next(
-            (n for n in range(at, len(lines)) if lines[n] == wanted or not is_whole and lines[n].startswith(wanted)),
-            None,
-        )
+        # (what is left stands behind the colon, so that must be all of the line)
+        end = "$" if ", left:" in wanted else ""
+        pattern = re.compile(re.escape(wanted).replace(r"\#", r"\d+") + end)
+        where = next((n for n in range(at, len(lines)) if pattern.match(lines[n])), None)
         tell(where is not None, f"recorder.sh: {wanted}", "it didn't say so")
         at = at if where is None else where + 1
     for line in NEVER:

@@ -1,7 +1,7 @@
 # For a guest of record/: how `wqrecord run`, `start` and `stop` end, and what they leave behind. Each line of the form
 # `NAME: ..` is looked at by test_recorder.py.
 # modules: brd; md-mod; raid1
-# programs: setpriv
+# programs: setpriv; env
 
 . /shared/md.sh
 tracing=/sys/kernel/tracing
@@ -13,7 +13,13 @@ left() {
     grep -q wqrecord $tracing/kprobe_events 2>/dev/null && echo -n " probes"
     [ -d /run/wqrecord ] && echo -n " state"
     ls -d /tmp/*.?????? 2>/dev/null
-    ps | grep -q '[d]d if=/sys' && echo -n " readers"
+    for process in 'd]d if=/sys' 's]leep 1000' 'w]qrecord guard'; do
+        # (who is told that it is over may take a moment)
+        for moment in 1 2 3; do
+            ps | grep -q "[$process" || break
+            [ $moment = 3 ] && echo -n " ${process#*]}" || wait_for 1
+        done
+    done
 }
 
 # told NAME STATUS: how it ended, and what is left.
@@ -39,6 +45,10 @@ recording() {
     wait_for 1
 }
 
+# Some of the kernel's functions, until a record is read: all of them take their time.
+head -c 10000 /proc/kallsyms >/tmp/few
+mount --bind /tmp/few /proc/kallsyms
+
 wqrecord run $given -o /tmp/ended -- sh -c 'exit 7' 2>/tmp/said
 told ended $?
 cat /tmp/said
@@ -49,13 +59,33 @@ I
 told input $?
 echo "input: $(cat /tmp/copied)"
 
-wqrecord run $given -o /tmp/terminated -- sleep 1000 2>/tmp/said &
-recording
-kill -TERM $!
-wait $!
-told terminated $?
-echo "terminated: $(tar tf /tmp/terminated | grep -c raw) raw"
-ps | grep -q '[s]leep 1000' && echo "terminated: the command still runs"
+# A command of three processes, one of which heeds no SIGTERM.
+family='sleep 1000 & (trap "" TERM; exec sleep 1000) & wait'
+
+# interrupt NAME SIGNAL [WORD ..]: such a command is recorded, and then the recorder is sent this signal. (A shell lets what
+# it starts in the background ignore SIGINT.)
+interrupt() {
+    name=$1
+    signal=$2
+    shift 2
+    "$@" /usr/sbin/env --default-signal=INT wqrecord run $given $streamed -o /tmp/$name -- sh -c "$family" 2>/tmp/said &
+    recording
+    # (that of a session goes to all that is in it)
+    [ "$1" ] && kill -$signal -$! || kill -$signal $!
+    wait $!
+    ended=$?
+    while [ -d /run/wqrecord ]; do wait_for 1; done
+    told $name $ended
+    cat /tmp/said
+    echo "$name: $(tar tf /tmp/$name | grep -c raw) raw"
+}
+
+streamed=
+interrupt terminated TERM
+interrupt interrupted INT
+interrupt hung-up HUP
+streamed="--stream /tmp/part"
+interrupt killed KILL setsid
 
 wqrecord run $given -o /nowhere/record -- touch /tmp/ran 2>/tmp/said
 told nowhere $?
@@ -99,6 +129,7 @@ for part in 1 2 3 4 5; do
     flushes 4
     wait_for 1
 done
+umount /proc/kallsyms
 wqrecord stop -o /rec/streamed
 told streamed $?
 echo "streamed: $(wc -c </rec/streamed) bytes"
@@ -118,6 +149,20 @@ told lacking $?
 wqrecord start --probes /probes.refused
 wqrecord stop -o /tmp/refused
 told refused $?
+
+umount $tracing
+wqrecord run $given -o /tmp/mounted -- true
+told unmounted $?
+grep -q " $tracing " /proc/mounts && echo "unmounted: it is mounted now"
+/usr/sbin/setpriv --bounding-set -sys_admin wqrecord run $given -o /tmp/unmountable -- touch /tmp/ran
+told unmountable $?
+grep -v tracefs /proc/filesystems >/tmp/filesystems
+mount --bind /tmp/filesystems /proc/filesystems
+wqrecord start $given
+told traceless $?
+umount /proc/filesystems
+ls /tmp/ran 2>/dev/null
+mount -t tracefs tracefs $tracing
 
 wqrecord start 2>/tmp/said
 told unprepared $?
