@@ -447,7 +447,7 @@ to_no_rescuer 'srp: the kernel' 2 srp.wq srp.assign wb_workfn reconnect_work
 repairs 'srp: the kernel' srp.wq srp.assign 'rescuer 1'
 
 # target: an item that waits for itself.
-counts target 2 2 2 2
+counts target 4 12 4 3
 answers target 'circle 1' submit_work submit_work
 hangs 'target: the kernel' target.wq target.assign
 
