@@ -34,8 +34,8 @@ class Open:
     site: Site
     ends: Ends
     ways: dict[FunctionId, list[Edge]] = field(default_factory=dict)
-    # why it is no line, though its target is known
-    doubts: set[str] = field(default_factory=set)
+    # of the items for which its target is known: why it is no line
+    doubts: dict[FunctionId, set[str]] = field(default_factory=dict)
 
     @property
     def targets(self) -> list[FunctionId]:
@@ -95,7 +95,8 @@ class Draft:
                 to = self.of_network if is_network else self.open
                 one = to.setdefault(site.key, Open(site, self.program.ends(site)))
                 one.ways.setdefault(function, path)
-                one.doubts |= doubts
+                if doubts:
+                    one.doubts.setdefault(function, set()).update(doubts)
 
     def doubts_of(self, line: Line, stages: list[Stage]) -> set[str]:
         """Why a line may not happen. If its way is one that can't, it gets one that can, if there is one."""

@@ -85,6 +85,7 @@ class Printer:
         self.print_ordered()
         self.print_lines()
         self.print_open()
+        self.print_without_rescuer()
         self.print_unknown()
         self.print_beside()
         self.print_cancels()
@@ -233,7 +234,8 @@ class Printer:
         first = f"{self.name(items[0])}{self.way(one.ways[items[0]])}"
         self.comment(f"in reach of {first}" + (f"; and of {self.names(items[1:])}" if items[1:] else ""))
         if one.doubts:
-            self.comment(f"not sure: {'; '.join(sorted(one.doubts))}")
+            whose = "" if one.doubts.keys() == one.ways.keys() else f" for {self.names(sorted(one.doubts))}"
+            self.comment(f"not sure{whose}: {'; '.join(sorted(set().union(*one.doubts.values())))}")
         for text in layers.known().elsewhere(site.key.call, self.program.facts.files):
             self.comment(text)
         if site.workqueues:
@@ -255,6 +257,21 @@ class Printer:
         )
         key = site.key._replace(file=self.draft.short(site.key.file))
         self.write(f"## no wait: {key}: ")
+
+    def print_without_rescuer(self) -> None:
+        """One question for all items that nothing guarantees to run: does the reclaim path wait for one of them?"""
+        names = [item.name for item in self.draft.all_items() if self.is_without_rescuer(item)]
+        if names:
+            self.write()
+            self.decide(f"reclaim {' '.join(names)}")
+            self.comment(
+                "on workqueues without a rescuer: nothing guarantees that these run. If memory reclaim waits until one of "
+                "them has run, declare who waits, as `item writeback  # thread: ..` with its flush"
+            )
+
+    def is_without_rescuer(self, item: Item) -> bool:
+        has_rescuer = self.program.workqueues.has_rescuer
+        return bool(item.workqueues) and all(has_rescuer(workqueue) is False for workqueue in item.workqueues)
 
     # What isn't known
 

@@ -79,8 +79,7 @@ class Facts:
         self.locals: set[tuple[str, str, str]] = set()
         self.globals: set[str] = set()
         for file in self.files:
-            facts = [line.split("\t") for line in dict.fromkeys(self.taken(lines[file]))]
-            for words in sorted(facts, key=lambda words: (int(words[1]), int(words[2]))):
+            for words in self.in_order(lines[file]):
                 self.take(file, words)
         for file in self.files:
             self.take_macros(file)
@@ -101,9 +100,10 @@ class Facts:
         structs = Structs(self.tree, self.texts)
         return structs, Types(structs)
 
-    def taken(self, lines: list[str]) -> Iterable[str]:
-        """The lines of facts that `take` heeds."""
-        return lines
+    def in_order(self, lines: list[str]) -> list[list[str]]:
+        """The words of each line of facts, in the order of the source."""
+        facts = [line.split("\t") for line in dict.fromkeys(lines)]
+        return sorted(facts, key=lambda words: (int(words[1]), int(words[2])))
 
     def take(self, file: str, words: list[str]) -> None:
         """One line of facts."""
@@ -333,7 +333,7 @@ class Facts:
         """A .c file that includes another one shares its static functions: which files go together."""
         together: dict[str, set[str]] = collections.defaultdict(set)
         for file in self.files:
-            for name in self.INCLUDE.findall(self.texts[file]):
+            for name in self.INCLUDE.findall(self.texts[file]) if '.c"' in self.texts[file] else ():
                 other = posixpath.normpath(posixpath.join(posixpath.dirname(file), name))
                 together[file].add(other)
                 together[other].add(file)

@@ -81,34 +81,36 @@ class TokenFacts(Facts):
         structs = NoStructs(HeaderTexts(self.tree, self.texts, self.headers))
         return structs, MacroTypes(structs, self.expressions.types.returns)
 
-    def taken(self, lines: list[str]) -> Iterable[str]:
-        return (line for line in lines if not line.startswith(NOT_TAKEN))
+    def in_order(self, lines: list[str]) -> list[list[str]]:
+        return super().in_order([line for line in lines if not line.startswith(NOT_TAKEN)])
 
     def take(self, file: str, words: list[str]) -> None:
-        kind, line, _, function, *rest = words
-        place = Place(file, int(line), "" if function == OUTSIDE else function)
+        kind, line, _, function = words[:4]
+        where = "" if function == OUTSIDE else function
+        if kind == "LOC":
+            self.expressions.locals.setdefault((file, where, words[4]), struct_name(words[5]))
+            self.locals.add((file, function, words[4]))
+            return
+        place = Place(file, int(line), where)
         if kind == "CALL":
-            self.calls.append(Call(place, rest[0], ctext.arguments(split(rest[1]))))
+            self.calls.append(Call(place, words[4], ctext.arguments(split(words[5]))))
         elif kind == "PCALL":
-            self.pointer_calls.append(PointerCall(place, split(rest[0]), rest[1], ctext.arguments(split(rest[2]))))
+            self.pointer_calls.append(PointerCall(place, split(words[4]), words[5], ctext.arguments(split(words[6]))))
         elif kind == "ASG":
-            self.take_assignment(Assignment(place, split(rest[0]), split(rest[1])))
+            self.take_assignment(Assignment(place, split(words[4]), split(words[5])))
         elif kind == "RET":
-            self.returns.append(Return(place, split(rest[0])))
+            self.returns.append(Return(place, split(words[4])))
         elif kind == "DEF":
-            self.define(place, rest[0], parameter_names(rest[1]))
-            self.add_span(FunctionId(file, rest[0]), place.line, self.end_of(place))
-        elif kind == "LOC":
-            self.expressions.declare(place, rest[0], rest[1])
-            self.locals.add((file, function, rest[0]))
+            self.define(place, words[4], parameter_names(words[5]))
+            self.add_span(FunctionId(file, words[4]), place.line, self.end_of(place))
         elif kind == "INI":
-            self.take_initialiser(place, struct_name(rest[0]), rest[1], split(rest[2]))
+            self.take_initialiser(place, struct_name(words[4]), words[5], split(words[6]))
         elif kind == "GRD":
-            guard = Guard(int(rest[0]), int(rest[1]), rest[2] == "1", split(rest[3]))
+            guard = Guard(int(words[4]), int(words[5]), words[6] == "1", split(words[7]))
             self.guards[place.id].append(guard)
         elif kind == "GLB":
-            self.expressions.declare(place, rest[0], rest[1])
-            self.globals.add(rest[0])
+            self.expressions.declare(place, words[4], words[5])
+            self.globals.add(words[4])
         else:
             super().take(file, words)
 

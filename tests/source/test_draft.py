@@ -112,6 +112,15 @@ def test_a_workqueue_without_a_rescuer(wqsource, tmp_path):
     ]
 
 
+def test_items_without_a_rescuer_are_a_question(wqsource):
+    """Who waits on the reclaim path is seen in no file: it is asked once for all items that have none."""
+    lines = wqsource("draft", "--tree", C_FILES, "no_rescuer.c").out.splitlines()
+    asked = [line for line in lines if line.startswith("? reclaim")]
+    assert asked == ["? reclaim nr_plain nr_system"]
+    assert lines[lines.index(asked[0]) + 1].startswith("#   on workqueues without a rescuer: ")
+    assert "? reclaim" not in wqsource("draft", "--tree", C_FILES, "doubts.c").out
+
+
 def test_lines_that_cannot_happen_are_questions(drafted, wqsource):
     """A constant that excludes the way, a workqueue that no call makes, a last reference: no line, but a question."""
     found = drafted("doubts.c")
@@ -130,8 +139,9 @@ def test_lines_that_cannot_happen_are_questions(drafted, wqsource):
         "destroy_workqueue(set->rescue)": "#   not sure: the arguments of all calls exclude that it was made",
         "flush_work(&x->c_work)": "#   not sure: the arguments exclude it",
         "destroy_workqueue(x->other)": "#   not sure: the last reference is dropped on the way",
-        "cancel_work_sync(&x->f_work)": "#   not sure: the arguments exclude it",
-        "cancel_work_sync(&x->g_work)": "#   not sure: the arguments exclude it",
+        # (who cancels itself has no line anyway)
+        "cancel_work_sync(&x->f_work)": "#   not sure for db_g: the arguments exclude it",
+        "cancel_work_sync(&x->g_work)": "#   not sure for db_f: the arguments exclude it",
     }
     # (the shortest way is that of what it made itself)
     way = "from doubts.c:130 db_later, doubts.c:141 db_h"
