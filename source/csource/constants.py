@@ -156,16 +156,20 @@ class Ways:
         )
 
     def may_get_to(self, call: Call, called: FunctionId, line: int) -> bool:
-        """Whether the constants among the arguments of a call admit a line of the function that it calls. `c ? A : B` is
-        once A, and once B."""
+        """Whether the constants among the arguments of a call admit a line of the function that it calls.
+
+        `c ? A : B` is once A, and once B.
+        """
         ways = [ctext.alternatives(words) for words in call.arguments]
         if math.prod(map(len, ways)) > MOST_ALTERNATIVES:
             return True
         return any(self.admits(called, line, self.handed(way, called, {})) for way in itertools.product(*ways))
 
     def leads_to(self, item: FunctionId, site: Site, follows: Follows = everywhere) -> Optional[list[Edge]]:
-        """The shortest way from an item to a site that the constants admit, along calls that `follows` admits, too. None
-        if there is none."""
+        """The shortest way from an item to a site that the constants admit, along calls that `follows` admits, too.
+
+        None if there is none.
+        """
         start = (item, frozenset())
         back: dict = {start: None}
         waiting = collections.deque([start])

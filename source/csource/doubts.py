@@ -1,4 +1,4 @@
-"""Why a wait may not happen, though direct calls lead there and it has one target: what `scan` and `draft` ask of it."""
+"""Why a wait may not happen, though direct calls lead there and it has one target: `scan` and `draft` ask it."""
 
 import functools
 from typing import Optional
@@ -71,8 +71,8 @@ class Doubts:
         return found
 
     def find_is_made(self, workqueue: str) -> bool:
-        """Whether some call of the files makes it: not, if the constants that all of them hand over exclude the call that
-        does, as bioset_init(.., 0) excludes what `if (flags & BIOSET_NEED_RESCUER)` makes."""
+        """Whether some call of the files makes it: not, if the constants that all of them hand over exclude the call
+        that does, as bioset_init(.., 0) excludes what `if (flags & BIOSET_NEED_RESCUER)` makes."""
         made = self.program.workqueues.made.get(workqueue)
         place = made.call.place if made is not None else None
         calls = self.program.facts.calls_of(place.id) if place is not None else []

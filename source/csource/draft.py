@@ -111,8 +111,8 @@ class Draft:
         return found
 
     def waits_of(self, function: FunctionId, seen: set[FunctionId]) -> Iterator[tuple[Site, list[Edge], list[Stage]]]:
-        """The sites in reach of an item, each with the way there. A cancel of an item stands for the sites of that: then
-        the way has several stages, from the item to the cancel, and from what it cancels to the site."""
+        """The sites in reach of an item, each with the way there. A cancel of an item stands for the sites of that:
+        then the way has several stages, from the item to the cancel, and from what it cancels to the site."""
         reached = self.program.sleeps[function]
         for site in sorted(self.program.sites_of(reached), key=lambda site: (site.key.file, site.lines)):
             path = path_to(reached, site.id)

@@ -265,8 +265,8 @@ class Printer:
             self.write()
             self.decide(f"reclaim {' '.join(names)}")
             self.comment(
-                "on workqueues without a rescuer: nothing guarantees that these run. If memory reclaim waits until one of "
-                "them has run, declare who waits, as `item writeback  # thread: ..` with its flush"
+                "on workqueues without a rescuer: nothing guarantees that these run. If memory reclaim waits until one "
+                "of them has run, declare who waits, as `item writeback  # thread: ..` with its flush"
             )
 
     def is_without_rescuer(self, item: Item) -> bool:

@@ -5,7 +5,7 @@ import functools
 import pathlib
 import posixpath
 import re
-from typing import Iterable, Optional
+from typing import Callable, Iterable, Optional
 
 from . import ctext
 from .ctext import Tokens
@@ -56,6 +56,8 @@ class Facts:
         self.files = list(lines)
         self.texts = {file: (tree / file).read_text(errors="replace") for file in self.files}
         self.lines = {file: text.removesuffix("\n").split("\n") for file, text in self.texts.items()}
+        # what a file calls by its text alone: names, with their lines
+        self.called_in: Callable[[str], Iterable[tuple[str, int]]] = lambda file: called_in(self.texts[file])
         self.together = self.included()
         self.structs, self.types = self.find_types()
         self.definitions: dict[FunctionId, Definition] = {}
@@ -203,10 +205,6 @@ class Facts:
                     self.locals.add((file, place.function, one.member))
                 else:
                     self.globals.add(one.member)
-
-    def called_in(self, file: str) -> Iterable[tuple[str, int]]:
-        """What a file calls by its text alone: names, with their lines."""
-        return called_in(self.texts[file])
 
     def is_in_loop(self, place: Place) -> bool:
         """Whether a place is in a loop of its function."""

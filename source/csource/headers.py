@@ -14,8 +14,10 @@ FOLDERS = ("include", "include/uapi", "arch/x86/include")
 
 
 def included(data: bytes) -> Iterator[tuple[str, str]]:
-    """Each name that a text includes, with the mark before it: `<` or `"`. (Most lines have no such word: to look for it
-    first is several times as fast as to try the pattern at each.)"""
+    """Each name that a text includes, with the mark before it: `<` or `"`.
+
+    Most lines have no such word: to look for it first is several times as fast as to try the pattern at each.
+    """
     at, end = data.find(WORD), 0
     while at >= 0:
         start = data.rfind(b"\n", 0, at) + 1

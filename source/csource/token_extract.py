@@ -94,7 +94,8 @@ class TokenExtractor:
 
     def called_in(self, tree: pathlib.Path, file: str) -> list[tuple[str, int]]:
         """What a file calls by its text alone."""
-        lines = self.kept(tree / file, f"called {CALLS}", lambda text: [f"{name}\t{line}" for name, line in called_in(text)])
+        read = lambda text: [f"{name}\t{line}" for name, line in called_in(text)]
+        lines = self.kept(tree / file, f"called {CALLS}", read)
         return [(name, int(line)) for name, _, line in (line.partition("\t") for line in lines)]
 
     def types_of(self, tree: pathlib.Path, file: str) -> list[str]:

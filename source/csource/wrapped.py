@@ -30,8 +30,8 @@ class Wrapped:
         self.members = set(self.member_of.values())
 
     def inside(self, place: Place, words: Tokens) -> Tokens:
-        """What is set by a call that is given a pointer to a struct, as INIT_SAS_EVENT(ev, ..): its only member that is a
-        struct which stands for its work_struct, `& ev -> work`."""
+        """What is set by a call that is given a pointer to a struct, as INIT_SAS_EVENT(ev, ..): its only member that
+        is a struct which stands for its work_struct, `& ev -> work`."""
         struct = self.facts.struct_of(place, words, "") if len(words) == 1 else None
         if struct is None or struct in WORKS or struct in self.member_of:
             return words

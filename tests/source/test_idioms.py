@@ -155,7 +155,7 @@ def test_items_inside_a_struct_that_is_handed_on(drafted, read, files):
 
 @pytest.mark.parametrize("files", [["event.c"], ["event.c", "event.h"]])
 def test_items_that_are_set_by_what_they_are_in(drafted, read, files):
-    """INIT_SAS_EVENT is given the event, whose only member of such a struct is the item: with and without its header."""
+    """INIT_SAS_EVENT is given the event, whose only member of such a struct is the item: also without its header."""
     found = drafted(*files)
     assert found.items == {"ev_found": {"events"}, "ev_lost": {"events"}, "ev_reset": {"events"}}
     assert found.flushes == {("flush ev_found ev_reset", "event.c:17")}

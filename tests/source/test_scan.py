@@ -180,9 +180,12 @@ def test_modules_that_were_not_scanned(scanned, tmp_path):
     assert (ran.status, ran.out) == (0, "")
     assert "0 of waits that are gone" in scanned(*own).out.replace("\n# ", " ")
     with verdicts.open("a") as file:
-        file.write("wait own own own_b flush own_a | drivers/block/own.c own_b flush_work(&x->a_work)\n    real 01: once\n")
-        file.write("wait zero zero zero_b flush zero_a | drivers/block/zero.c z flush_work(&x->a)\n    real 02: once\n")
-        file.write("wait own own own_b flush other_a | drivers/block/other.c o flush_work(&x->a)\n    real 03: once\n")
+        for words, name in (
+            ("own own own_b flush own_a", "own"),
+            ("zero zero zero_b flush zero_a", "zero"),
+            ("own own own_b flush other_a", "other"),
+        ):
+            file.write(f"wait {words} | drivers/block/{name}.c f flush_work(&x->w)\n    real 01: once\n")
     ran = scanned(*own, "--stale")
     assert (ran.status, ran.out.count("\n")) == (1, 1) and ran.out.startswith("# gone: own own own_b flush own_a ")
     assert "1 of waits that are gone" in scanned(*own).out.replace("\n# ", " ")

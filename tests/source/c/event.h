@@ -18,7 +18,8 @@ static inline void INIT_SAS_WORK(struct sas_work *sw, void (*fn)(struct work_str
 	INIT_LIST_HEAD(&sw->drain_node);
 }
 
-static inline void INIT_SAS_EVENT(struct sas_event *ev, void (*fn)(struct work_struct *), struct ev_port *port, int event)
+static inline void INIT_SAS_EVENT(struct sas_event *ev, void (*fn)(struct work_struct *), struct ev_port *port,
+				  int event)
 {
 	INIT_SAS_WORK(&ev->work, fn);
 	ev->port = port;
