@@ -62,8 +62,8 @@ echo "input: $(cat /tmp/copied)"
 # A command of three processes, one of which heeds no SIGTERM.
 family='sleep 1000 & (trap "" TERM; exec sleep 1000) & wait'
 
-# interrupt NAME SIGNAL [WORD ..]: such a command is recorded, and then the recorder is sent this signal. (A shell lets what
-# it starts in the background ignore SIGINT.)
+# interrupt NAME SIGNAL [WORD ..]: such a command is recorded, and then the recorder is sent this signal. (A shell lets
+# what it starts in the background ignore SIGINT.)
 interrupt() {
     name=$1
     signal=$2

@@ -1,5 +1,5 @@
-"""How record/wqrecord ends, and what it leaves behind, on a made tracefs: folders and files in place of the kernel's, and
-programs in place of those that only root may use. What a kernel does is looked at in a guest (recorder.sh)."""
+"""How record/wqrecord ends, and what it leaves behind, on a made tracefs: folders and files in place of the kernel's,
+and programs in place of those that only root may use. What a kernel does is looked at in a guest (recorder.sh)."""
 
 import contextlib
 import itertools
@@ -17,9 +17,10 @@ import pytest
 from conftest import ROOT
 
 sys.path.append(str(ROOT / "tests/lib"))
-from programs import ask, started  # noqa: E402  (in tests/lib)
+from programs import Answer, ask, started  # noqa: E402  (in tests/lib)
 
-SECONDS = 60
+# (a busy machine takes its time)
+SECONDS = 300
 PROBES = "p sleep wq_worker_sleeping func=%di:x64\np queue __queue_work work=%dx:x64\n"
 # An instance of tracefs with one CPU, whose buffer is empty.
 MKDIR = """\
@@ -70,10 +71,17 @@ class Machine:
         self.sleep = f"{100000 + next(NUMBERS)}.{os.getpid()}"
         self.family = f"sleep {self.sleep} & (trap '' TERM; exec sleep {self.sleep}) & wait"
         named = {"PATH": f"{folder}/bin:{os.environ['PATH']}", "INSTANCE": str(self.instance), "SLEEP": self.sleep}
-        self.given = {"env": os.environ | named}
+        self.environment = os.environ | named
 
     def run(self, *command: str, options: tuple[object, ...] = ()) -> list[object]:
         return [*self.words, "run", "--probes", self.folder / "probes", "-o", self.record, *options, "--", *command]
+
+    def started(self, words: list[object]) -> contextlib.AbstractContextManager[subprocess.Popen]:
+        given = {"stdin": subprocess.DEVNULL, "stderr": subprocess.PIPE, "env": self.environment}
+        return started(words, timeout=SECONDS, **given)
+
+    def ask(self, words: list[object]) -> Answer:
+        return ask(words, timeout=SECONDS, env=self.environment)
 
     def is_recording(self) -> bool:
         # (COMMAND's number is the last that is written)
@@ -133,7 +141,8 @@ def machine(tmp_path: pathlib.Path, request: pytest.FixtureRequest) -> Machine:
 def says(machine: Machine, errors: bytes, *wanted: str) -> None:
     """Are these its lines, in which # stands for a number and FILE for the record?"""
     lines = [line for line in errors.decode().splitlines() if "has no event" not in line]
-    patterns = [re.escape(line).replace(r"\#", r"\d+").replace("FILE", re.escape(str(machine.record))) for line in wanted]
+    file = re.escape(str(machine.record))
+    patterns = [re.escape(line).replace(r"\#", r"\d+").replace("FILE", file) for line in wanted]
     assert len(lines) == len(patterns) and all(map(re.fullmatch, patterns, lines)), lines
 
 
@@ -159,7 +168,7 @@ def test_who_is_interrupted_ends_its_command_and_writes_the_record(machine, numb
     stream = machine.folder / "tracing/stream"
     options = ("--stream", stream) if is_streamed else ()
     command = machine.run("sh", "-c", machine.family, options=options)
-    with started(command, stderr=subprocess.PIPE, **machine.given) as running:
+    with machine.started(command) as running:
         wait_until(lambda: machine.is_recording() and len(processes(f"sleep {machine.sleep}")) == 2)
         os.kill(running.pid, number)
         errors = running.stderr.read()
@@ -170,7 +179,7 @@ def test_who_is_interrupted_ends_its_command_and_writes_the_record(machine, numb
 
 
 def test_who_is_killed_with_its_whole_group_is_cleared_up_after(machine):
-    with started(machine.run("sh", "-c", machine.family), stderr=subprocess.PIPE, **machine.given) as running:
+    with machine.started(machine.run("sh", "-c", machine.family)) as running:
         wait_until(lambda: machine.is_guarded() and len(processes(f"sleep {machine.sleep}")) == 2)
         os.killpg(running.pid, signal.SIGKILL)
         errors = running.stderr.read()
@@ -186,9 +195,9 @@ def test_who_is_killed_while_it_writes_leaves_nothing_at_last(machine, verb):
     (machine.folder / "bin/tar").chmod(0o755)
     words = machine.run("true")
     if verb == "stop":
-        assert ask([*machine.words, "start", "--probes", machine.folder / "probes"], **machine.given).status == 0
+        assert machine.ask([*machine.words, "start", "--probes", machine.folder / "probes"]).status == 0
         words = [*machine.words, "stop", "-o", machine.record]
-    with started(words, stderr=subprocess.PIPE, **machine.given) as running:
+    with machine.started(words) as running:
         wait_until(machine.record.exists)
         os.killpg(running.pid, signal.SIGKILL)
         errors = running.stderr.read()
@@ -196,13 +205,13 @@ def test_who_is_killed_while_it_writes_leaves_nothing_at_last(machine, verb):
         says(machine, errors, "wqrecord: killed while FILE was being written: what was recorded is lost")
         assert not machine.record.exists()
     else:
-        assert ask([*machine.words, "drop"], **machine.given).status == 0
+        assert machine.ask([*machine.words, "drop"]).status == 0
     wait_until(lambda: not machine.left())
 
 
 def test_who_has_lost_its_parent_goes_on(machine):
     shell = ["sh", "-c", '"$@" & echo $! >"$0"; wait', machine.folder / "state.run", *machine.run("sleep", "2")]
-    with started(shell, stderr=subprocess.PIPE, **machine.given) as running:
+    with machine.started(shell) as running:
         wait_until(machine.is_recording)
         os.kill(running.pid, signal.SIGKILL)
         errors = running.stderr.read()
@@ -213,7 +222,7 @@ def test_who_has_lost_its_parent_goes_on(machine):
 
 
 def test_nohup_is_heeded(machine):
-    with started(["nohup", *machine.run("sleep", "2")], stderr=subprocess.PIPE, stdin=subprocess.DEVNULL, **machine.given) as running:
+    with machine.started(["nohup", *machine.run("sleep", "2")]) as running:
         wait_until(machine.is_recording)
         os.kill(running.pid, signal.SIGHUP)
         errors = running.stderr.read()
@@ -223,7 +232,7 @@ def test_nohup_is_heeded(machine):
 
 
 def test_a_run_that_comes_to_its_end_has_the_status_of_its_command(machine):
-    answer = ask(machine.run("sh", "-c", "exit 7"), **machine.given)
+    answer = machine.ask(machine.run("sh", "-c", "exit 7"))
     assert answer.status == 7
     says(machine, answer.errors, WRITTEN)
     wait_until(lambda: not machine.left())
@@ -232,7 +241,7 @@ def test_a_run_that_comes_to_its_end_has_the_status_of_its_command(machine):
 
 def test_a_tracefs_that_was_not_mounted_is_mounted_meanwhile(machine):
     (machine.tracing / "instances").rmdir()
-    answer = ask(machine.run("test", "-d", str(machine.instance)), **machine.given)
+    answer = machine.ask(machine.run("test", "-d", str(machine.instance)))
     assert answer.status == 0
     assert not (machine.tracing / "instances").exists()
     wait_until(lambda: not machine.left())
@@ -240,17 +249,18 @@ def test_a_tracefs_that_was_not_mounted_is_mounted_meanwhile(machine):
 
 def test_a_tracefs_that_can_not_be_mounted_is_told(machine):
     (machine.tracing / "instances").rmdir()
-    machine.given["env"]["REFUSED"] = "permission denied"
-    answer = ask(machine.run("touch", str(machine.folder / "ran")), **machine.given)
+    machine.environment["REFUSED"] = "permission denied"
+    answer = machine.ask(machine.run("touch", str(machine.folder / "ran")))
     assert answer.status == 11
-    says(machine, answer.errors, f"wqrecord: there is no tracefs at {machine.tracing}, and it can't be mounted: mount: permission denied")
+    why = "and it can't be mounted: mount: permission denied"
+    says(machine, answer.errors, f"wqrecord: there is no tracefs at {machine.tracing}, {why}")
     assert not machine.left()
 
 
 def test_a_kernel_without_tracefs_is_told(machine):
     (machine.tracing / "instances").rmdir()
     (machine.folder / "filesystems").write_text("nodev\tsysfs\n")
-    answer = ask(machine.run("touch", str(machine.folder / "ran")), **machine.given)
+    answer = machine.ask(machine.run("touch", str(machine.folder / "ran")))
     assert answer.status == 11
     says(machine, answer.errors, "wqrecord: the kernel has no tracefs (CONFIG_TRACING)")
     assert not machine.left()
@@ -261,7 +271,7 @@ def test_a_full_disk_is_told(machine):
     for name in "dd", "tar":
         (machine.folder / "bin" / name).write_text("#!/bin/sh\nexit 1\n")
         (machine.folder / "bin" / name).chmod(0o755)
-    answer = ask(machine.run("true"), **machine.given)
+    answer = machine.ask(machine.run("true"))
     assert answer.status == 3
     says(machine, answer.errors, "wqrecord: FILE can't be written: is the disk full? What was recorded is lost")
     wait_until(lambda: not machine.left())
