@@ -35,7 +35,7 @@ FAULTS = re.findall(r"^\| `fault (\w+)` \|", FORMAT, re.M)
 EXPLAIN = FORMAT.split("## The command `explain`\n")[1].split("\n## ")[0]
 # The blank in one of them is typed with a backslash.
 WORDS = [word.replace(" ", "\\ ") for word in re.findall(r"^\| `([a-z ]+)` \|", EXPLAIN, re.M)]
-DIRECTIVES = re.findall(r"`(\w+)`", re.search(r"^- a directive: (.*);$", EXPLAIN, re.M)[1])
+DIRECTIVES = re.findall(r"`([\w?]+)`", re.search(r"^- a directive: (.*);$", EXPLAIN, re.M)[1])
 EXPLAINED = NUMBERS + NAMES + FAULTS + WORDS + DIRECTIVES
 
 

@@ -183,7 +183,7 @@ class Parts:
 
 def constant(record):
     """The name of the constant with an explanation."""
-    return re.sub(r"(?<=[a-z])(?=[A-Z])| ", "_", titled(record)[0]).upper()
+    return re.sub(r"(?<=[a-z])(?=[A-Z])| ", "_", titled(record)[0]).replace("?", "_unsure").upper()
 
 
 def explanation(record):
@@ -292,7 +292,7 @@ def findings(directives):
     parts = Parts("crates/wq_findings/src/declaration.rt")
     parts.replace(r'(?<=Hint::Said\("a line begins with ).*(?="\),$)', of_directives(directives)["words"])
     for row in directives:
-        parts.replace(rf'(?<= => "){row["directive"]} NAME[^"]*(?=",$)', f'{row["directive"]} {row["names"]}')
+        parts.replace(rf'(?<= => "){re.escape(row["directive"])} NAME[^"]*(?=",$)', f'{row["directive"]} {row["names"]}')
     return parts
 
 
