@@ -6,14 +6,14 @@ use Rattle.wq_text.specs.Lines.{LineView}
 use Rattle.wq_text.specs.Comments.{before_comment}
 use Rattle.wq_text.specs.Words.{WordView, words_of}
 use Rattle.wq_decl.specs.declared.directive.Directive.{Directive}
-use Rattle.wq_decl.specs.declared.directive.Directive.TheVariants.{Item, Flush, FlushWq, Ordered}
+use Rattle.wq_decl.specs.declared.directive.Directive.TheVariants.{Item, Flush, FlushWq, Unsure, Ordered}
 use Rattle.wq_decl.specs.declared.fault.DeclError.{DeclError}
 use Rattle.wq_decl.specs.declared.fault.DeclError.TheVariants.{BadName}
 use Rattle.wq_decl.specs.declared.keyword.Keyword.{Keyword}
 use Rattle.wq_decl.specs.declared.keyword.Keyword.TheVariants as keyword
 use Rattle.wq_decl.specs.Names.{is_name, are_names}
 use Rattle.wq_decl.specs.Keywords.{keyword_of}
-use Rattle.wq_decl.specs.Reading.{is_text_byte, item_reading, flush_reading, flushwq_reading, ordered_reading, reading_after, words_reading, reading, directive_in, directives, HasNames}
+use Rattle.wq_decl.specs.Reading.{is_text_byte, item_reading, flush_reading, flushwq_reading, unsure_reading, ordered_reading, reading_after, words_reading, reading, directive_in, directives, HasNames}
 
 -- a directive, if the reading found one, has names
 abbrev pub NamesIn : Result (Option Directive) DeclError → Type 0
@@ -57,6 +57,16 @@ flushwq_names n (name ∷ target ∷ []) = chosen (are_names (name ∷ target �
     chosen false e = tt
 flushwq_names n (name ∷ target ∷ extra ∷ others) = tt
 
+unsure_names : (n : ℕ) (whole : Bool) (ws : List WordView) → NamesIn (unsure_reading n whole ws)
+unsure_names n whole [] = tt
+unsure_names n whole (name ∷ []) = tt
+unsure_names n whole (name ∷ target ∷ []) = chosen (are_names (name ∷ target ∷ [])) refl
+  where
+    chosen : (b : Bool) → are_names (name ∷ target ∷ []) ≡ b → NamesIn (cond b (Ok (Some (Unsure name target whole))) (Err (BadName n)))
+    chosen true e = let p = both (is_name name.bytes) _ e in (p.0, (both (is_name target.bytes) _ p.1).0)
+    chosen false e = tt
+unsure_names n whole (name ∷ target ∷ extra ∷ others) = tt
+
 ordered_names : (n : ℕ) (ws : List WordView) → NamesIn (ordered_reading n ws)
 ordered_names n [] = tt
 ordered_names n (name ∷ others) = chosen (are_names (name ∷ others)) refl
@@ -70,6 +80,8 @@ after_names None n ws = tt
 after_names (Some keyword.Item) n ws = item_names n ws
 after_names (Some keyword.Flush) n ws = flush_names n ws
 after_names (Some keyword.FlushWq) n ws = flushwq_names n ws
+after_names (Some keyword.FlushUnsure) n ws = unsure_names n false ws
+after_names (Some keyword.FlushWqUnsure) n ws = unsure_names n true ws
 after_names (Some keyword.Ordered) n ws = ordered_names n ws
 
 cond_names : (b : Bool) (x y : Result (Option Directive) DeclError) → NamesIn x → NamesIn y → NamesIn (cond b x y)

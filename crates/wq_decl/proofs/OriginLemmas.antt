@@ -7,14 +7,14 @@ use Rattle.wq_text.specs.Comments.{before_comment}
 use Rattle.wq_text.specs.Words.{WordView, words_of}
 use Rattle.wq_text.proofs.LimitLaws.{Any-later}
 use Rattle.wq_decl.specs.declared.directive.Directive.{Directive}
-use Rattle.wq_decl.specs.declared.directive.Directive.TheVariants.{Item, Flush, FlushWq, Ordered}
+use Rattle.wq_decl.specs.declared.directive.Directive.TheVariants.{Item, Flush, FlushWq, Unsure, Ordered}
 use Rattle.wq_decl.specs.declared.fault.DeclError.{DeclError}
 use Rattle.wq_decl.specs.declared.fault.DeclError.TheVariants.{BadName}
 use Rattle.wq_decl.specs.declared.keyword.Keyword.{Keyword}
 use Rattle.wq_decl.specs.declared.keyword.Keyword.TheVariants as keyword
 use Rattle.wq_decl.specs.Names.{is_name, are_names}
 use Rattle.wq_decl.specs.Keywords.{keyword_of}
-use Rattle.wq_decl.specs.Reading.{is_text_byte, item_reading, flush_reading, flushwq_reading, ordered_reading, reading_after, words_reading, reading, directive_in, directives}
+use Rattle.wq_decl.specs.Reading.{is_text_byte, item_reading, flush_reading, flushwq_reading, unsure_reading, ordered_reading, reading_after, words_reading, reading, directive_in, directives}
 use Rattle.wq_decl.specs.Origins.{directive_words, IsFrom}
 
 -- a directive, if the reading found one, has the words after the first
@@ -55,6 +55,16 @@ flushwq_words n first (name ∷ target ∷ []) = chosen (are_names (name ∷ tar
     chosen false = tt
 flushwq_words n first (name ∷ target ∷ extra ∷ others) = tt
 
+unsure_words : (n : ℕ) (whole : Bool) (first : WordView) (ws : List WordView) → WordsAmong (first ∷ ws) (unsure_reading n whole ws)
+unsure_words n whole first [] = tt
+unsure_words n whole first (name ∷ []) = tt
+unsure_words n whole first (name ∷ target ∷ []) = chosen (are_names (name ∷ target ∷ []))
+  where
+    chosen : (b : Bool) → WordsAmong (first ∷ name ∷ target ∷ []) (cond b (Ok (Some (Unsure name target whole))) (Err (BadName n)))
+    chosen true = record { first = first; words = refl }
+    chosen false = tt
+unsure_words n whole first (name ∷ target ∷ extra ∷ others) = tt
+
 ordered_words : (n : ℕ) (first : WordView) (ws : List WordView) → WordsAmong (first ∷ ws) (ordered_reading n ws)
 ordered_words n first [] = tt
 ordered_words n first (name ∷ others) = chosen (are_names (name ∷ others))
@@ -68,6 +78,8 @@ after_words None n first ws = tt
 after_words (Some keyword.Item) n first ws = item_words n first ws
 after_words (Some keyword.Flush) n first ws = flush_words n first ws
 after_words (Some keyword.FlushWq) n first ws = flushwq_words n first ws
+after_words (Some keyword.FlushUnsure) n first ws = unsure_words n false first ws
+after_words (Some keyword.FlushWqUnsure) n first ws = unsure_words n true first ws
 after_words (Some keyword.Ordered) n first ws = ordered_words n first ws
 
 cond_words : (ws : List WordView) (b : Bool) (x y : Result (Option Directive) DeclError) → WordsAmong ws x → WordsAmong ws y → WordsAmong ws (cond b x y)

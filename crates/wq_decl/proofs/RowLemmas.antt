@@ -10,15 +10,15 @@ use Rattle.wq_text.specs.Comments.{before_comment}
 use Rattle.wq_text.specs.Words.{WordView, words_of}
 use Rattle.wq_text.proofs.LimitLaws.{Any-later}
 use Rattle.wq_decl.specs.declared.directive.Directive.{Directive}
-use Rattle.wq_decl.specs.declared.directive.Directive.TheVariants.{Item, Flush, FlushWq, Ordered}
+use Rattle.wq_decl.specs.declared.directive.Directive.TheVariants.{Item, Flush, FlushWq, Unsure, Ordered}
 use Rattle.wq_decl.specs.declared.fault.DeclError.{DeclError}
 use Rattle.wq_decl.specs.declared.fault.DeclError.TheVariants.{BadByte, UnknownWord, MissingName, ExtraWord, BadName}
 use Rattle.wq_decl.specs.declared.keyword.Keyword.{Keyword}
 use Rattle.wq_decl.specs.declared.keyword.Keyword.TheVariants as keyword
 use Rattle.wq_decl.specs.Names.{is_name, are_names}
 use Rattle.wq_decl.specs.Keywords.{keyword_of}
-use Rattle.wq_decl.specs.Reading.{is_text_byte, item_reading, flush_reading, flushwq_reading, ordered_reading, reading_after, words_reading, reading}
-use Rattle.wq_decl.specs.Rows.{HasBadByte, IsUnknown, LacksName, HasExtraWord, HasBadName, OfWords, BreaksRow, rows_above, BreaksFirst}
+use Rattle.wq_decl.specs.Reading.{is_text_byte, item_reading, flush_reading, flushwq_reading, unsure_reading, ordered_reading, reading_after, words_reading, reading}
+use Rattle.wq_decl.specs.Rows.{HasBadByte, IsUnknown, TakesTwo, LacksName, HasExtraWord, HasBadName, OfWords, BreaksRow, rows_above, BreaksFirst}
 use Rattle.wq_decl.proofs.KeywordLemmas.{IsWordOf, IsWordOf-keyword_of}
 
 -- ---- a test that some element fails
@@ -39,6 +39,12 @@ fails_none p xs e h = both_ways (list_all p xs) (list_all_at p xs h.0 h.1 h.2 (a
 -- no line begins with two directives
 apart : (a b bytes : List ℕ) → bytes_eq a b ≡ false → bytes ≡ a → bytes ≡ b → ⊥
 apart a b bytes differ is other = both_ways (bytes_eq a b) differ ((bytes_eq-Decides a b).1 (sym is ∙ other))
+
+-- nor with one of these and another word
+apart_from_two : (a : List ℕ) (first : WordView) → bytes_eq a (codes "flushwq") ≡ false → bytes_eq a (codes "flush?") ≡ false → bytes_eq a (codes "flushwq?") ≡ false → first.bytes ≡ a → TakesTwo first → ⊥
+apart_from_two a first flushwq unsure whole is (inl h) = apart a (codes "flushwq") first.bytes flushwq is h
+apart_from_two a first flushwq unsure whole is (inr (inl h)) = apart a (codes "flush?") first.bytes unsure is h
+apart_from_two a first flushwq unsure whole is (inr (inr h)) = apart a (codes "flushwq?") first.bytes whole is h
 
 -- line n with these bytes and words before its comment breaks the row of this fault
 abbrev Breaks : ℕ → List ℕ → List WordView → DeclError → Type 0
@@ -123,7 +129,7 @@ module _ (n : ℕ) (bytes : List ℕ) (clean : HasBadByte bytes → ⊥) where
       enough : LacksName first (name ∷ []) → ⊥
       enough (inl h) = absurd (omega (arith, h.1))
       enough (inr (inl flush, h)) = apart (codes "item") (codes "flush") first.bytes refl is flush
-      enough (inr (inr flushwq, h)) = apart (codes "item") (codes "flushwq") first.bytes refl is flushwq
+      enough (inr (inr two, h)) = apart_from_two (codes "item") first refl refl refl is two
 
       few : HasExtraWord first (name ∷ []) → ⊥
       few (inl h) = absurd (omega (arith, h.1))
@@ -146,11 +152,11 @@ module _ (n : ℕ) (bytes : List ℕ) (clean : HasBadByte bytes → ⊥) where
 
       few : HasExtraWord first (name ∷ target ∷ others) → ⊥
       few (inl h) = apart (codes "flush") (codes "item") first.bytes refl is h.0
-      few (inr h) = apart (codes "flush") (codes "flushwq") first.bytes refl is h.0
+      few (inr h) = apart_from_two (codes "flush") first refl refl refl is h.0
 
   flushwq : (first : WordView) (others : List WordView) → first.bytes ≡ codes "flushwq" → Says (first ∷ others) (flushwq_reading n others)
-  flushwq first [] is = missing first [] (λ u. u.2 is) (inr (inr is, omega arith))
-  flushwq first (name ∷ []) is = missing first (name ∷ []) (λ u. u.2 is) (inr (inr is, omega arith))
+  flushwq first [] is = missing first [] (λ u. u.2 is) (inr (inr (inl is), omega arith))
+  flushwq first (name ∷ []) is = missing first (name ∷ []) (λ u. u.2 is) (inr (inr (inl is), omega arith))
   flushwq first (name ∷ target ∷ []) is =
       names first (name ∷ target ∷ []) (FlushWq name target) (are_names (name ∷ target ∷ [])) (λ u. u.2 is) enough few refl
     where
@@ -161,31 +167,53 @@ module _ (n : ℕ) (bytes : List ℕ) (clean : HasBadByte bytes → ⊥) where
       few : HasExtraWord first (name ∷ target ∷ []) → ⊥
       few (inl h) = apart (codes "flushwq") (codes "item") first.bytes refl is h.0
       few (inr h) = absurd (omega (arith, h.1))
-  flushwq first (name ∷ target ∷ third ∷ others) is = extra first (name ∷ target ∷ third ∷ others) (λ u. u.2 is) enough (inr (is, omega arith))
+  flushwq first (name ∷ target ∷ third ∷ others) is = extra first (name ∷ target ∷ third ∷ others) (λ u. u.2 is) enough (inr (inl is, omega arith))
+    where
+      enough : LacksName first (name ∷ target ∷ third ∷ others) → ⊥
+      enough (inl h) = absurd (omega (arith, h.1))
+      enough (inr h) = absurd (omega (arith, h.1))
+
+  -- the words of an unsure line; its first word is known, and isn't `item`
+  unsure : (whole : Bool) (first : WordView) (others : List WordView) → TakesTwo first → (first.bytes ≡ codes "item" → ⊥) → (IsUnknown first others → ⊥) → Says (first ∷ others) (unsure_reading n whole others)
+  unsure whole first [] two no_item known = missing first [] known (inr (inr two, omega arith))
+  unsure whole first (name ∷ []) two no_item known = missing first (name ∷ []) known (inr (inr two, omega arith))
+  unsure whole first (name ∷ target ∷ []) two no_item known =
+      names first (name ∷ target ∷ []) (Unsure name target whole) (are_names (name ∷ target ∷ [])) known enough few refl
+    where
+      enough : LacksName first (name ∷ target ∷ []) → ⊥
+      enough (inl h) = absurd (omega (arith, h.1))
+      enough (inr h) = absurd (omega (arith, h.1))
+
+      few : HasExtraWord first (name ∷ target ∷ []) → ⊥
+      few (inl h) = no_item h.0
+      few (inr h) = absurd (omega (arith, h.1))
+  unsure whole first (name ∷ target ∷ third ∷ others) two no_item known = extra first (name ∷ target ∷ third ∷ others) known enough (inr (two, omega arith))
     where
       enough : LacksName first (name ∷ target ∷ third ∷ others) → ⊥
       enough (inl h) = absurd (omega (arith, h.1))
       enough (inr h) = absurd (omega (arith, h.1))
 
   ordered : (first : WordView) (others : List WordView) → first.bytes ≡ codes "ordered" → Says (first ∷ others) (ordered_reading n others)
-  ordered first [] is = missing first [] (λ u. u.3 is) (inl (inr is, omega arith))
+  ordered first [] is = missing first [] (λ u. u.5 is) (inl (inr is, omega arith))
   ordered first (name ∷ others) is =
-      names first (name ∷ others) (Ordered (name ∷ others)) (are_names (name ∷ others)) (λ u. u.3 is) enough few refl
+      names first (name ∷ others) (Ordered (name ∷ others)) (are_names (name ∷ others)) (λ u. u.5 is) enough few refl
     where
       enough : LacksName first (name ∷ others) → ⊥
       enough (inl h) = absurd (omega (arith, h.1))
       enough (inr (inl flush, h)) = apart (codes "ordered") (codes "flush") first.bytes refl is flush
-      enough (inr (inr flushwq, h)) = apart (codes "ordered") (codes "flushwq") first.bytes refl is flushwq
+      enough (inr (inr two, h)) = apart_from_two (codes "ordered") first refl refl refl is two
 
       few : HasExtraWord first (name ∷ others) → ⊥
       few (inl h) = apart (codes "ordered") (codes "item") first.bytes refl is h.0
-      few (inr h) = apart (codes "ordered") (codes "flushwq") first.bytes refl is h.0
+      few (inr h) = apart_from_two (codes "ordered") first refl refl refl is h.0
 
   after_says : (k : Option Keyword) (first : WordView) (others : List WordView) → IsWordOf first.bytes k → Says (first ∷ others) (reading_after k n others)
-  after_says None first others none = unknown first others (none keyword.Item, none keyword.Flush, none keyword.FlushWq, none keyword.Ordered)
+  after_says None first others none = unknown first others (none keyword.Item, none keyword.Flush, none keyword.FlushWq, none keyword.FlushUnsure, none keyword.FlushWqUnsure, none keyword.Ordered)
   after_says (Some keyword.Item) first others is = item first others is
   after_says (Some keyword.Flush) first others is = flush first others is
   after_says (Some keyword.FlushWq) first others is = flushwq first others is
+  after_says (Some keyword.FlushUnsure) first others is = unsure false first others (inr (inl is)) (apart (codes "flush?") (codes "item") first.bytes refl is) (λ u. u.3 is)
+  after_says (Some keyword.FlushWqUnsure) first others is = unsure true first others (inr (inr is)) (apart (codes "flushwq?") (codes "item") first.bytes refl is) (λ u. u.4 is)
   after_says (Some keyword.Ordered) first others is = ordered first others is
 
   words_say : (words : List WordView) → Says words (words_reading n words)

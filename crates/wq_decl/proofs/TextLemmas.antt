@@ -10,14 +10,14 @@ use Rattle.wq_text.specs.Comments.{before_comment}
 use Rattle.wq_text.specs.Words.{WordView, words_of, is_blank, AllBlank, AreTheWords}
 use Rattle.wq_text.proofs.WordLaws.{AreTheWords-words_from}
 use Rattle.wq_decl.specs.declared.directive.Directive.{Directive}
-use Rattle.wq_decl.specs.declared.directive.Directive.TheVariants.{Item, Flush, FlushWq, Ordered}
+use Rattle.wq_decl.specs.declared.directive.Directive.TheVariants.{Item, Flush, FlushWq, Unsure, Ordered}
 use Rattle.wq_decl.specs.declared.fault.DeclError.{DeclError}
 use Rattle.wq_decl.specs.declared.fault.DeclError.TheVariants.{BadName}
 use Rattle.wq_decl.specs.declared.keyword.Keyword.{Keyword}
 use Rattle.wq_decl.specs.declared.keyword.Keyword.TheVariants as keyword
 use Rattle.wq_decl.specs.Names.{is_name_byte, is_name, are_names}
 use Rattle.wq_decl.specs.Keywords.{keyword_of}
-use Rattle.wq_decl.specs.Reading.{is_text_byte, item_reading, flush_reading, flushwq_reading, ordered_reading, reading_after, words_reading, reading}
+use Rattle.wq_decl.specs.Reading.{is_text_byte, item_reading, flush_reading, flushwq_reading, unsure_reading, ordered_reading, reading_after, words_reading, reading}
 use Rattle.wq_decl.proofs.KeywordLemmas.{IsWordOf, IsWordOf-keyword_of}
 
 -- ---- bytes
@@ -97,6 +97,12 @@ clean_flushwq n (name ∷ []) = tt
 clean_flushwq n (name ∷ target ∷ []) = clean_names n (FlushWq name target) (name ∷ target ∷ []) (are_names (name ∷ target ∷ [])) refl
 clean_flushwq n (name ∷ target ∷ extra ∷ others) = tt
 
+clean_unsure : (n : ℕ) (whole : Bool) (ws : List WordView) → Clean ws (unsure_reading n whole ws)
+clean_unsure n whole [] = tt
+clean_unsure n whole (name ∷ []) = tt
+clean_unsure n whole (name ∷ target ∷ []) = clean_names n (Unsure name target whole) (name ∷ target ∷ []) (are_names (name ∷ target ∷ [])) refl
+clean_unsure n whole (name ∷ target ∷ extra ∷ others) = tt
+
 clean_ordered : (n : ℕ) (ws : List WordView) → Clean ws (ordered_reading n ws)
 clean_ordered n [] = tt
 clean_ordered n (name ∷ others) = clean_names n (Ordered (name ∷ others)) (name ∷ others) (are_names (name ∷ others)) refl
@@ -113,6 +119,8 @@ clean_after None n first others none = tt
 clean_after (Some keyword.Item) n first others is = with_word first others (codes "item") _ refl is (clean_item n others)
 clean_after (Some keyword.Flush) n first others is = with_word first others (codes "flush") _ refl is (clean_flush n others)
 clean_after (Some keyword.FlushWq) n first others is = with_word first others (codes "flushwq") _ refl is (clean_flushwq n others)
+clean_after (Some keyword.FlushUnsure) n first others is = with_word first others (codes "flush?") _ refl is (clean_unsure n false others)
+clean_after (Some keyword.FlushWqUnsure) n first others is = with_word first others (codes "flushwq?") _ refl is (clean_unsure n true others)
 clean_after (Some keyword.Ordered) n first others is = with_word first others (codes "ordered") _ refl is (clean_ordered n others)
 
 clean_words : (n : ℕ) (ws : List WordView) → Clean ws (words_reading n ws)

@@ -51,6 +51,8 @@ use Rattle.wq_decl.specs.Reading.{
 }
 use Rattle.wq_items.specs.Building.{table_of}
 use Rattle.wq_items.specs.declared.fault.ItemError.{ItemError}
+use Rattle.wq_items.specs.declared.target.Kind.{Kind}
+use Rattle.wq_items.specs.Building.{of_item}
 use Rattle.wq_items.specs.Flushes.{flushes, line_flushes}
 use Rattle.wq_items.specs.Table.{Table, flush_count}
 use Rattle.wq_items.proofs.FlushLemmas.{flush_count-table_of}
@@ -85,6 +87,16 @@ taken false d fault found e = absurd cc
 never_ok : (fault : DeclError) (found : Option Directive) → Err fault ≡ Ok found → ⊥
 never_ok fault found e = cc
 
+of_unsure : (whole : Bool) (n : ℕ) (ws : List WordView) (found : Option Directive) → unsure_reading n whole ws ≡ Ok
+    found → length ws - 1 ≡ declared_by n found
+of_unsure whole n [] found e = absurd (never_ok (MissingName n) found e)
+of_unsure whole n (name ∷ []) found e = absurd (never_ok (MissingName n) found e)
+of_unsure whole n (name ∷ target ∷ []) found e =
+    let one : length (name ∷ target ∷ []) - 1 ≡ 1 = omega arith in
+    one ∙ ap (declared_by n) (taken (are_names (name ∷ target ∷ [])) (directive.Unsure name target whole) (BadName n)
+    found e)
+of_unsure whole n (name ∷ target ∷ extra ∷ others) found e = absurd (never_ok (ExtraWord n) found e)
+
 of_after : (k : Option Keyword) (n : ℕ) (ws : List WordView) (found : Option Directive) → reading_after k n ws ≡ Ok
     found → flushes_cut (Some (k, ws)) ≡ declared_by n found
 of_after None n ws found e = absurd (never_ok (UnknownWord n) found e)
@@ -97,8 +109,8 @@ of_after (Some keyword.Flush) n (name ∷ []) found e = absurd (never_ok (Missin
 of_after (Some keyword.Flush) n (name ∷ target ∷ others) found e =
     let many : length (name ∷ target ∷ others) - 1 ≡ length (target ∷ others) = omega arith in
     many
-    ∙ sym (length-map {B = List ℕ × (Bool × List ℕ)} (target ∷ others)
-    (λ (w : WordView). (name.bytes, (false, w.bytes))))
+    ∙ sym (length-map {B = List ℕ × (Kind × List ℕ)} (target ∷ others)
+    (λ (w : WordView). (name.bytes, (of_item, w.bytes))))
     ∙ ap (declared_by n) (taken (are_names (name ∷ target ∷ others)) (directive.Flush name (target ∷ others))
     (BadName n) found e)
 of_after (Some keyword.FlushWq) n [] found e = absurd (never_ok (MissingName n) found e)
@@ -108,6 +120,8 @@ of_after (Some keyword.FlushWq) n (name ∷ target ∷ []) found e =
     one ∙ ap (declared_by n) (taken (are_names (name ∷ target ∷ [])) (directive.FlushWq name target) (BadName n) found
     e)
 of_after (Some keyword.FlushWq) n (name ∷ target ∷ extra ∷ others) found e = absurd (never_ok (ExtraWord n) found e)
+of_after (Some keyword.FlushUnsure) n ws found e = of_unsure false n ws found e
+of_after (Some keyword.FlushWqUnsure) n ws found e = of_unsure true n ws found e
 of_after (Some keyword.Ordered) n [] found e = absurd (never_ok (MissingName n) found e)
 of_after (Some keyword.Ordered) n (name ∷ rest) found e = ap (declared_by n)
     (taken (are_names (name ∷ rest)) (directive.Ordered (name ∷ rest)) (BadName n) found e)

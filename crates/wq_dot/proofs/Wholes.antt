@@ -79,7 +79,7 @@ module _ (targets : List Target) (rise : PlacesRise targets) where
       elim (cases_lt k (length targets)) [
         | inl within ↦ (within, λ d. whole_at place k d within (at d))
         | inr past ↦
-            let beyond : Target = record { item = 0; whole = false; place = place + 1 } in
+            let beyond : Target = record { item = 0; whole = false; unsure = false; place = place + 1 } in
             absurd (omega (arith, at beyond, ap (λ (t : Target). t.place) (get_or_past targets k beyond past)))
       ]
     where

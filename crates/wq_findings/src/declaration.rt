@@ -145,6 +145,8 @@ fn form_of(line: &Line<'_>) -> &'static str {
     match Keyword::of(bytes_at(line, 0)) {
         Some(Keyword::Item) => "item NAME",
         Some(Keyword::FlushWq) => "flushwq NAME ITEM",
+        Some(Keyword::FlushUnsure) => "flush? NAME TARGET",
+        Some(Keyword::FlushWqUnsure) => "flushwq? NAME ITEM",
         Some(Keyword::Ordered) => "ordered NAME..",
         Some(Keyword::Flush) | None => "flush NAME TARGET..",
     }
@@ -156,13 +158,23 @@ fn missing_name<'a>(line: &Line<'a>) -> Finding<'a> {
     Finding::marked(Mark::behind(line), what, Hint::Form(form_of(line)))
 }
 
-/// An `item` line with more than one name, or a `flushwq` line with more than two.
+/// An `item` line with more than one name, or a `flushwq`, `flush?` or `flushwq?` line with more than two.
 fn extra_word<'a>(line: &Line<'a>) -> Finding<'a> {
     let (at, what, hint) = match Keyword::of(bytes_at(line, 0)) {
         Some(Keyword::FlushWq) => (
             3,
             "a `flushwq` line has two names",
             "each workqueue has a `flushwq` line of its own",
+        ),
+        Some(Keyword::FlushUnsure) => (
+            3,
+            "a `flush?` line has two names",
+            "one line is one question: each target has a line of its own",
+        ),
+        Some(Keyword::FlushWqUnsure) => (
+            3,
+            "a `flushwq?` line has two names",
+            "one line is one question: each target has a line of its own",
         ),
         Some(Keyword::Item | Keyword::Flush | Keyword::Ordered) | None => (
             2,
@@ -272,10 +284,12 @@ fn undeclared_hint<'a, A: Allocator + Copy>(
     })
 }
 
-/// Whether a word stands for the workqueue that a `flushwq` line flushes.
+/// Whether a word stands for the workqueue that a `flushwq` or `flushwq?` line flushes.
 fn is_flushed_whole(line: &Line<'_>, word: &[u8]) -> bool {
-    matches!(Keyword::of(bytes_at(line, 0)), Some(Keyword::FlushWq))
-        && bytes_at(line, 2) == word
+    matches!(
+        Keyword::of(bytes_at(line, 0)),
+        Some(Keyword::FlushWq | Keyword::FlushWqUnsure)
+    ) && bytes_at(line, 2) == word
         && bytes_at(line, 1) != word
 }
 

@@ -189,7 +189,13 @@ impl<A: Allocator + Copy> Mending<A> {
     /// Takes this line out, which may declare an item unless it has another directive.
     fn out<'a>(&mut self, line: &Line<'a>) -> Mend<'a> {
         match Keyword::of(first_word(line)) {
-            Some(Keyword::Flush | Keyword::FlushWq | Keyword::Ordered) => {}
+            Some(
+                Keyword::Flush
+                | Keyword::FlushWq
+                | Keyword::FlushUnsure
+                | Keyword::FlushWqUnsure
+                | Keyword::Ordered,
+            ) => {}
             Some(Keyword::Item) | None => self.knows_items = false,
         }
         Mend::Out(line.no())

@@ -46,11 +46,20 @@ AddsRounds file words s ws components old new =
 abbrev pub is_of_whole : List (List Target) → ℕ → ℕ → Bool
 is_of_whole waits i place = list_any (λ (t : Target). (t.place == place) && t.whole) (targets_of waits i)
 
+-- the flush at this place, which item i declares, is unsure
+abbrev pub is_unsure : List (List Target) → ℕ → ℕ → Bool
+is_unsure waits i place = list_any (λ (t : Target). (t.place == place) && t.unsure) (targets_of waits i)
+
 -- the wait in a flush that leads to no rescuer: nothing waits there
 abbrev pub hop_of : Declared → WaitArc → Hop
 hop_of s a = record {
   item = a.src;
-  flush = record { item = a.dst; place = a.place; whole = is_of_whole s.table.waits a.src a.place };
+  flush = record {
+    item = a.dst;
+    place = a.place;
+    whole = is_of_whole s.table.waits a.src a.place;
+    unsure = is_unsure s.table.waits a.src a.place;
+  };
   next = a.dst;
 }
 

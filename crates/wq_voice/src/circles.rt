@@ -50,6 +50,17 @@ fn is_of_whole<A: Allocator + Copy>(table: &ItemTable<'_, A>, item: ItemId, plac
         .any(|flush| flush.place == place && flush.whole)
 }
 
+/// Whether the flush at this place, which the item declares, is unsure.
+fn is_unsure<A: Allocator + Copy>(table: &ItemTable<'_, A>, item: ItemId, place: u32) -> bool
+    requires { item < length table.now.names }
+    ensures { result ≡ is_unsure table.now.waits item place }
+{
+    table
+        .waits(item)
+        .iter()
+        .any(|flush| flush.place == place && flush.unsure)
+}
+
 /// The wait in a flush that leads to no rescuer.
 fn hop_of<A: Allocator + Copy>(assigned: &Assigned<'_, '_, A>, arc: &WaitArc) -> Hop
     requires { arc.now.src < length assigned.now.declared.partition.group_of }
@@ -61,6 +72,7 @@ fn hop_of<A: Allocator + Copy>(assigned: &Assigned<'_, '_, A>, arc: &WaitArc) ->
             item: arc.dst,
             place: arc.place,
             whole: is_of_whole(assigned.table(), arc.src, arc.place),
+            unsure: is_unsure(assigned.table(), arc.src, arc.place),
         },
         next: arc.dst,
     }

@@ -28,13 +28,16 @@ pub struct FlushLines<'a, A: Allocator> {
     line_of: Vec<u16, A>,
 }
 
+/// The first words of lines that declare flushes.
+static FLUSHES: [&[u8]; 4] = [b"flush", b"flushwq", b"flush?", b"flushwq?"];
+
 /// How many flushes a line declares: one for each name after the item's.
 fn flushes_on(line: &Line<'_>) -> usize {
     let mut words = line.words();
     let Some(first) = words.next() else {
         return 0;
     };
-    if first.bytes() != b"flush".as_slice() && first.bytes() != b"flushwq".as_slice() {
+    if !FLUSHES.contains(&first.bytes()) {
         return 0;
     }
     let mut flushes: usize = 0;
