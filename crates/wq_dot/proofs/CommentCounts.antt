@@ -47,12 +47,12 @@ use Rattle.wq_decl.specs.Reading.{
   is_text_byte,
   reading,
   reading_after,
+  unsure_reading,
   words_reading,
 }
-use Rattle.wq_items.specs.Building.{table_of}
+use Rattle.wq_items.specs.Building.{of_item, table_of}
 use Rattle.wq_items.specs.declared.fault.ItemError.{ItemError}
 use Rattle.wq_items.specs.declared.target.Kind.{Kind}
-use Rattle.wq_items.specs.Building.{of_item}
 use Rattle.wq_items.specs.Flushes.{flushes, line_flushes}
 use Rattle.wq_items.specs.Table.{Table, flush_count}
 use Rattle.wq_items.proofs.FlushLemmas.{flush_count-table_of}

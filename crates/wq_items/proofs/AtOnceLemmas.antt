@@ -8,22 +8,23 @@ use Rattle.wq_text.specs.Lines.{LineView}
 use Rattle.wq_text.specs.Comments.{before_comment}
 use Rattle.wq_text.specs.Words.{WordView, words_of}
 use Rattle.wq_decl.specs.declared.directive.Directive.{Directive}
-use Rattle.wq_decl.specs.declared.directive.Directive.TheVariants.{Item, Flush, FlushWq, Ordered}
+use Rattle.wq_decl.specs.declared.directive.Directive.TheVariants.{Item, Flush, FlushWq, Unsure, Ordered}
 use Rattle.wq_decl.specs.declared.fault.DeclError.{DeclError}
 use Rattle.wq_decl.specs.declared.fault.DeclError.TheVariants.{BadByte, BadName}
 use Rattle.wq_decl.specs.declared.keyword.Keyword.{Keyword}
 use Rattle.wq_decl.specs.declared.keyword.Keyword.TheVariants as keyword
 use Rattle.wq_decl.specs.Names.{is_name, are_names}
 use Rattle.wq_decl.specs.Keywords.{keyword_of}
-use Rattle.wq_decl.specs.Reading.{is_text_byte, item_reading, flush_reading, flushwq_reading, ordered_reading, reading_after, words_reading, reading, directives, first_fault, fault_in, directive_in, is_ordered, has_ordered, ordered_lines, HasNames}
+use Rattle.wq_decl.specs.Reading.{is_text_byte, item_reading, flush_reading, flushwq_reading, unsure_reading, ordered_reading, reading_after, words_reading, reading, directives, first_fault, fault_in, directive_in, is_ordered, has_ordered, ordered_lines, HasNames}
 use Rattle.wq_decl.proofs.NameLemmas.{HasNames-directives}
 use Rattle.wq_decl.proofs.TextLemmas.{reading-text, reading-words}
 use Rattle.wq_items.specs.declared.fault.ItemError.{ItemError}
 use Rattle.wq_items.specs.Table.{Table, IsTable, item_named}
+use Rattle.wq_items.specs.declared.target.Kind.{Kind}
 use Rattle.wq_items.specs.declared.target.Target.{Target}
-use Rattle.wq_items.specs.Building.{AddsWhole, empty_table, items_named, declared, and_then, table_after, table_of}
+use Rattle.wq_items.specs.Building.{AddsOne, empty_table, items_named, declared, and_then, table_after, table_of}
 use Rattle.wq_items.specs.FirstFault.{RanOut, DeclaresMore}
-use Rattle.wq_items.specs.AtOnce.{item_unjudged, flush_unjudged, flushwq_unjudged, unjudged_after, unjudged, is_whole, Foretells}
+use Rattle.wq_items.specs.AtOnce.{item_unjudged, flush_unjudged, flushwq_unjudged, unsure_unjudged, unjudged_after, unjudged, is_whole, Foretells}
 use Rattle.wq_items.proofs.TableLemmas.{parts, item_named-below}
 use Rattle.wq_items.proofs.BuildingLemmas.{IsTable-table_of}
 use Rattle.wq_items.proofs.GrownTables.{known_next}
@@ -53,6 +54,12 @@ foretells_flushwq n (name ∷ []) = λ ok. cc
 foretells_flushwq n (name ∷ target ∷ []) = by_test (FlushWq name target) (are_names (name ∷ target ∷ [])) (BadName n) refl
 foretells_flushwq n (name ∷ target ∷ extra ∷ others) = λ ok. cc
 
+foretells_unsure : (n : ℕ) (whole : Bool) (ws : List WordView) → Foretells (unsure_unjudged whole ws) (unsure_reading n whole ws)
+foretells_unsure n whole [] = λ ok. cc
+foretells_unsure n whole (name ∷ []) = λ ok. cc
+foretells_unsure n whole (name ∷ target ∷ []) = by_test (Unsure name target whole) (are_names (name ∷ target ∷ [])) (BadName n) refl
+foretells_unsure n whole (name ∷ target ∷ extra ∷ others) = λ ok. cc
+
 foretells_ordered : (n : ℕ) (ws : List WordView) → Foretells (Some (Some (Ordered ws))) (ordered_reading n ws)
 foretells_ordered n [] = (λ whole. absurd cc, λ ok. absurd cc)
 foretells_ordered n (name ∷ others) = by_test (Ordered (name ∷ others)) (are_names (name ∷ others)) (BadName n) refl
@@ -62,6 +69,8 @@ foretells_after None n ws = λ ok. cc
 foretells_after (Some keyword.Item) n ws = foretells_item n ws
 foretells_after (Some keyword.Flush) n ws = foretells_flush n ws
 foretells_after (Some keyword.FlushWq) n ws = foretells_flushwq n ws
+foretells_after (Some keyword.FlushUnsure) n ws = foretells_unsure n false ws
+foretells_after (Some keyword.FlushWqUnsure) n ws = foretells_unsure n true ws
 foretells_after (Some keyword.Ordered) n ws = foretells_ordered n ws
 
 foretells_words : (n : ℕ) (ws : List WordView) → Foretells (unjudged ws) (words_reading n ws)
@@ -241,12 +250,14 @@ other_order : (n : ℕ) (d : Directive) (ds : List (ℕ × Directive)) → is_or
 other_order n (Item name) ds e = refl
 other_order n (Flush name targets) ds e = refl
 other_order n (FlushWq name target) ds e = refl
+other_order n (Unsure name target whole) ds e = refl
 other_order n (Ordered names) ds e = absurd cc
 
 one_order : (n : ℕ) (d : Directive) (ds : List (ℕ × Directive)) → is_ordered d ≡ true → length (ordered_lines ((n, d) ∷ ds)) ≡ 1 + length (ordered_lines ds)
 one_order n (Item name) ds e = absurd cc
 one_order n (Flush name targets) ds e = absurd cc
 one_order n (FlushWq name target) ds e = absurd cc
+one_order n (Unsure name target whole) ds e = absurd cc
 one_order n (Ordered names) ds e = omega arith
 
 -- what is noted of a line with a directive
@@ -334,14 +345,15 @@ module _ (t : Table) (sound : IsTable t) where
       let k = known_next (items_named t.names (target ∷ others)) first next known in
       and_from (is_name name.bytes) (are_names (target ∷ others)) (name_found name.bytes i found) (names_found (target ∷ others) k.0 k.1)
 
-  -- so is a `flushwq` line whose words are found
-  pub whole_both : (name target : WordView) (i j : ℕ) → item_named t.names name.bytes ≡ Some i → item_named t.names target.bytes ≡ Some j → IsTrue (is_whole (FlushWq name target))
+  -- so is a line of one flush whose words are found
+  pub whole_both : (name target : WordView) (i j : ℕ) → item_named t.names name.bytes ≡ Some i → item_named t.names target.bytes ≡ Some j → IsTrue (are_names (name ∷ target ∷ []))
   whole_both name target i j first second =
       and_from (is_name name.bytes) (are_names (target ∷ [])) (name_found name.bytes i first) (and_from (is_name target.bytes) true (name_found target.bytes j second) refl)
 
-  pub whole_added : {X : Type 0} (o : Option X) (old new : List (List Target)) (name target : WordView) (place : ℕ) → IfSome o (λ _. AddsWhole t.names old name.bytes target.bytes place new) → IfSome o (λ _. IsTrue (is_whole (FlushWq name target)))
-  whole_added None old new name target place h = tt
-  whole_added (Some x) old new name target place h = whole_both name target h.item h.other h.first h.second
+  pub whole_added : {X : Type 0} (o : Option X) (old new : List (List Target)) (kind : Kind) (name target : WordView) (place : ℕ) → IfSome o (λ _. AddsOne t.names old kind name.bytes target.bytes place new)
+      → IfSome o (λ _. IsTrue (are_names (name ∷ target ∷ [])))
+  whole_added None old new kind name target place h = tt
+  whole_added (Some x) old new kind name target place h = whole_both name target h.item h.other h.first h.second
 
 -- ---- no answer
 

@@ -3,12 +3,13 @@ use Rattle.std.proofs.Common.{◌≡◌, ℕ, ◌+◌, ◌<◌, ◌≤◌, Bool,
 use Rattle.std.specs.List.{AllByRecursion, filter_map, cons_option}
 use Rattle.wq_text.specs.Words.{WordView}
 use Rattle.wq_decl.specs.declared.directive.Directive.{Directive}
-use Rattle.wq_decl.specs.declared.directive.Directive.TheVariants.{Item, Flush, FlushWq, Ordered}
+use Rattle.wq_decl.specs.declared.directive.Directive.TheVariants.{Item, Flush, FlushWq, Unsure, Ordered}
 use Rattle.wq_decl.specs.Reading.{HasNames}
 use Rattle.wq_items.specs.declared.fault.ItemError.{ItemError}
 use Rattle.wq_items.specs.declared.fault.ItemError.TheVariants.{ItemTwice, TooManyItems, TooManyFlushes}
 use Rattle.wq_items.specs.Table.{Table, IsTable, item_named, flush_count}
-use Rattle.wq_items.specs.Building.{empty_table, with_item, with_flushes, items_named, item_declared, flushes_declared, items_ordered, declared, and_then, table_after, table_of}
+use Rattle.wq_items.specs.declared.target.Kind.{Kind}
+use Rattle.wq_items.specs.Building.{of_item, of_workqueue, unsure_of, empty_table, with_item, with_flushes, items_named, item_declared, flushes_declared, items_ordered, declared, and_then, table_after, table_of}
 use Rattle.wq_items.specs.Flushes.{item_name, item_span}
 use Rattle.wq_items.proofs.TableLemmas.{IsTable-empty, IsTable-with_item, IsTable-with_flushes, parts, item_named-below, items_named-below}
 
@@ -20,14 +21,14 @@ pub record ItemStep (t : Table) (name : WordView) (u : Table) : Type 0 where
   pub room : length t.names < 4096
   pub after : u ≡ with_item t name
 
--- a `flush` or a `flushwq` line was taken
-pub record FlushStep (t : Table) (whole : Bool) (name : WordView) (targets : List WordView) (u : Table) : Type 0 where
+-- a line of flushes was taken
+pub record FlushStep (t : Table) (kind : Kind) (name : WordView) (targets : List WordView) (u : Table) : Type 0 where
   pub item : ℕ
   pub items : List ℕ
   pub first : item_named t.names name.bytes ≡ Some item
   pub others : items_named t.names targets ≡ Some items
   pub room : flush_count t.waits + length items ≤ 16384
-  pub after : u ≡ with_flushes t whole item items
+  pub after : u ≡ with_flushes t kind item items
 
 -- an `ordered` line was taken
 pub record OrderStep (t : Table) (names : List WordView) (u : Table) : Type 0 where
@@ -47,11 +48,11 @@ item_step t n name u e = found (item_named t.names name.bytes) refl e
     found (Some i) is e = absurd cc
     found None is e = room is (leb 4096 (length t.names)) refl e
 
-pub flush_step : (t : Table) (n : ℕ) (whole : Bool) (name : WordView) (targets : List WordView) (u : Table) → flushes_declared t n whole (items_named t.names (name ∷ targets)) ≡ Ok u → FlushStep t whole name targets u
-flush_step t n whole name targets u e = found (items_named t.names (name ∷ targets)) refl e
+pub flush_step : (t : Table) (n : ℕ) (kind : Kind) (name : WordView) (targets : List WordView) (u : Table) → flushes_declared t n kind (items_named t.names (name ∷ targets)) ≡ Ok u → FlushStep t kind name targets u
+flush_step t n kind name targets u e = found (items_named t.names (name ∷ targets)) refl e
   where
     room : (i : ℕ) (items : List ℕ) → items_named t.names (name ∷ targets) ≡ Some (i ∷ items) → (b : Bool) → ltb 16384 (flush_count t.waits + length items) ≡ b
-        → cond b (Err (TooManyFlushes n)) (Ok (with_flushes t whole i items)) ≡ Ok u → FlushStep t whole name targets u
+        → cond b (Err (TooManyFlushes n)) (Ok (with_flushes t kind i items)) ≡ Ok u → FlushStep t kind name targets u
     room i items is true full e = absurd cc
     room i items is false full e =
         let p = parts (item_named t.names name.bytes) (items_named t.names targets) (i ∷ items) is in
@@ -66,7 +67,7 @@ flush_step t n whole name targets u e = found (items_named t.names (name ∷ tar
           after = cc;
         }
 
-    found : (o : Option (List ℕ)) → items_named t.names (name ∷ targets) ≡ o → flushes_declared t n whole o ≡ Ok u → FlushStep t whole name targets u
+    found : (o : Option (List ℕ)) → items_named t.names (name ∷ targets) ≡ o → flushes_declared t n kind o ≡ Ok u → FlushStep t kind name targets u
     found None is e = absurd cc
     found (Some []) is e = let p = parts (item_named t.names name.bytes) (items_named t.names targets) [] is in absurd (let w = p.whole in cc)
     found (Some (i ∷ items)) is e = room i items is (ltb 16384 (flush_count t.waits + length items)) refl e
@@ -123,14 +124,16 @@ table_after-grows field said step t (d ∷ ds) w e =
 
 names_step : (t : Table) (d : ℕ × Directive) (u : Table) → declared t d.0 d.1 ≡ Ok u → u.names ≡ t.names ++ cons_option (item_name d) []
 names_step t (n, Item name) u e = ap (λ (v : Table). v.names) (item_step t n name u e).after
-names_step t (n, Flush name targets) u e = ap (λ (v : Table). v.names) (flush_step t n false name targets u e).after ∙ sym (append-nil t.names)
-names_step t (n, FlushWq name target) u e = ap (λ (v : Table). v.names) (flush_step t n true name (target ∷ []) u e).after ∙ sym (append-nil t.names)
+names_step t (n, Flush name targets) u e = ap (λ (v : Table). v.names) (flush_step t n of_item name targets u e).after ∙ sym (append-nil t.names)
+names_step t (n, FlushWq name target) u e = ap (λ (v : Table). v.names) (flush_step t n of_workqueue name (target ∷ []) u e).after ∙ sym (append-nil t.names)
+names_step t (n, Unsure name target whole) u e = ap (λ (v : Table). v.names) (flush_step t n (unsure_of whole) name (target ∷ []) u e).after ∙ sym (append-nil t.names)
 names_step t (n, Ordered names) u e = ap (λ (v : Table). v.names) (order_step t n names u e).after ∙ sym (append-nil t.names)
 
 spans_step : (t : Table) (d : ℕ × Directive) (u : Table) → declared t d.0 d.1 ≡ Ok u → u.spans ≡ t.spans ++ cons_option (item_span d) []
 spans_step t (n, Item name) u e = ap (λ (v : Table). v.spans) (item_step t n name u e).after
-spans_step t (n, Flush name targets) u e = ap (λ (v : Table). v.spans) (flush_step t n false name targets u e).after ∙ sym (append-nil t.spans)
-spans_step t (n, FlushWq name target) u e = ap (λ (v : Table). v.spans) (flush_step t n true name (target ∷ []) u e).after ∙ sym (append-nil t.spans)
+spans_step t (n, Flush name targets) u e = ap (λ (v : Table). v.spans) (flush_step t n of_item name targets u e).after ∙ sym (append-nil t.spans)
+spans_step t (n, FlushWq name target) u e = ap (λ (v : Table). v.spans) (flush_step t n of_workqueue name (target ∷ []) u e).after ∙ sym (append-nil t.spans)
+spans_step t (n, Unsure name target whole) u e = ap (λ (v : Table). v.spans) (flush_step t n (unsure_of whole) name (target ∷ []) u e).after ∙ sym (append-nil t.spans)
 spans_step t (n, Ordered names) u e = ap (λ (v : Table). v.spans) (order_step t n names u e).after ∙ sym (append-nil t.spans)
 
 pub names-table_after : (t : Table) (ds : List (ℕ × Directive)) (w : Table) → table_after t ds ≡ Ok w → w.names ≡ t.names ++ filter_map item_name ds
@@ -149,11 +152,14 @@ IsTable-step t (n, Item name) u named h e =
     let s = item_step t n name u e in
     subst IsTable (sym s.after) (IsTable-with_item t name h s.fresh s.room named)
 IsTable-step t (n, Flush name targets) u named h e =
-    let s = flush_step t n false name targets u e in
-    subst IsTable (sym s.after) (IsTable-with_flushes t false s.item s.items h (item_named-below t.names name.bytes s.item s.first) (items_named-below t.names targets s.items s.others) s.room)
+    let s = flush_step t n of_item name targets u e in
+    subst IsTable (sym s.after) (IsTable-with_flushes t of_item s.item s.items h (item_named-below t.names name.bytes s.item s.first) (items_named-below t.names targets s.items s.others) s.room)
 IsTable-step t (n, FlushWq name target) u named h e =
-    let s = flush_step t n true name (target ∷ []) u e in
-    subst IsTable (sym s.after) (IsTable-with_flushes t true s.item s.items h (item_named-below t.names name.bytes s.item s.first) (items_named-below t.names (target ∷ []) s.items s.others) s.room)
+    let s = flush_step t n of_workqueue name (target ∷ []) u e in
+    subst IsTable (sym s.after) (IsTable-with_flushes t of_workqueue s.item s.items h (item_named-below t.names name.bytes s.item s.first) (items_named-below t.names (target ∷ []) s.items s.others) s.room)
+IsTable-step t (n, Unsure name target whole) u named h e =
+    let s = flush_step t n (unsure_of whole) name (target ∷ []) u e in
+    subst IsTable (sym s.after) (IsTable-with_flushes t (unsure_of whole) s.item s.items h (item_named-below t.names name.bytes s.item s.first) (items_named-below t.names (target ∷ []) s.items s.others) s.room)
 IsTable-step t (n, Ordered names) u named h e = subst IsTable (sym (order_step t n names u e).after) h
 
 pub IsTable-table_of : (ds : List (ℕ × Directive)) (t : Table) → AllByRecursion (λ (d : ℕ × Directive). HasNames d.1) ds → table_of ds ≡ Ok t → IsTable t

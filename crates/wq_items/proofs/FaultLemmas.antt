@@ -7,11 +7,12 @@ use Rattle.std.proofs.lemmas.List.Concat.{flat_map-append}
 use Rattle.std.proofs.lemmas.List.Elements.{All-nil, All-cons, filter_map-append}
 use Rattle.wq_text.specs.Words.{WordView}
 use Rattle.wq_decl.specs.declared.directive.Directive.{Directive}
-use Rattle.wq_decl.specs.declared.directive.Directive.TheVariants.{Item, Flush, FlushWq, Ordered}
+use Rattle.wq_decl.specs.declared.directive.Directive.TheVariants.{Item, Flush, FlushWq, Unsure, Ordered}
 use Rattle.wq_items.specs.declared.fault.ItemError.{ItemError}
 use Rattle.wq_items.specs.declared.fault.ItemError.TheVariants.{ItemTwice, UnknownItem, TooManyItems, TooManyFlushes, OutOfMemory}
 use Rattle.wq_items.specs.Table.{Table, item_named, flush_count}
-use Rattle.wq_items.specs.Building.{empty_table, with_item, with_flushes, and_item, items_named, item_declared, flushes_declared, items_ordered, declared, table_of}
+use Rattle.wq_items.specs.declared.target.Kind.{Kind}
+use Rattle.wq_items.specs.Building.{of_item, of_workqueue, unsure_of, empty_table, with_item, with_flushes, and_item, items_named, item_declared, flushes_declared, items_ordered, declared, table_of}
 use Rattle.wq_items.specs.Flushes.{item_name, line_flushes, flushes, names_used}
 use Rattle.wq_items.specs.FirstFault.{IsDeclared, IsFaultless, IsFaultOfLine, IsLowestItemFault}
 use Rattle.wq_items.proofs.TableLemmas.{differs-from-item_named, parts, item_named-below, length-items_named, flush_count-with_item}
@@ -105,27 +106,40 @@ IsWithin-step t (n, Item name) u q h e =
       flushes = omega (arith, ap (λ (v : Table). flush_count v.waits) s.after, flush_count-with_item t name, h.flushes);
     }
 IsWithin-step t (n, Flush name targets) u q h e =
-    let s = flush_step t n false name targets u e in
+    let s = flush_step t n of_item name targets u e in
     record {
       even = IsEven-step t (n, Flush name targets) u q h.even e;
       items = omega (arith, ap (λ (v : Table). length v.names) s.after, h.items);
       flushes = omega (
         arith,
         count_step t (n, Flush name targets) u h.even e,
-        length-map {B = List ℕ × (Bool × List ℕ)} targets (λ (w : WordView). (name.bytes, (false, w.bytes))),
+        length-map {B = List ℕ × (Kind × List ℕ)} targets (λ (w : WordView). (name.bytes, (of_item, w.bytes))),
         length-items_named t.names targets s.items s.others,
         s.room,
       );
     }
 IsWithin-step t (n, FlushWq name target) u q h e =
-    let s = flush_step t n true name (target ∷ []) u e in
+    let s = flush_step t n of_workqueue name (target ∷ []) u e in
     record {
       even = IsEven-step t (n, FlushWq name target) u q h.even e;
       items = omega (arith, ap (λ (v : Table). length v.names) s.after, h.items);
       flushes = omega (
         arith,
         count_step t (n, FlushWq name target) u h.even e,
-        length-map {B = List ℕ × (Bool × List ℕ)} (target ∷ []) (λ (w : WordView). (name.bytes, (true, w.bytes))),
+        length-map {B = List ℕ × (Kind × List ℕ)} (target ∷ []) (λ (w : WordView). (name.bytes, (of_workqueue, w.bytes))),
+        length-items_named t.names (target ∷ []) s.items s.others,
+        s.room,
+      );
+    }
+IsWithin-step t (n, Unsure name target whole) u q h e =
+    let s = flush_step t n (unsure_of whole) name (target ∷ []) u e in
+    record {
+      even = IsEven-step t (n, Unsure name target whole) u q h.even e;
+      items = omega (arith, ap (λ (v : Table). length v.names) s.after, h.items);
+      flushes = omega (
+        arith,
+        count_step t (n, Unsure name target whole) u h.even e,
+        length-map {B = List ℕ × (Kind × List ℕ)} (target ∷ []) (λ (w : WordView). (name.bytes, (unsure_of whole, w.bytes))),
         length-items_named t.names (target ∷ []) s.items s.others,
         s.room,
       );
@@ -140,10 +154,13 @@ names_known : (t : Table) (d : ℕ × Directive) (u : Table) → declared t d.0 
 unfolding words_bytes
 names_known t (n, Item name) u e = All-nil (Contains t.names)
 names_known t (n, Flush name targets) u e =
-    let s = flush_step t n false name targets u e in
+    let s = flush_step t n of_item name targets u e in
     All-cons (Contains t.names) name.bytes (words_bytes targets) (Contains-item_named t.names name.bytes s.item s.first) (All-items_named t.names targets s.items s.others)
 names_known t (n, FlushWq name target) u e =
-    let s = flush_step t n true name (target ∷ []) u e in
+    let s = flush_step t n of_workqueue name (target ∷ []) u e in
+    All-cons (Contains t.names) name.bytes (words_bytes (target ∷ [])) (Contains-item_named t.names name.bytes s.item s.first) (All-items_named t.names (target ∷ []) s.items s.others)
+names_known t (n, Unsure name target whole) u e =
+    let s = flush_step t n (unsure_of whole) name (target ∷ []) u e in
     All-cons (Contains t.names) name.bytes (words_bytes (target ∷ [])) (Contains-item_named t.names name.bytes s.item s.first) (All-items_named t.names (target ∷ []) s.items s.others)
 names_known t (n, Ordered names) u e = let s = order_step t n names u e in All-items_named t.names names s.items s.known
 
@@ -201,13 +218,13 @@ module _ (before : List (ℕ × Directive)) (t : Table) (makes : table_of before
       )
 
   -- the words of a line with flushes: what it uses and how many flushes it declares
-  flush_fault : (n : ℕ) (said : Directive) (whole : Bool) (name : WordView) (targets : List WordView) → names_used (n, said) ≡ words_bytes (name ∷ targets) → length (line_flushes (n, said)) ≡ length targets
-      → (e : ItemError) → flushes_declared t n whole (items_named t.names (name ∷ targets)) ≡ Err e → IsFaultOfLine before (n, said) e
+  flush_fault : (n : ℕ) (said : Directive) (kind : Kind) (name : WordView) (targets : List WordView) → names_used (n, said) ≡ words_bytes (name ∷ targets) → length (line_flushes (n, said)) ≡ length targets
+      → (e : ItemError) → flushes_declared t n kind (items_named t.names (name ∷ targets)) ≡ Err e → IsFaultOfLine before (n, said) e
   unfolding words_bytes
-  flush_fault n said whole name targets used count e is = found (items_named t.names (name ∷ targets)) refl is
+  flush_fault n said kind name targets used count e is = found (items_named t.names (name ∷ targets)) refl is
     where
       room : (i : ℕ) (items : List ℕ) → items_named t.names (name ∷ targets) ≡ Some (i ∷ items) → (b : Bool) → ltb 16384 (flush_count t.waits + length items) ≡ b
-          → cond b (Err (TooManyFlushes n)) (Ok (with_flushes t whole i items)) ≡ Err e → IsFaultOfLine before (n, said) e
+          → cond b (Err (TooManyFlushes n)) (Ok (with_flushes t kind i items)) ≡ Err e → IsFaultOfLine before (n, said) e
       room i items there true full is =
           let same : TooManyFlushes n ≡ e = cc in
           subst (IsFaultOfLine before (n, said)) same (
@@ -223,7 +240,7 @@ module _ (before : List (ℕ × Directive)) (t : Table) (makes : table_of before
           )
       room i items there false full is = absurd cc
 
-      found : (o : Option (List ℕ)) → items_named t.names (name ∷ targets) ≡ o → flushes_declared t n whole o ≡ Err e → IsFaultOfLine before (n, said) e
+      found : (o : Option (List ℕ)) → items_named t.names (name ∷ targets) ≡ o → flushes_declared t n kind o ≡ Err e → IsFaultOfLine before (n, said) e
       found None there is =
           let same : UnknownItem n ≡ e = cc in
           subst (IsFaultOfLine before (n, said)) same (
@@ -249,8 +266,9 @@ module _ (before : List (ℕ × Directive)) (t : Table) (makes : table_of before
   pub IsFaultOfLine-declared : (d : ℕ × Directive) (e : ItemError) → declared t d.0 d.1 ≡ Err e → IsFaultOfLine before d e
   unfolding words_bytes
   IsFaultOfLine-declared (n, Item name) e is = item_fault n name e is
-  IsFaultOfLine-declared (n, Flush name targets) e is = flush_fault n (Flush name targets) false name targets refl (length-map {B = List ℕ × (Bool × List ℕ)} targets (λ (w : WordView). (name.bytes, (false, w.bytes)))) e is
-  IsFaultOfLine-declared (n, FlushWq name target) e is = flush_fault n (FlushWq name target) true name (target ∷ []) refl refl e is
+  IsFaultOfLine-declared (n, Flush name targets) e is = flush_fault n (Flush name targets) of_item name targets refl (length-map {B = List ℕ × (Kind × List ℕ)} targets (λ (w : WordView). (name.bytes, (of_item, w.bytes)))) e is
+  IsFaultOfLine-declared (n, FlushWq name target) e is = flush_fault n (FlushWq name target) of_workqueue name (target ∷ []) refl refl e is
+  IsFaultOfLine-declared (n, Unsure name target whole) e is = flush_fault n (Unsure name target whole) (unsure_of whole) name (target ∷ []) refl refl e is
   IsFaultOfLine-declared (n, Ordered names) e is = order_fault n names e is
 
   -- after faultless lines, such a line is refused
@@ -272,7 +290,7 @@ module _ (before : List (ℕ × Directive)) (t : Table) (makes : table_of before
   declared-from_fault h (n, Flush name targets) (TooManyItems m) p = absurd p.1
   declared-from_fault h (n, Flush name targets) (UnknownItem m) p =
       let unknown = subst (λ (l : List (List ℕ)). Any (λ (name : List ℕ). ¬ Contains l name) (map (λ (word : WordView). word.bytes) (name ∷ targets))) (sym names_are) p.1 in
-      ap (flushes_declared t n false) (items_named-from_Any t.names (name ∷ targets) unknown) ∙ ap (λ (k : ℕ). Err (UnknownItem k)) p.0
+      ap (flushes_declared t n of_item) (items_named-from_Any t.names (name ∷ targets) unknown) ∙ ap (λ (k : ℕ). Err (UnknownItem k)) p.0
   declared-from_fault h (n, Flush name targets) (TooManyFlushes m) p =
       let known = subst (λ (l : List (List ℕ)). All (Contains l) (map (λ (word : WordView). word.bytes) (name ∷ targets))) (sym names_are) p.1 in
       let k = items_named-from_All t.names (name ∷ targets) known in
@@ -282,18 +300,18 @@ module _ (before : List (ℕ × Directive)) (t : Table) (makes : table_of before
         arith,
         p.2,
         flushes_more (n, Flush name targets),
-        length-map {B = List ℕ × (Bool × List ℕ)} targets (λ (w : WordView). (name.bytes, (false, w.bytes))),
+        length-map {B = List ℕ × (Kind × List ℕ)} targets (λ (w : WordView). (name.bytes, (of_item, w.bytes))),
         length-items_named t.names targets q.others q.rest,
       ) in
-      ap (flushes_declared t n false) (k.are ∙ ap Some q.whole)
-      ∙ ap (λ (b : Bool). cond b (Err (TooManyFlushes n)) (Ok (with_flushes t false q.item q.others))) (lt-ltb 16384 (flush_count t.waits + length q.others) full)
+      ap (flushes_declared t n of_item) (k.are ∙ ap Some q.whole)
+      ∙ ap (λ (b : Bool). cond b (Err (TooManyFlushes n)) (Ok (with_flushes t of_item q.item q.others))) (lt-ltb 16384 (flush_count t.waits + length q.others) full)
       ∙ ap (λ (k : ℕ). Err (TooManyFlushes k)) p.0
   declared-from_fault h (n, Flush name targets) OutOfMemory p = absurd p
   declared-from_fault h (n, FlushWq name target) (ItemTwice m) p = absurd p.1
   declared-from_fault h (n, FlushWq name target) (TooManyItems m) p = absurd p.1
   declared-from_fault h (n, FlushWq name target) (UnknownItem m) p =
       let unknown = subst (λ (l : List (List ℕ)). Any (λ (name : List ℕ). ¬ Contains l name) (map (λ (word : WordView). word.bytes) (name ∷ target ∷ []))) (sym names_are) p.1 in
-      ap (flushes_declared t n true) (items_named-from_Any t.names (name ∷ target ∷ []) unknown) ∙ ap (λ (k : ℕ). Err (UnknownItem k)) p.0
+      ap (flushes_declared t n of_workqueue) (items_named-from_Any t.names (name ∷ target ∷ []) unknown) ∙ ap (λ (k : ℕ). Err (UnknownItem k)) p.0
   declared-from_fault h (n, FlushWq name target) (TooManyFlushes m) p =
       let known = subst (λ (l : List (List ℕ)). All (Contains l) (map (λ (word : WordView). word.bytes) (name ∷ target ∷ []))) (sym names_are) p.1 in
       let k = items_named-from_All t.names (name ∷ target ∷ []) known in
@@ -305,10 +323,30 @@ module _ (before : List (ℕ × Directive)) (t : Table) (makes : table_of before
         flushes_more (n, FlushWq name target),
         length-items_named t.names (target ∷ []) q.others q.rest,
       ) in
-      ap (flushes_declared t n true) (k.are ∙ ap Some q.whole)
-      ∙ ap (λ (b : Bool). cond b (Err (TooManyFlushes n)) (Ok (with_flushes t true q.item q.others))) (lt-ltb 16384 (flush_count t.waits + length q.others) full)
+      ap (flushes_declared t n of_workqueue) (k.are ∙ ap Some q.whole)
+      ∙ ap (λ (b : Bool). cond b (Err (TooManyFlushes n)) (Ok (with_flushes t of_workqueue q.item q.others))) (lt-ltb 16384 (flush_count t.waits + length q.others) full)
       ∙ ap (λ (k : ℕ). Err (TooManyFlushes k)) p.0
   declared-from_fault h (n, FlushWq name target) OutOfMemory p = absurd p
+  declared-from_fault h (n, Unsure name target whole) (ItemTwice m) p = absurd p.1
+  declared-from_fault h (n, Unsure name target whole) (TooManyItems m) p = absurd p.1
+  declared-from_fault h (n, Unsure name target whole) (UnknownItem m) p =
+      let unknown = subst (λ (l : List (List ℕ)). Any (λ (name : List ℕ). ¬ Contains l name) (map (λ (word : WordView). word.bytes) (name ∷ target ∷ []))) (sym names_are) p.1 in
+      ap (flushes_declared t n (unsure_of whole)) (items_named-from_Any t.names (name ∷ target ∷ []) unknown) ∙ ap (λ (k : ℕ). Err (UnknownItem k)) p.0
+  declared-from_fault h (n, Unsure name target whole) (TooManyFlushes m) p =
+      let known = subst (λ (l : List (List ℕ)). All (Contains l) (map (λ (word : WordView). word.bytes) (name ∷ target ∷ []))) (sym names_are) p.1 in
+      let k = items_named-from_All t.names (name ∷ target ∷ []) known in
+      let q = parts (item_named t.names name.bytes) (items_named t.names (target ∷ [])) k.items k.are in
+      let full : 16384 < flush_count t.waits + length q.others =
+      omega (
+        arith,
+        p.2,
+        flushes_more (n, Unsure name target whole),
+        length-items_named t.names (target ∷ []) q.others q.rest,
+      ) in
+      ap (flushes_declared t n (unsure_of whole)) (k.are ∙ ap Some q.whole)
+      ∙ ap (λ (b : Bool). cond b (Err (TooManyFlushes n)) (Ok (with_flushes t (unsure_of whole) q.item q.others))) (lt-ltb 16384 (flush_count t.waits + length q.others) full)
+      ∙ ap (λ (k : ℕ). Err (TooManyFlushes k)) p.0
+  declared-from_fault h (n, Unsure name target whole) OutOfMemory p = absurd p
   declared-from_fault h (n, Ordered names) (ItemTwice m) p = absurd p.1
   declared-from_fault h (n, Ordered names) (TooManyItems m) p = absurd p.1
   declared-from_fault h (n, Ordered names) (UnknownItem m) p =
@@ -333,6 +371,7 @@ no_fault_among ds before (n, Item name) after (ItemTwice m) h is p =
     )
 no_fault_among ds before (n, Flush name targets) after (ItemTwice m) h is p = p.1
 no_fault_among ds before (n, FlushWq name target) after (ItemTwice m) h is p = p.1
+no_fault_among ds before (n, Unsure name target whole) after (ItemTwice m) h is p = p.1
 no_fault_among ds before (n, Ordered names) after (ItemTwice m) h is p = p.1
 no_fault_among ds before (n, Item name) after (TooManyItems m) h is p =
     omega (
@@ -344,6 +383,7 @@ no_fault_among ds before (n, Item name) after (TooManyItems m) h is p =
     )
 no_fault_among ds before (n, Flush name targets) after (TooManyItems m) h is p = p.1
 no_fault_among ds before (n, FlushWq name target) after (TooManyItems m) h is p = p.1
+no_fault_among ds before (n, Unsure name target whole) after (TooManyItems m) h is p = p.1
 no_fault_among ds before (n, Ordered names) after (TooManyItems m) h is p = p.1
 no_fault_among ds before d after (UnknownItem m) h is p = not_both (filter_map item_name before) (names_used d) (h.known before d after is) p.1
 no_fault_among ds before d after (TooManyFlushes m) h is p =

@@ -10,11 +10,12 @@ use Rattle.std.proofs.lemmas.Option.{get_or_from_slice_get, slice_get_within}
 use Rattle.std.proofs.lemmas.Slice.Eq.{bytes_eq-Decides}
 use Rattle.wq_text.specs.Words.{WordView}
 use Rattle.wq_decl.specs.declared.directive.Directive.{Directive}
-use Rattle.wq_decl.specs.declared.directive.Directive.TheVariants.{Item, Flush, FlushWq, Ordered}
+use Rattle.wq_decl.specs.declared.directive.Directive.TheVariants.{Item, Flush, FlushWq, Unsure, Ordered}
+use Rattle.wq_items.specs.declared.target.Kind.{Kind}
 use Rattle.wq_items.specs.declared.target.Target.{Target}
 use Rattle.wq_items.specs.Table.{Table, item_named, targets_of, flush_count}
-use Rattle.wq_items.specs.Building.{empty_table, with_item, with_flushes, targets_from, items_named, flushes_declared, declared, table_after, table_of}
-use Rattle.wq_items.specs.Flushes.{item_name, line_flushes, flushes, flushes_of, named_targets}
+use Rattle.wq_items.specs.Building.{of_item, of_workqueue, unsure_of, empty_table, with_item, with_flushes, targets_from, items_named, flushes_declared, declared, table_after, table_of}
+use Rattle.wq_items.specs.Flushes.{item_name, line_flushes, flushes, flushes_of, kind_of, named_targets}
 use Rattle.wq_items.proofs.TableLemmas.{differs-from-item_named, parts, item_named-below, length-items_named, flush_count-with_item, flush_count-with_flushes}
 use Rattle.wq_items.proofs.BuildingLemmas.{item_step, flush_step, order_step, and_then-Ok, table_after-keeps, every_line, names-table_after}
 
@@ -54,7 +55,7 @@ IsEven-step t (n, Item name) u q h e =
     }
     )
 IsEven-step t (n, Flush name targets) u q h e =
-    let s = flush_step t n false name targets u e in
+    let s = flush_step t n of_item name targets u e in
     subst IsEven (sym s.after) (
     record {
       waits = length-set t.waits s.item _ ∙ h.waits;
@@ -62,7 +63,15 @@ IsEven-step t (n, Flush name targets) u q h e =
     }
     )
 IsEven-step t (n, FlushWq name target) u q h e =
-    let s = flush_step t n true name (target ∷ []) u e in
+    let s = flush_step t n of_workqueue name (target ∷ []) u e in
+    subst IsEven (sym s.after) (
+    record {
+      waits = length-set t.waits s.item _ ∙ h.waits;
+      distinct = h.distinct;
+    }
+    )
+IsEven-step t (n, Unsure name target whole) u q h e =
+    let s = flush_step t n (unsure_of whole) name (target ∷ []) u e in
     subst IsEven (sym s.after) (
     record {
       waits = length-set t.waits s.item _ ∙ h.waits;
@@ -77,21 +86,22 @@ IsEven-table_after t ds u h e = table_after-keeps IsEven (λ (d : ℕ × Directi
 -- ---- counts
 
 -- the flushes that the words of a line declare
-abbrev pub said : Bool → WordView → List WordView → List (List ℕ × (Bool × List ℕ))
-said whole name targets = map (λ (w : WordView). (name.bytes, (whole, w.bytes))) targets
+abbrev pub said : Bool → WordView → List WordView → List (List ℕ × (Kind × List ℕ))
+said kind name targets = map (λ (w : WordView). (name.bytes, (kind, w.bytes))) targets
 
-count_flushes : (t : Table) (n : ℕ) (whole : Bool) (name : WordView) (targets : List WordView) (u : Table) → IsEven t → flushes_declared t n whole (items_named t.names (name ∷ targets)) ≡ Ok u
-    → flush_count u.waits ≡ flush_count t.waits + length (said whole name targets)
-count_flushes t n whole name targets u h e =
-    let s = flush_step t n whole name targets u e in
+count_flushes : (t : Table) (n : ℕ) (kind : Kind) (name : WordView) (targets : List WordView) (u : Table) → IsEven t → flushes_declared t n kind (items_named t.names (name ∷ targets)) ≡ Ok u
+    → flush_count u.waits ≡ flush_count t.waits + length (said kind name targets)
+count_flushes t n kind name targets u h e =
+    let s = flush_step t n kind name targets u e in
     let within : s.item < length t.waits = omega (arith, item_named-below t.names name.bytes s.item s.first, h.waits) in
-    ap (λ (v : Table). flush_count v.waits) s.after ∙ flush_count-with_flushes t whole s.item s.items within
-    ∙ ap (λ (k : ℕ). flush_count t.waits + k) (length-items_named t.names targets s.items s.others ∙ sym (length-map {B = List ℕ × (Bool × List ℕ)} targets (λ (w : WordView). (name.bytes, (whole, w.bytes)))))
+    ap (λ (v : Table). flush_count v.waits) s.after ∙ flush_count-with_flushes t kind s.item s.items within
+    ∙ ap (λ (k : ℕ). flush_count t.waits + k) (length-items_named t.names targets s.items s.others ∙ sym (length-map {B = List ℕ × (Kind × List ℕ)} targets (λ (w : WordView). (name.bytes, (kind, w.bytes)))))
 
 pub count_step : (t : Table) (d : ℕ × Directive) (u : Table) → IsEven t → declared t d.0 d.1 ≡ Ok u → flush_count u.waits ≡ flush_count t.waits + length (line_flushes d)
 count_step t (n, Item name) u h e = ap (λ (v : Table). flush_count v.waits) (item_step t n name u e).after ∙ flush_count-with_item t name ∙ omega arith
-count_step t (n, Flush name targets) u h e = count_flushes t n false name targets u h e
-count_step t (n, FlushWq name target) u h e = count_flushes t n true name (target ∷ []) u h e
+count_step t (n, Flush name targets) u h e = count_flushes t n of_item name targets u h e
+count_step t (n, FlushWq name target) u h e = count_flushes t n of_workqueue name (target ∷ []) u h e
+count_step t (n, Unsure name target whole) u h e = count_flushes t n (unsure_of whole) name (target ∷ []) u h e
 count_step t (n, Ordered names) u h e = ap (λ (v : Table). flush_count v.waits) (order_step t n names u e).after ∙ omega arith
 
 pub flush_count-table_after : (t : Table) (ds : List (ℕ × Directive)) (w : Table) → IsEven t → table_after t ds ≡ Ok w → flush_count w.waits ≡ flush_count t.waits + length (flushes ds)
@@ -111,31 +121,31 @@ flush_count-table_of ds t e = flush_count-table_after empty_table ds t IsEven-em
 -- ---- one line
 
 -- the targets of item i, by the names in a list
-targets_in : List (List ℕ) → List Target → List ((Bool × List ℕ) × ℕ)
-targets_in names targets = map (λ (target : Target). ((target.whole, get_or names target.item []), target.place)) targets
+targets_in : List (List ℕ) → List Target → List ((Kind × List ℕ) × ℕ)
+targets_in names targets = map (λ (target : Target). ((kind_of target, get_or names target.item []), target.place)) targets
 
 -- the flushes that a line declares of items that are known
-flushes_of-own : (names known : List (List ℕ)) (name : List ℕ) (whole : Bool) (place : ℕ) (targets : List WordView) (items : List ℕ) → ((j : ℕ) → j < length known → get_or names j [] ≡ get_or known j []) → items_named known targets ≡ Some items
-    → flushes_of name (enumerate_from place (map (λ (w : WordView). (name, (whole, w.bytes))) targets)) ≡ targets_in names (targets_from whole place items)
+flushes_of-own : (names known : List (List ℕ)) (name : List ℕ) (kind : Kind) (place : ℕ) (targets : List WordView) (items : List ℕ) → ((j : ℕ) → j < length known → get_or names j [] ≡ get_or known j []) → items_named known targets ≡ Some items
+    → flushes_of name (enumerate_from place (map (λ (w : WordView). (name, (kind, w.bytes))) targets)) ≡ targets_in names (targets_from kind place items)
 unfolding targets_in
-flushes_of-own names known name whole place [] items same e = let is : [] ≡ items = cc in ap (λ (l : List ℕ). targets_in names (targets_from whole place l)) is
-flushes_of-own names known name whole place (w ∷ ws) items same e =
+flushes_of-own names known name kind place [] items same e = let is : [] ≡ items = cc in ap (λ (l : List ℕ). targets_in names (targets_from kind place l)) is
+flushes_of-own names known name kind place (w ∷ ws) items same e =
     let p = parts (item_named known w.bytes) (items_named known ws) items e in
     let yes : bytes_eq name name ≡ true = (bytes_eq-Decides name name).1 refl in
     let there : w.bytes ≡ get_or names p.item [] = sym (same p.item (item_named-below known w.bytes p.item p.first) ∙ item_named-is known w.bytes p.item p.first) in
-    let rest = flushes_of-own names known name whole (place + 1) ws p.others same p.rest in
-    ap (λ (b : Bool). cons_option (cond b (Some ((whole, w.bytes), place)) None) (flushes_of name (enumerate_from (place + 1) (map (λ (w : WordView). (name, (whole, w.bytes))) ws)))) yes
-    ∙ ap (λ (l : List ((Bool × List ℕ) × ℕ)). ((whole, w.bytes), place) ∷ l) rest
-    ∙ ap (λ (b : List ℕ). ((whole, b), place) ∷ targets_in names (targets_from whole (place + 1) p.others)) there
-    ∙ ap (λ (l : List ℕ). targets_in names (targets_from whole place l)) (sym p.whole)
+    let rest = flushes_of-own names known name kind (place + 1) ws p.others same p.rest in
+    ap (λ (b : Bool). cons_option (cond b (Some ((kind, w.bytes), place)) None) (flushes_of name (enumerate_from (place + 1) (map (λ (w : WordView). (name, (kind, w.bytes))) ws)))) yes
+    ∙ ap (λ (l : List ((Kind × List ℕ) × ℕ)). ((kind, w.bytes), place) ∷ l) rest
+    ∙ ap (λ (b : List ℕ). ((kind, b), place) ∷ targets_in names (targets_from kind (place + 1) p.others)) there
+    ∙ ap (λ (l : List ℕ). targets_in names (targets_from kind place l)) (sym p.whole)
 
 -- the flushes that a line declares of another item
-flushes_of-other : (name other : List ℕ) (whole : Bool) (place : ℕ) (targets : List WordView) → other ≢ name → flushes_of name (enumerate_from place (map (λ (w : WordView). (other, (whole, w.bytes))) targets)) ≡ []
-flushes_of-other name other whole place [] differ = refl
-flushes_of-other name other whole place (w ∷ ws) differ =
+flushes_of-other : (name other : List ℕ) (kind : Kind) (place : ℕ) (targets : List WordView) → other ≢ name → flushes_of name (enumerate_from place (map (λ (w : WordView). (other, (kind, w.bytes))) targets)) ≡ []
+flushes_of-other name other kind place [] differ = refl
+flushes_of-other name other kind place (w ∷ ws) differ =
     let apart : bytes_eq other name ≡ false = false_from_ne_true (bytes_eq other name) (λ (e : bytes_eq other name ≡ true). differ ((bytes_eq-Decides other name).0 e)) in
-    ap (λ (b : Bool). cons_option (cond b (Some ((whole, w.bytes), place)) None) (flushes_of name (enumerate_from (place + 1) (map (λ (w : WordView). (other, (whole, w.bytes))) ws)))) apart
-    ∙ flushes_of-other name other whole (place + 1) ws differ
+    ap (λ (b : Bool). cons_option (cond b (Some ((kind, w.bytes), place)) None) (flushes_of name (enumerate_from (place + 1) (map (λ (w : WordView). (other, (kind, w.bytes))) ws)))) apart
+    ∙ flushes_of-other name other kind (place + 1) ws differ
 
 -- what the line of step d adds to the targets of item i: those flushes of the line that are of its name
 record Adds (names : List (List ℕ)) (t : Table) (d : ℕ × Directive) (u : Table) (i : ℕ) : Type 0 where
@@ -171,24 +181,24 @@ module _ (names rest : List (List ℕ)) (t : Table) (even : IsEven t) (front : n
   same_name : (j : ℕ) → j < length t.names → get_or names j [] ≡ get_or t.names j []
   same_name j lt = ap (λ (l : List (List ℕ)). get_or l j []) front ∙ get_or_append_left t.names rest [] j lt
 
-  adds_flush : (whole : Bool) (name : WordView) (targets : List WordView) (j : ℕ) (items : List ℕ) (i : ℕ) → item_named t.names name.bytes ≡ Some j → items_named t.names targets ≡ Some items → i < length names
-      → targets_in names (targets_of (with_flushes t whole j items).waits i) ≡ targets_in names (targets_of t.waits i) ++ flushes_of (get_or names i []) (enumerate_from (flush_count t.waits) (said whole name targets))
+  adds_flush : (kind : Kind) (name : WordView) (targets : List WordView) (j : ℕ) (items : List ℕ) (i : ℕ) → item_named t.names name.bytes ≡ Some j → items_named t.names targets ≡ Some items → i < length names
+      → targets_in names (targets_of (with_flushes t kind j items).waits i) ≡ targets_in names (targets_of t.waits i) ++ flushes_of (get_or names i []) (enumerate_from (flush_count t.waits) (said kind name targets))
   unfolding targets_in
-  adds_flush whole name targets j items i first others within =
+  adds_flush kind name targets j items i first others within =
       let count : ℕ = flush_count t.waits in
       let in-names : j < length t.names = item_named-below t.names name.bytes j first in
       let in-waits : j < length t.waits = omega (arith, even.waits) in
       let in-all : j < length names = omega (arith, ap length front, length-append t.names rest) in
       let called : get_or names j [] ≡ name.bytes = same_name j in-names ∙ item_named-is t.names name.bytes j first in
-      let new : List Target = targets_from whole count items in
-      let words : List (List ℕ × (Bool × List ℕ)) = said whole name targets in
+      let new : List Target = targets_from kind count items in
+      let words : List (List ℕ × (Kind × List ℕ)) = said kind name targets in
       elim (cases_order i j) [
         | inl e ↦
             subst (λ (k : ℕ). targets_in names (targets_of (set t.waits j (targets_of t.waits j ++ new)) k) ≡ targets_in names (targets_of t.waits k) ++ flushes_of (get_or names k []) (enumerate_from count words)) (sym e) (
             ap (targets_in names) (get_or-set_same t.waits j (targets_of t.waits j ++ new) [] in-waits)
-            ∙ map-append (λ (target : Target). ((target.whole, get_or names target.item []), target.place)) (targets_of t.waits j) new
-            ∙ ap (λ (l : List ((Bool × List ℕ) × ℕ)). targets_in names (targets_of t.waits j) ++ l) (
-            sym (flushes_of-own names t.names name.bytes whole count targets items same_name others) ∙ ap (λ (b : List ℕ). flushes_of b (enumerate_from count words)) (sym called)
+            ∙ map-append (λ (target : Target). ((kind_of target, get_or names target.item []), target.place)) (targets_of t.waits j) new
+            ∙ ap (λ (l : List ((Kind × List ℕ) × ℕ)). targets_in names (targets_of t.waits j) ++ l) (
+            sym (flushes_of-own names t.names name.bytes kind count targets items same_name others) ∙ ap (λ (b : List ℕ). flushes_of b (enumerate_from count words)) (sym called)
             )
             )
         | inr o ↦
@@ -197,17 +207,20 @@ module _ (names rest : List (List ℕ)) (t : Table) (even : IsEven t) (front : n
             let apart : name.bytes ≢ get_or names i [] = λ (e : name.bytes ≡ get_or names i []). ne_places names i j distinct within in-all back (called ∙ e) in
             ap (targets_in names) (get_or-set_other t.waits j i (targets_of t.waits j ++ new) [] differ)
             ∙ sym (append-nil (targets_in names (targets_of t.waits i)))
-            ∙ ap (λ (l : List ((Bool × List ℕ) × ℕ)). targets_in names (targets_of t.waits i) ++ l) (sym (flushes_of-other (get_or names i []) name.bytes whole count targets apart))
+            ∙ ap (λ (l : List ((Kind × List ℕ) × ℕ)). targets_in names (targets_of t.waits i) ++ l) (sym (flushes_of-other (get_or names i []) name.bytes kind count targets apart))
       ]
 
   adds : (d : ℕ × Directive) (u : Table) (i : ℕ) → declared t d.0 d.1 ≡ Ok u → i < length names → Adds names t d u i
   adds (n, Item name) u i e within = let s = item_step t n name u e in subst (λ (v : Table). Adds names t (n, Item name) v i) (sym s.after) (adds_item names t n name i)
   adds (n, Flush name targets) u i e within =
-      let s = flush_step t n false name targets u e in
-      subst (λ (v : Table). Adds names t (n, Flush name targets) v i) (sym s.after) (record { targets = adds_flush false name targets s.item s.items i s.first s.others within })
+      let s = flush_step t n of_item name targets u e in
+      subst (λ (v : Table). Adds names t (n, Flush name targets) v i) (sym s.after) (record { targets = adds_flush of_item name targets s.item s.items i s.first s.others within })
   adds (n, FlushWq name target) u i e within =
-      let s = flush_step t n true name (target ∷ []) u e in
-      subst (λ (v : Table). Adds names t (n, FlushWq name target) v i) (sym s.after) (record { targets = adds_flush true name (target ∷ []) s.item s.items i s.first s.others within })
+      let s = flush_step t n of_workqueue name (target ∷ []) u e in
+      subst (λ (v : Table). Adds names t (n, FlushWq name target) v i) (sym s.after) (record { targets = adds_flush of_workqueue name (target ∷ []) s.item s.items i s.first s.others within })
+  adds (n, Unsure name target whole) u i e within =
+      let s = flush_step t n (unsure_of whole) name (target ∷ []) u e in
+      subst (λ (v : Table). Adds names t (n, Unsure name target whole) v i) (sym s.after) (record { targets = adds_flush (unsure_of whole) name (target ∷ []) s.item s.items i s.first s.others within })
   adds (n, Ordered ordered) u i e within = subst (λ (v : Table). Adds names t (n, Ordered ordered) v i) (sym (order_step t n ordered u e).after) (adds_order names t n ordered i)
 
 -- ---- all lines
@@ -223,14 +236,14 @@ adds_more : (names : List (List ℕ)) (t u w : Table) (d : ℕ × Directive) (ds
 adds_more names t u w d ds i counted a b =
     let name : List ℕ = get_or names i [] in
     let count : ℕ = flush_count t.waits in
-    let own : List ((Bool × List ℕ) × ℕ) = targets_in names (targets_of t.waits i) in
+    let own : List ((Kind × List ℕ) × ℕ) = targets_in names (targets_of t.waits i) in
     record {
       targets =
-          b.targets ∙ ap (λ (l : List ((Bool × List ℕ) × ℕ)). l ++ flushes_of name (enumerate_from (flush_count u.waits) (flushes ds))) a.targets
+          b.targets ∙ ap (λ (l : List ((Kind × List ℕ) × ℕ)). l ++ flushes_of name (enumerate_from (flush_count u.waits) (flushes ds))) a.targets
           ∙ append_assoc own (flushes_of name (enumerate_from count (line_flushes d))) (flushes_of name (enumerate_from (flush_count u.waits) (flushes ds)))
-          ∙ ap (λ (l : List ((Bool × List ℕ) × ℕ)). own ++ l) (
+          ∙ ap (λ (l : List ((Kind × List ℕ) × ℕ)). own ++ l) (
           ap (λ (k : ℕ). flushes_of name (enumerate_from count (line_flushes d)) ++ flushes_of name (enumerate_from k (flushes ds))) counted
-          ∙ sym (filter_map-append (λ (f : ℕ × (List ℕ × (Bool × List ℕ))). cond (bytes_eq f.1.0 name) (Some (f.1.1, f.0)) None) (enumerate_from count (line_flushes d)) (enumerate_from (count + length (line_flushes d)) (flushes ds)))
+          ∙ sym (filter_map-append (λ (f : ℕ × (List ℕ × (Kind × List ℕ))). cond (bytes_eq f.1.0 name) (Some (f.1.1, f.0)) None) (enumerate_from count (line_flushes d)) (enumerate_from (count + length (line_flushes d)) (flushes ds)))
           ∙ ap (flushes_of name) (sym (enumerate_from-append count (line_flushes d) (flushes ds)))
           );
     }

@@ -1,5 +1,5 @@
 -- What each step of building a table keeps.
-use Rattle.std.proofs.Common.{◌≡◌, ◌≢◌, ℕ, zero, suc, ◌+◌, ◌<◌, ◌≤◌, Bool, ltb, List, [], ◌∷◌, ◌++◌, length, map, get_or, set, Option, Some, None, refl, sym, ap, subst, ◌∙◌, arith, IsTrue, append_assoc, append-nil, ltb-false}
+use Rattle.std.proofs.Common.{◌≡◌, ◌≢◌, ℕ, zero, suc, ◌+◌, ◌<◌, ◌≤◌, ltb, List, [], ◌∷◌, ◌++◌, length, map, get_or, set, Option, Some, None, refl, sym, ap, subst, ◌∙◌, arith, IsTrue, append_assoc, append-nil, ltb-false}
 use Rattle.std.specs.Prelude.{bytes_eq, IsPermutation}
 use Rattle.std.specs.List.{All, range_with_len, position_or_len}
 use Rattle.std.proofs.lemmas.Bool.{both_ways}
@@ -12,6 +12,7 @@ use Rattle.std.proofs.lemmas.List.Sums.{sum_by_push, sum_by-set, fails_before_fi
 use Rattle.std.proofs.lemmas.Slice.Eq.{bytes_eq-Decides}
 use Rattle.wq_text.specs.Words.{WordView}
 use Rattle.wq_decl.specs.Names.{is_name}
+use Rattle.wq_items.specs.declared.target.Kind.{Kind}
 use Rattle.wq_items.specs.declared.target.Target.{Target}
 use Rattle.wq_items.specs.Table.{Table, IsTable, TargetsBelow, PlacesRise, item_named, targets_of, flush_count, places}
 use Rattle.wq_items.specs.Building.{empty_table, span_of, with_item, with_flushes, targets_from, and_item, items_named}
@@ -29,21 +30,21 @@ differs-from-item_named names name none k d lt same =
 
 -- ---- counts
 
-pub length-targets_from : (whole : Bool) (place : ℕ) (items : List ℕ) → length (targets_from whole place items) ≡ length items
-length-targets_from whole place [] = refl
-length-targets_from whole place (item ∷ items) = ap suc (length-targets_from whole (place + 1) items)
+pub length-targets_from : (kind : Kind) (place : ℕ) (items : List ℕ) → length (targets_from kind place items) ≡ length items
+length-targets_from kind place [] = refl
+length-targets_from kind place (item ∷ items) = ap suc (length-targets_from kind (place + 1) items)
 
 pub flush_count-with_item : (t : Table) (name : WordView) → flush_count (with_item t name).waits ≡ flush_count t.waits
 flush_count-with_item t name = omega (arith, sum_by_push {X = List Target} length t.waits [])
 
-pub flush_count-with_flushes : (t : Table) (whole : Bool) (i : ℕ) (items : List ℕ) → i < length t.waits → flush_count (with_flushes t whole i items).waits ≡ flush_count t.waits + length items
-flush_count-with_flushes t whole i items lt =
-    let more : List Target = targets_from whole (flush_count t.waits) items in
+pub flush_count-with_flushes : (t : Table) (kind : Kind) (i : ℕ) (items : List ℕ) → i < length t.waits → flush_count (with_flushes t kind i items).waits ≡ flush_count t.waits + length items
+flush_count-with_flushes t kind i items lt =
+    let more : List Target = targets_from kind (flush_count t.waits) items in
     omega (
       arith,
       sum_by-set {X = List Target} length t.waits i (targets_of t.waits i ++ more) [] lt,
       length-append (targets_of t.waits i) more,
-      length-targets_from whole (flush_count t.waits) items,
+      length-targets_from kind (flush_count t.waits) items,
     )
 
 -- ---- places
@@ -63,9 +64,9 @@ range_with_len-push n =
     let end : 0 + n ≡ n = omega arith in
     range_with_len-append 0 n 1 ∙ ap (λ k. range_with_len 0 n ++ range_with_len k 1) end
 
-pub places-targets_from : (whole : Bool) (place : ℕ) (items : List ℕ) → map (λ (t : Target). t.place) (targets_from whole place items) ≡ range_with_len place (length items)
-places-targets_from whole place [] = refl
-places-targets_from whole place (item ∷ items) = ap (λ (l : List ℕ). place ∷ l) (places-targets_from whole (place + 1) items)
+pub places-targets_from : (kind : Kind) (place : ℕ) (items : List ℕ) → map (λ (t : Target). t.place) (targets_from kind place items) ≡ range_with_len place (length items)
+places-targets_from kind place [] = refl
+places-targets_from kind place (item ∷ items) = ap (λ (l : List ℕ). place ∷ l) (places-targets_from kind (place + 1) items)
 
 pub places-push_nil : (waits : List (List Target)) → places (waits ++ ([] ∷ [])) ≡ places waits
 places-push_nil waits = flat_map-append (λ (targets : List Target). map (λ (t : Target). t.place) targets) waits ([] ∷ []) ∙ append-nil (places waits)
@@ -99,11 +100,11 @@ pub TargetsBelow-weaker : (m n : ℕ) → m ≤ n → (waits : List (List Target
 TargetsBelow-weaker m n le waits h =
     All-weaker (TargetsBelow m) (TargetsBelow n) (λ (l : List Target) (k : TargetsBelow m l). All-weaker (λ (t : Target). t.item < m) (λ (t : Target). t.item < n) (λ (t : Target) (b : t.item < m). omega arith) l k) waits h
 
-pub TargetsBelow-targets_from : (n : ℕ) (whole : Bool) (place : ℕ) (items : List ℕ) → All (λ (j : ℕ). j < n) items → TargetsBelow n (targets_from whole place items)
-TargetsBelow-targets_from n whole place [] h = All-nil (λ (t : Target). t.item < n)
-TargetsBelow-targets_from n whole place (item ∷ items) h =
-    All-cons (λ (t : Target). t.item < n) (record { item = item; whole = whole; place = place }) (targets_from whole (place + 1) items) (h 0 0 (omega arith)) (
-    TargetsBelow-targets_from n whole (place + 1) items (λ k d lt. h (suc k) d (omega arith))
+pub TargetsBelow-targets_from : (n : ℕ) (kind : Kind) (place : ℕ) (items : List ℕ) → All (λ (j : ℕ). j < n) items → TargetsBelow n (targets_from kind place items)
+TargetsBelow-targets_from n kind place [] h = All-nil (λ (t : Target). t.item < n)
+TargetsBelow-targets_from n kind place (item ∷ items) h =
+    All-cons (λ (t : Target). t.item < n) (record { item = item; whole = kind.whole; unsure = kind.unsure; place = place }) (targets_from kind (place + 1) items) (h 0 0 (omega arith)) (
+    TargetsBelow-targets_from n kind (place + 1) items (λ k d lt. h (suc k) d (omega arith))
     )
 
 targets_of-below : (n : ℕ) (waits : List (List Target)) (i : ℕ) → i < length waits → All (TargetsBelow n) waits → TargetsBelow n (targets_of waits i)
@@ -144,13 +145,13 @@ IsTable-with_item t name h none room is =
       places_rise = All-push PlacesRise t.waits [] h.places_rise (λ k within. absurd (omega arith));
     }
 
-pub IsTable-with_flushes : (t : Table) (whole : Bool) (i : ℕ) (items : List ℕ) → IsTable t → i < length t.names → All (λ (j : ℕ). j < length t.names) items → flush_count t.waits + length items ≤ 16384 → IsTable (with_flushes t whole i items)
-IsTable-with_flushes t whole i items h lt below room =
+pub IsTable-with_flushes : (t : Table) (kind : Kind) (i : ℕ) (items : List ℕ) → IsTable t → i < length t.names → All (λ (j : ℕ). j < length t.names) items → flush_count t.waits + length items ≤ 16384 → IsTable (with_flushes t kind i items)
+IsTable-with_flushes t kind i items h lt below room =
     let count : ℕ = flush_count t.waits in
     let within : i < length t.waits = omega (arith, h.one_list_each) in
-    let added : List Target = targets_from whole count items in
+    let added : List Target = targets_from kind count items in
     let targets : List Target = targets_of t.waits i ++ added in
-    let after : flush_count (set t.waits i targets) ≡ count + length items = flush_count-with_flushes t whole i items within in
+    let after : flush_count (set t.waits i targets) ≡ count + length items = flush_count-with_flushes t kind i items within in
     record {
       one_span_each = h.one_span_each;
       one_list_each = length-set t.waits i targets ∙ h.one_list_each;
@@ -160,7 +161,7 @@ IsTable-with_flushes t whole i items h lt below room =
       targets_are_items =
           All-set (TargetsBelow (length t.names)) t.waits i targets (
           All-append (λ (t' : Target). t'.item < length t.names) (targets_of t.waits i) added (targets_of-below (length t.names) t.waits i within h.targets_are_items) (
-          TargetsBelow-targets_from (length t.names) whole count items below
+          TargetsBelow-targets_from (length t.names) kind count items below
           )
           ) h.targets_are_items;
       few_flushes = omega (arith, after);
@@ -168,11 +169,11 @@ IsTable-with_flushes t whole i items h lt below room =
           subst (λ (c : ℕ). IsPermutation (range_with_len 0 c) (places (set t.waits i targets))) (sym after) (
           subst (λ (l : List ℕ). IsPermutation l (places (set t.waits i targets))) (sym (range_with_len-append 0 count (length items))) (
           IsPermutation-trans (range_with_len 0 count ++ range_with_len (0 + count) (length items)) (places t.waits ++ map (λ (t : Target). t.place) added) (places (set t.waits i targets)) (
-          IsPermutation-both count (length items) (places t.waits) (map (λ (t : Target). t.place) added) h.places_are_numbered (places-targets_from whole count items)
+          IsPermutation-both count (length items) (places t.waits) (map (λ (t : Target). t.place) added) h.places_are_numbered (places-targets_from kind count items)
           ) (places-set t.waits i added within)
           )
           );
-      places_rise = PlacesRise-set count t.waits i (length items) added within h.places_are_numbered (places-targets_from whole count items) h.places_rise;
+      places_rise = PlacesRise-set count t.waits i (length items) added within h.places_are_numbered (places-targets_from kind count items) h.places_rise;
     }
   where
     IsPermutation-both : (m n : ℕ) (old new : List ℕ) → IsPermutation (range_with_len 0 m) old → new ≡ range_with_len m n → IsPermutation (range_with_len 0 m ++ range_with_len (0 + m) n) (old ++ new)

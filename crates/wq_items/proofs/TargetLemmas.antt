@@ -5,7 +5,7 @@ use Rattle.std.proofs.lemmas.List.{get_or-set_same, length-append, set-get_or}
 use Rattle.wq_text.specs.Words.{WordView}
 use Rattle.wq_items.specs.declared.target.Target.{Target}
 use Rattle.wq_items.specs.Table.{item_named, targets_of}
-use Rattle.wq_items.specs.Building.{items_named, and_item, targets_from}
+use Rattle.wq_items.specs.Building.{of_item, items_named, and_item, targets_from}
 
 -- ---- counting
 
@@ -20,15 +20,15 @@ pub record Counted (names : List (List ℕ)) (count : ℕ) (rest words : List Wo
 pub record Added (names : List (List ℕ)) (old new : List (List Target)) (item first place : ℕ) (rest words : List WordView) : Type 0 where
   pub front : List ℕ
   pub known : option_map (λ (is : List ℕ). front ++ is) (items_named names rest) ≡ items_named names words
-  pub lists : new ≡ set old item (targets_of old item ++ targets_from false first front)
+  pub lists : new ≡ set old item (targets_of old item ++ targets_from of_item first front)
   pub next : place ≡ first + length front
   pub all : length front + length rest ≡ length words
 
-pub targets_from-append : (place : ℕ) (is js : List ℕ) → targets_from false place (is ++ js) ≡ targets_from false place is ++ targets_from false (place + length is) js
-targets_from-append place [] js = ap (λ (p : ℕ). targets_from false p js) (omega arith)
+pub targets_from-append : (place : ℕ) (is js : List ℕ) → targets_from of_item place (is ++ js) ≡ targets_from of_item place is ++ targets_from of_item (place + length is) js
+targets_from-append place [] js = ap (λ (p : ℕ). targets_from of_item p js) (omega arith)
 targets_from-append place (i ∷ is) js =
-    let t : Target = record { item = i; whole = false; place = place } in
-    ap (λ (ts : List Target). t ∷ ts) (targets_from-append (place + 1) is js ∙ ap (λ (p : ℕ). targets_from false (place + 1) is ++ targets_from false p js) (omega arith))
+    let t : Target = record { item = i; whole = false; unsure = false; place = place } in
+    ap (λ (ts : List Target). t ∷ ts) (targets_from-append (place + 1) is js ∙ ap (λ (p : ℕ). targets_from of_item (place + 1) is ++ targets_from of_item p js) (omega arith))
 
 set-set : {X : Type 0} (xs : List X) (i : ℕ) (a b : X) → set (set xs i a) i b ≡ set xs i b
 set-set [] i a b = refl
@@ -54,20 +54,20 @@ Added-none names old item place rest words same = record {
 }
 
 pub Added-more : (names : List (List ℕ)) (old mid new : List (List Target)) (item first place : ℕ) (w : WordView) (rest words : List WordView) (i : ℕ) → item < length old
-    → item_named names w.bytes ≡ Some i → new ≡ set mid item (targets_of mid item ++ (record { item = i; whole = false; place = place } ∷ [])) → Added names old mid item first place (w ∷ rest) words
+    → item_named names w.bytes ≡ Some i → new ≡ set mid item (targets_of mid item ++ (record { item = i; whole = false; unsure = false; place = place } ∷ [])) → Added names old mid item first place (w ∷ rest) words
     → Added names old new item first (place + 1) rest words
 Added-more names old mid new item first place w rest words i within found grown h =
-    let t : Target = record { item = i; whole = false; place = place } in
-    let before = targets_of old item ++ targets_from false first h.front in
+    let t : Target = record { item = i; whole = false; unsure = false; place = place } in
+    let before = targets_of old item ++ targets_from of_item first h.front in
     let stood : targets_of mid item ≡ before = ap (λ (m : List (List Target)). targets_of m item) h.lists ∙ get_or-set_same old item before [] within in
-    let one : targets_from false (first + length h.front) (i ∷ []) ≡ t ∷ [] = ap (λ (p : ℕ). record { item = i; whole = false; place = p } ∷ []) (sym h.next) in
+    let one : targets_from of_item (first + length h.front) (i ∷ []) ≡ t ∷ [] = ap (λ (p : ℕ). record { item = i; whole = false; unsure = false; place = p } ∷ []) (sym h.next) in
     record {
       front = h.front ++ (i ∷ []);
       known = one_in_front i h.front (items_named names rest) ∙ ap (λ (o : Option ℕ). option_map (λ (is : List ℕ). h.front ++ is) (and_item o (items_named names rest))) (sym found) ∙ h.known;
       lists = grown ∙ ap (λ (ts : List Target). set mid item (ts ++ (t ∷ []))) stood ∙ ap (λ (m : List (List Target)). set m item (before ++ (t ∷ []))) h.lists
           ∙ set-set old item before (before ++ (t ∷ []))
-          ∙ ap (set old item) (append_assoc (targets_of old item) (targets_from false first h.front) (t ∷ [])
-          ∙ ap (λ (ts : List Target). targets_of old item ++ ts) (sym (targets_from-append first h.front (i ∷ []) ∙ ap (λ (ts : List Target). targets_from false first h.front ++ ts) one)));
+          ∙ ap (set old item) (append_assoc (targets_of old item) (targets_from of_item first h.front) (t ∷ [])
+          ∙ ap (λ (ts : List Target). targets_of old item ++ ts) (sym (targets_from-append first h.front (i ∷ []) ∙ ap (λ (ts : List Target). targets_from of_item first h.front ++ ts) one)));
       next = omega (arith, h.next, length-append h.front (i ∷ []));
       all = omega (arith, h.all, length-append h.front (i ∷ []));
     }

@@ -14,10 +14,11 @@
 //! items and flushes: each name is looked up once.
 
 ghost use Rattle.std.specs.Prelude.{◌≡◌, ◌∷◌, [], ℕ, ◌-◌, ◌<◌, ◌≤◌, ◌^◌, ◌||◌, length, option_map, Ok, IsOk, IfSome};
-ghost use Rattle.std.specs.Prelude.{Bool, IfNone, IsTrue, None, Some, true, false};
+ghost use Rattle.std.specs.Prelude.{IfNone, IsTrue, None, Some, true, false};
 ghost use Rattle.wq_text.specs.Lines.{lines_of};
 ghost use Rattle.wq_text.specs.Words.{words_of};
-ghost use Rattle.wq_decl.specs.declared.directive.Directive.TheVariants.{Item, Flush, FlushWq, Ordered, Unsure};
+ghost use Rattle.wq_decl.specs.declared.directive.Directive.TheVariants.{Item, Flush, Ordered};
+ghost use Rattle.wq_decl.specs.Names.{are_names};
 ghost use Rattle.wq_decl.specs.Reading.{reading, directives, first_fault};
 ghost use Rattle.wq_items.specs.AtOnce.{item_unjudged, flush_unjudged, flushwq_unjudged, unjudged_after, unjudged};
 ghost use Rattle.wq_items.specs.AtOnce.{unsure_unjudged, is_whole, Foretells};
@@ -217,9 +218,7 @@ impl<'a, A: Allocator + Copy> Parts<'a, A> {
         ensures table { IfSome result (λ _. (n : ℕ)
             → flushes_declared self.old n kind (items_named self.old.names (name.entry ∷ target.entry ∷ []))
             ≡ Ok self.new) }
-        ensures whole { IfSome result (λ _. IsTrue (is_whole (FlushWq name.entry target.entry))) }
-        ensures unsure { IfSome result (λ _. (whole : Bool)
-            → IsTrue (is_whole (Unsure name.entry target.entry whole))) }
+        ensures names { IfSome result (λ _. IsTrue (are_names (name.entry ∷ target.entry ∷ []))) }
     {
         let place = self.waits.len() as u32;
         push_one(&self.names, &mut self.waits, kind, name, target, place)

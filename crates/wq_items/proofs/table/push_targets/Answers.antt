@@ -17,7 +17,7 @@ loop-word-preserved g c =
     let found : item_named names word.bytes ≡ Some c.new.result =
     ap (item_named names) (sym c.bytes.ensures) ∙ sym c.in_ok-target.ensures ∙ ap (λ (n : ℕ). Some n) (sym c.new.ensures) in
     let so_far = subst (λ (ws : List WordView). Added names c.args.waits.now old c.args.item c.args.place c.loop-word.next ws c.args.targets) c.in-Some.ensures.steps c.loop-word.invariant.0 in
-    let grown : c.push_target.new.self ≡ slice_set old c.args.item (targets_of old c.args.item ++ (record { item = c.new.result; whole = false; place = c.loop-word.next } ∷ [])) = search rules in (
+    let grown : c.push_target.new.self ≡ slice_set old c.args.item (targets_of old c.args.item ++ (record { item = c.new.result; whole = false; unsure = false; place = c.loop-word.next } ∷ [])) = search rules in (
       Added-more names c.args.waits.now old c.push_target.new.self c.args.item c.args.place c.loop-word.next word rest c.args.targets c.new.result c.requires.item found grown so_far,
       omega (arith, c.if-next-ge-MAX_FLUSHES.false),
     )
