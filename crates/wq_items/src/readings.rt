@@ -4,11 +4,11 @@
 //! those that are kept, and places are counted anew. It takes time and memory in the number of items and flushes, and
 //! time in the number of places that are kept.
 
-ghost use Rattle.std.specs.Prelude.{◌≡◌, ◌<◌, ◌++◌, ◌≢◌, ◌||◌, ℕ, not, length, map, filter, slice_index, IfOk, IfErr};
-ghost use Rattle.std.specs.Prelude.{AllPairs};
+ghost use Rattle.std.specs.Prelude.{◌≡◌, ◌<◌, ◌++◌, ◌≢◌, ◌||◌, ℕ, false, not, length, map, filter, IfOk};
+ghost use Rattle.std.specs.Prelude.{AllPairs, slice_index_or};
 ghost use Rattle.std.specs.List.{All, range_with_len};
 ghost use Rattle.wq_items.specs.declared.target.Target.{Target};
-ghost use Rattle.wq_items.specs.Readings.{is_among, kept_of, places_before, renumbered, table_reading};
+ghost use Rattle.wq_items.specs.Readings.{is_among, places_before, renumbered, table_reading};
 
 use crate::table::ItemTable;
 use crate::target::{ItemId, Target};
@@ -36,7 +36,7 @@ fn marked<A: Allocator + Copy>(
 /// Whether a reading has this flush, where each place that it keeps is marked.
 fn is_kept(marks: &[bool], target: Target) -> bool
     requires { target.place < length marks.now }
-    ensures { result ≡ (not target.unsure || slice_index marks.now target.place) }
+    ensures { result ≡ (not target.unsure || slice_index_or marks.now target.place false) }
 {
     !target.unsure || marks[target.place as usize]
 }
@@ -49,7 +49,7 @@ fn kept_places<A: Allocator + Copy>(
 ) -> Result<Vec<u32, A>, AllocError>
     requires { All (λ (t : Target). t.place < length marks.now) targets.now }
     ensures { IfOk result (λ places. places.items ≡ map (λ (t : Target). t.place)
-        (filter (λ (t : Target). not t.unsure || slice_index marks.now t.place) targets.now)) }
+        (filter (λ (t : Target). not t.unsure || slice_index_or marks.now t.place false) targets.now)) }
 {
     let mut places = Vec::with_capacity(alloc, targets.len())?;
     for target in targets {
@@ -94,7 +94,7 @@ fn push_kept<A: Allocator + Copy>(
     ensures pieces { IfOk result (λ _. pieces.new.pieces ≡ pieces.old.pieces) }
     ensures next { IfOk result (λ _. (others : List ℕ) → places.now ≡ map (places_before others) (range_with_len 0 (length places.now)) →
         pieces.new.next ≡ pieces.old.next ++ map (renumbered others)
-        (filter (λ (t : Target). not t.unsure || slice_index marks.now t.place) targets.now)) }
+        (filter (λ (t : Target). not t.unsure || slice_index_or marks.now t.place false) targets.now)) }
 {
     for target in targets {
         if is_kept(marks, *target) {
