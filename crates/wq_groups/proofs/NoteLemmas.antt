@@ -12,7 +12,7 @@ use Rattle.std.proofs.lemmas.List.Elements.{All-weaker, All-head, All-tail, Cont
 use Rattle.std.proofs.lemmas.List.Sums.{position_or_len_is}
 use Rattle.wq_text.specs.Words.{WordView}
 use Rattle.wq_decl.specs.declared.directive.Directive.{Directive}
-use Rattle.wq_decl.specs.declared.directive.Directive.TheVariants.{Item, Flush, FlushWq, Ordered}
+use Rattle.wq_decl.specs.declared.directive.Directive.TheVariants.{Item, Flush, FlushWq, Unsure, Ordered}
 use Rattle.wq_decl.specs.Reading.{has_ordered, ordered_lines}
 use Rattle.wq_items.specs.Table.{Table, item_named}
 use Rattle.wq_items.specs.Building.{table_of, items_named, and_item}
@@ -199,6 +199,8 @@ module _ (ds : List (ℕ × Directive)) (names : List (List ℕ)) (first : List 
       up_to n words others (before ++ ((k, Flush name targets) ∷ [])) rest (parts ∙ sym (append_assoc before ((k, Flush name targets) ∷ []) rest)) left (one_more before (k, Flush name targets) refl noted)
   up_to n words others before ((k, FlushWq name target) ∷ rest) parts left noted =
       up_to n words others (before ++ ((k, FlushWq name target) ∷ [])) rest (parts ∙ sym (append_assoc before ((k, FlushWq name target) ∷ []) rest)) left (one_more before (k, FlushWq name target) refl noted)
+  up_to n words others before ((k, Unsure name target whole) ∷ rest) parts left noted =
+      up_to n words others (before ++ ((k, Unsure name target whole) ∷ [])) rest (parts ∙ sym (append_assoc before ((k, Unsure name target whole) ∷ []) rest)) left (one_more before (k, Unsure name target whole) refl noted)
   up_to n words others before ((k, Ordered ws) ∷ rest) parts left noted =
       let same = same_line (k, ws) (n, words) (ordered_lines rest) others left in
       let behind : ordered_lines rest ≡ others = cc in
@@ -218,6 +220,8 @@ module _ (ds : List (ℕ × Directive)) (names : List (List ℕ)) (first : List 
       to_the_end (before ++ ((k, Flush name targets) ∷ [])) rest (parts ∙ sym (append_assoc before ((k, Flush name targets) ∷ []) rest)) left (one_more before (k, Flush name targets) refl noted)
   to_the_end before ((k, FlushWq name target) ∷ rest) parts left noted =
       to_the_end (before ++ ((k, FlushWq name target) ∷ [])) rest (parts ∙ sym (append_assoc before ((k, FlushWq name target) ∷ []) rest)) left (one_more before (k, FlushWq name target) refl noted)
+  to_the_end before ((k, Unsure name target whole) ∷ rest) parts left noted =
+      to_the_end (before ++ ((k, Unsure name target whole) ∷ [])) rest (parts ∙ sym (append_assoc before ((k, Unsure name target whole) ∷ []) rest)) left (one_more before (k, Unsure name target whole) refl noted)
   to_the_end before ((k, Ordered ws) ∷ rest) parts left noted = absurd cc
 
 -- these `ordered` lines are left, and the directives before the first of them are noted
@@ -281,6 +285,7 @@ no_lines [] none = refl
 no_lines ((n, Item name) ∷ ds) none = no_lines ds none
 no_lines ((n, Flush name targets) ∷ ds) none = no_lines ds none
 no_lines ((n, FlushWq name target) ∷ ds) none = no_lines ds none
+no_lines ((n, Unsure name target whole) ∷ ds) none = no_lines ds none
 no_lines ((n, Ordered names) ∷ ds) none = absurd cc
 
 -- without an `ordered` line each item is the first-declared one of its group

@@ -47,6 +47,6 @@ impl<'a, A: Allocator + Copy> Declaration<'a, A> {
     {
         let table = self.table.reading(alloc, kept)?;
         let groups = self.groups.again(alloc)?;
-        Ok(Declaration { table, groups })
+        Ok(Declaration::new(table, groups))
     }
 }

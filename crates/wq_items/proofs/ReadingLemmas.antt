@@ -145,38 +145,53 @@ targets_of-kept kept [] i = refl
 targets_of-kept kept (ts ∷ waits) zero = refl
 targets_of-kept kept (ts ∷ waits) (suc i) = targets_of-kept kept waits i
 
+-- what holds of declared flushes holds of those of a reading
+module _ (kept : List ℕ) (waits : List (List Target)) where
+  pub length-compact : length (compact kept waits) ≡ length waits
+  length-compact = length-map (map (kept_of kept) waits) (map (renumbered (places (map (kept_of kept) waits)))) ∙ length-map waits (kept_of kept)
+
+  pub TargetsBelow-compact : (n : ℕ) → All (TargetsBelow n) waits → All (TargetsBelow n) (compact kept waits)
+  TargetsBelow-compact n below =
+      let others : List ℕ = places (map (kept_of kept) waits) in
+      All-map (TargetsBelow n) (map (renumbered others)) (map (kept_of kept) waits) (
+      All-map (λ (ts : List Target). TargetsBelow n (map (renumbered others) ts)) (kept_of kept) waits (
+      All-weaker (TargetsBelow n) (λ (ts : List Target). TargetsBelow n (map (renumbered others) (kept_of kept ts))) (λ (ts : List Target) (b : TargetsBelow n ts).
+      All-map (λ (t : Target). t.item < n) (renumbered others) (kept_of kept ts) (All-filter (is_kept kept) (λ (t : Target). t.item < n) ts b)) waits below
+      )
+      )
+
+  pub flush_count-compact-le : flush_count (compact kept waits) ≤ flush_count waits
+  flush_count-compact-le = omega (arith, flush_count-compact kept waits, length-places (map (kept_of kept) waits), flush_count-filter (is_kept kept) waits)
+
+  pub numbered-compact : IsPermutation (range_with_len 0 (flush_count waits)) (places waits) → IsPermutation (range_with_len 0 (flush_count (compact kept waits))) (places (compact kept waits))
+  numbered-compact numbered =
+      let others : List ℕ = places (map (kept_of kept) waits) in
+      subst (λ (c : ℕ). IsPermutation (range_with_len 0 c) (places (compact kept waits))) (sym (flush_count-compact kept waits)) (
+      subst (λ (l : List ℕ). IsPermutation (range_with_len 0 (length others)) l) (sym (places-renumbered others (map (kept_of kept) waits))) (IsPermutation-ranks others (Differ-kept kept waits numbered))
+      )
+
+  pub PlacesRise-compact : All PlacesRise waits → All PlacesRise (compact kept waits)
+  PlacesRise-compact rise i d within =
+      let those : List (List Target) = map (kept_of kept) waits in
+      let others : List ℕ = places those in
+      let in-those : i < length those = omega (arith, within, length-map those (map (renumbered others))) in
+      let in-waits : i < length waits = omega (arith, in-those, length-map waits (kept_of kept)) in
+      let is : get_or (compact kept waits) i d ≡ map (renumbered others) (targets_of those i) = get_or-map (map (renumbered others)) those i [] d in-those in
+      subst PlacesRise (sym is) (
+      PlacesRise-renumbered others (targets_of those i) (λ k e fits. Contains-places those i k e in-those fits) (
+      subst PlacesRise (sym (targets_of-kept kept waits i)) (PlacesRise-filter (is_kept kept) (targets_of waits i) (rise i [] in-waits))
+      )
+      )
+
 pub IsTable-reading : (t : Table) (kept : List ℕ) → IsTable t → IsTable (table_reading t kept)
-IsTable-reading t kept h =
-    let n : ℕ = length t.names in
-    let left : List (List Target) = map (kept_of kept) t.waits in
-    let others : List ℕ = places left in
-    let differ : Differ others = Differ-kept kept t.waits h.places_are_numbered in
-    let count : flush_count (compact kept t.waits) ≡ length others = flush_count-compact kept t.waits in
-    record {
-      one_span_each = h.one_span_each;
-      one_list_each = length-map left (map (renumbered others)) ∙ length-map t.waits (kept_of kept) ∙ h.one_list_each;
-      few_items = h.few_items;
-      named = h.named;
-      distinct = h.distinct;
-      targets_are_items =
-          All-map (TargetsBelow n) (map (renumbered others)) left (
-          All-map (λ (ts : List Target). TargetsBelow n (map (renumbered others) ts)) (kept_of kept) t.waits (
-          All-weaker (TargetsBelow n) (λ (ts : List Target). TargetsBelow n (map (renumbered others) (kept_of kept ts))) (λ (ts : List Target) (below : TargetsBelow n ts).
-          All-map (λ (t' : Target). t'.item < n) (renumbered others) (kept_of kept ts) (All-filter (is_kept kept) (λ (t' : Target). t'.item < n) ts below)) t.waits h.targets_are_items
-          )
-          );
-      few_flushes = omega (arith, count, length-places left, flush_count-filter (is_kept kept) t.waits, h.few_flushes);
-      places_are_numbered =
-          subst (λ (c : ℕ). IsPermutation (range_with_len 0 c) (places (compact kept t.waits))) (sym count) (
-          subst (λ (l : List ℕ). IsPermutation (range_with_len 0 (length others)) l) (sym (places-renumbered others left)) (IsPermutation-ranks others differ)
-          );
-      places_rise = λ i d within.
-          let in-left : i < length left = omega (arith, within, length-map left (map (renumbered others))) in
-          let in-waits : i < length t.waits = omega (arith, in-left, length-map t.waits (kept_of kept)) in
-          let is : get_or (compact kept t.waits) i d ≡ map (renumbered others) (targets_of left i) = get_or-map (map (renumbered others)) left i [] d in-left in
-          subst PlacesRise (sym is) (
-          PlacesRise-renumbered others (targets_of left i) (λ k e fits. Contains-places left i k e in-left fits) (
-          subst PlacesRise (sym (targets_of-kept kept t.waits i)) (PlacesRise-filter (is_kept kept) (targets_of t.waits i) (h.places_rise i [] in-waits))
-          )
-          );
-    }
+IsTable-reading t kept h = record {
+  one_span_each = h.one_span_each;
+  one_list_each = length-compact kept t.waits ∙ h.one_list_each;
+  few_items = h.few_items;
+  named = h.named;
+  distinct = h.distinct;
+  targets_are_items = TargetsBelow-compact kept t.waits (length t.names) h.targets_are_items;
+  few_flushes = omega (arith, flush_count-compact-le kept t.waits, h.few_flushes);
+  places_are_numbered = numbered-compact kept t.waits h.places_are_numbered;
+  places_rise = PlacesRise-compact kept t.waits h.places_rise;
+}

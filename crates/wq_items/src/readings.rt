@@ -5,7 +5,7 @@
 //! time in the number of places that are kept.
 
 ghost use Rattle.std.specs.Prelude.{◌≡◌, ◌<◌, ◌++◌, ◌≢◌, ◌||◌, ℕ, false, not, length, map, filter, IfOk};
-ghost use Rattle.std.specs.Prelude.{AllPairs, slice_index_or};
+ghost use Rattle.std.specs.Prelude.{AllPairs, List, slice_index_or};
 ghost use Rattle.std.specs.List.{All, range_with_len};
 ghost use Rattle.wq_items.specs.declared.target.Target.{Target};
 ghost use Rattle.wq_items.specs.Readings.{is_among, places_before, renumbered, table_reading};
