@@ -6,6 +6,7 @@
 ghost use Rattle.std.specs.Prelude.{◌≡◌, ◌<◌, ◌≤◌, IfSome, IfNone};
 ghost use Rattle.wq_core.specs.Wiring.{HasRescuer, items, lane_of};
 ghost use Rattle.wq_hang.specs.declared.hop.Hop.{Hop};
+ghost use Rattle.wq_hang.specs.Walk.{unsure_part};
 ghost use Rattle.wq_hang.specs.Search.{IsHopBack, IsCheapestBack, hop_cost, hop_to};
 
 use crate::hop::Hop;
@@ -13,22 +14,34 @@ use crate::waits::Waits;
 use std::alloc::Allocator;
 use wq_items::{ItemId, Target};
 
-/// What a hop of an item back to itself costs: 3, and 1 more if the target is another item, which is queued beside it.
-pub(crate) fn cost_back(item: ItemId, flush: &Target) -> u16
+/// What a hop costs more if it is by an unsure flush: more than the steps of any walk.
+pub(crate) const UNSURE: u32 = 32768;
+
+/// What this flush makes a hop cost more.
+pub(crate) fn unsure_part(flush: &Target) -> u32
+    ensures { result ≡ unsure_part flush.now }
+{
+    if flush.unsure { UNSURE } else { 0 }
+}
+
+/// What a hop of an item back to itself costs: 3, and 1 more if the target is another item, which is queued beside it;
+/// and what its flush makes it cost more.
+pub(crate) fn cost_back(item: ItemId, flush: &Target) -> u32
     ensures { result ≡ hop_cost (hop_to item flush.now item) }
 {
-    if flush.whole || flush.item == item {
+    let steps = if flush.whole || flush.item == item {
         3
     } else {
         4
-    }
+    };
+    unsure_part(flush) + steps
 }
 
 /// The cheapest hop of an item back to itself, the first of those, if one costs less than the limit.
 pub(crate) fn hop_back<A: Allocator + Copy>(
     waits: &Waits<'_, A>,
     item: ItemId,
-    limit: u16,
+    limit: u32,
 ) -> Option<Hop>
     requires item { item < items waits.now }
     requires rescuer { HasRescuer waits.now (lane_of waits.now item) }
