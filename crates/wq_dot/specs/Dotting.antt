@@ -10,13 +10,12 @@ use Rattle.wq_items.specs.Table.{flush_count}
 use Rattle.wq_groups.specs.Declaration.{Declaration, GroupWaits}
 use Rattle.wq_groups.specs.Assignment.{Assignment}
 use Rattle.wq_graph.specs.declared.arc.WaitArc.{WaitArc}
-use Rattle.wq_graph.specs.Graph.{group_graph}
 use Rattle.wq_core.specs.declared.step.Step.{Step}
 use Rattle.wq_core.specs.Wiring.{own_lanes}
 use Rattle.wq_core.specs.Workqueues.{Workqueues, all_rescued, wiring_of}
 use Rattle.wq_core.specs.Deadlock.{IsSafe}
 use Rattle.wq_deadlock.specs.Judging.{bare_waits}
-use Rattle.wq_plan.specs.Plan.{IsPlan, chain_of}
+use Rattle.wq_plan.specs.Plan.{IsPlan, chain_of_plan}
 use Rattle.wq_hang.specs.declared.hop.Hop.{Hop}
 use Rattle.wq_hang.specs.Answer.{IsHangOf}
 use Rattle.wq_cert.specs.Texts.{workqueues_of_text, cert_refusal}
@@ -124,7 +123,7 @@ pub record DrawsPlan (s : Declared) (comments : List (List ℕ)) (out : List ℕ
   pub drawn : out
       ≡ drawing_of s (all_rescued assignment) []
       (λ looks. plan_title assignment.lanes (marked looks))
-      (declared_looks s Bold (chain_of (group_graph (declared_waits s)) assignment.lane_of_group)) comments
+      (declared_looks s Bold (chain_of_plan (declared_waits s) assignment.lane_of_group)) comments
 
 -- the flushes that are on a circle, of these components, and those that lead to a workqueue without a rescuer
 abbrev pub hanging_arcs : Declared → Workqueues → List (List WaitArc) → List WaitArc

@@ -192,7 +192,7 @@ pub(crate) fn directive_like<A: Allocator + Copy>(
     alloc: A,
     word: &[u8],
 ) -> Result<Option<&'static str>, AllocError> {
-    most_like(alloc, word, &["item", "flush", "flushwq", "ordered"])
+    most_like(alloc, word, &["item", "flush", "flushwq", "flush?", "flushwq?", "ordered"])
 }
 
 /// The one of these words that a word of a text is most like, if it is like one; of several the first.
