@@ -90,18 +90,26 @@ workqueue_box_lines names group_of ws called q =
 abbrev pub is_whole_at : List (List Target) → WaitArc → Bool
 is_whole_at waits flush = list_any (λ (t : Target). (t.place == flush.place) && t.whole) (targets_of waits flush.src)
 
+-- the flush is unsure: the target at its place says so
+abbrev pub is_unsure_at : List (List Target) → WaitArc → Bool
+is_unsure_at waits flush = list_any (λ (t : Target). (t.place == flush.place) && t.unsure) (targets_of waits flush.src)
+
 -- the flush is drawn from its target: a flush goes the other way too, and that one
 -- is of the item that was declared first
 abbrev pub is_turned : List (List Target) → WaitArc → Bool
 is_turned waits flush =
     nat_lt flush.dst flush.src && list_any (λ (t : Target). t.item == flush.src) (targets_of waits flush.dst)
 
--- the line and the colour of an arrow
-abbrev pub look_text : FlushLook → List ℕ
-look_text Plain = []
-look_text Red = codes " [color=red, style=bold]"
-look_text BoldRed = codes " [color=red, penwidth=4]"
-look_text Bold = codes " [style=bold]"
+-- the line and the colour of an arrow, of a flush that is unsure or not
+abbrev pub look_text : FlushLook → Bool → List ℕ
+look_text Plain false = []
+look_text Red false = codes " [color=red, style=bold]"
+look_text BoldRed false = codes " [color=red, penwidth=4]"
+look_text Bold false = codes " [style=bold]"
+look_text Plain true = codes " [style=dotted]"
+look_text Red true = codes " [color=red, style=\"bold,dotted\"]"
+look_text BoldRed true = codes " [color=red, penwidth=4, style=dotted]"
+look_text Bold true = codes " [style=\"bold,dotted\"]"
 
 -- the head of an arrow that is drawn from its target or not, of a flush of a whole workqueue or not
 abbrev pub head_text : Bool → Bool → List ℕ
@@ -119,7 +127,7 @@ abbrev pub arrow_line : List (List ℕ) → List (List Target) → FlushLook →
 arrow_line names waits look comment flush =
     let turned = is_turned waits flush in
     ends_text names (cond turned flush.dst flush.src) (cond turned flush.src flush.dst)
-    ++ look_text look
+    ++ look_text look (is_unsure_at waits flush)
     ++ head_text turned (is_whole_at waits flush)
     ++ tooltip_text comment
     ++ codes ";"

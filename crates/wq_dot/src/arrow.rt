@@ -7,7 +7,8 @@
 ghost use Rattle.std.specs.Prelude.{◌≡◌, ◌<◌, ◌==◌, ◌++◌, cond, length, OnOk};
 ghost use Rattle.std.specs.List.{list_any};
 ghost use Rattle.wq_items.specs.declared.target.Target.{Target};
-ghost use Rattle.wq_dot.specs.Drawing.{arrow_line, ended, ends_text, head_text, is_turned, is_whole_at, look_text};
+ghost use Rattle.wq_dot.specs.Drawing.{arrow_line, ended, ends_text, head_text, is_turned, is_unsure_at, is_whole_at};
+ghost use Rattle.wq_dot.specs.Drawing.{look_text};
 
 use crate::look::FlushLook;
 use crate::tooltip::put_tooltip;
@@ -26,6 +27,20 @@ fn is_whole<A: Allocator + Copy>(table: &ItemTable<'_, A>, flush: WaitArc) -> bo
     let targets = table.waits(flush.src);
     match targets.binary_search_by_key(&flush.place, |target| target.place) {
         Ok(at) => targets[at].whole,
+        Err(_) => false,
+    }
+}
+
+/// Whether a flush is unsure.
+fn is_unsure<A: Allocator + Copy>(table: &ItemTable<'_, A>, flush: WaitArc) -> bool
+    requires { flush.src < length table.now.names }
+    ensures { result ≡ is_unsure_at table.now.waits flush }
+{
+    // What holds of every table.
+    let _items = table.len();
+    let targets = table.waits(flush.src);
+    match targets.binary_search_by_key(&flush.place, |target| target.place) {
+        Ok(at) => targets[at].unsure,
         Err(_) => false,
     }
 }
@@ -61,15 +76,19 @@ fn tip(flush: &WaitArc, turned: bool) -> ItemId
     if turned { flush.src } else { flush.dst }
 }
 
-/// The line and the colour of an arrow.
-fn look_text(look: FlushLook) -> &'static [u8]
-    ensures { result.now ≡ look_text look }
+/// The line and the colour of an arrow. `unsure` says whether the flush is unsure.
+fn look_text(look: FlushLook, unsure: bool) -> &'static [u8]
+    ensures { result.now ≡ look_text look unsure }
 {
-    match look {
-        FlushLook::Plain => b"",
-        FlushLook::Red => b" [color=red, style=bold]",
-        FlushLook::BoldRed => b" [color=red, penwidth=4]",
-        FlushLook::Bold => b" [style=bold]",
+    match (look, unsure) {
+        (FlushLook::Plain, false) => b"",
+        (FlushLook::Red, false) => b" [color=red, style=bold]",
+        (FlushLook::BoldRed, false) => b" [color=red, penwidth=4]",
+        (FlushLook::Bold, false) => b" [style=bold]",
+        (FlushLook::Plain, true) => b" [style=dotted]",
+        (FlushLook::Red, true) => b" [color=red, style=\"bold,dotted\"]",
+        (FlushLook::BoldRed, true) => b" [color=red, penwidth=4, style=dotted]",
+        (FlushLook::Bold, true) => b" [style=\"bold,dotted\"]",
     }
 }
 
@@ -118,7 +137,7 @@ pub(crate) fn put_flush<A: Allocator + Copy>(
 {
     let turned = is_turned(table, &flush);
     put_ends(out, table, tail(&flush, turned), tip(&flush, turned))?;
-    put(out, look_text(look))?;
+    put(out, look_text(look, is_unsure(table, flush)))?;
     put(out, head_text(turned, is_whole(table, flush)))?;
     put_tooltip(out, comment)?;
     put(out, b";\n")

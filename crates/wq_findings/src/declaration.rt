@@ -119,20 +119,21 @@ fn unknown_word<'a, A: Allocator + Copy>(
     line: &Line<'a>,
 ) -> Result<Finding<'a>, AllocError> {
     let word = bytes_at(line, 0);
-    let hint = directive_hint(alloc, text, word)?;
+    let hint = directive_hint(alloc, text, word, bytes_at(line, 1))?;
     let what = What::NoDirective(Quoted(word));
     Ok(Finding::marked(first_mark(line), what, hint))
 }
 
-/// What a word that isn't a directive was most likely meant to be.
+/// What a word that isn't a directive was most likely meant to be, in front of that second one.
 fn directive_hint<A: Allocator + Copy>(
     alloc: A,
     text: &Text<'_>,
     word: &[u8],
+    second: &[u8],
 ) -> Result<Hint<'static>, AllocError> {
-    Ok(match guess_at(alloc, text, word)? {
+    Ok(match guess_at(alloc, text, word, second)? {
         Guess::Comment => Hint::COMMENT,
-        Guess::Call(hint) => hint,
+        Guess::Call(hint) | Guess::Mark(hint) => hint,
         Guess::OtherText(text) => Hint::LooksLike(text),
         Guess::OtherLine(text) => Hint::OwnFile(text),
         Guess::Directive(directive) => Hint::Directive(directive),
@@ -203,16 +204,25 @@ fn name_hint(word: &[u8]) -> Hint<'static> {
     }
 }
 
+/// To which word of a line the mark of this one belongs, if it is a line of flushes and the word has such a mark.
+fn misplaced_mark(line: &Line<'_>, word: &[u8]) -> Option<Hint<'static>> {
+    if !word.starts_with(b"?") && !word.ends_with(b"?") {
+        return None;
+    }
+    match Keyword::of(bytes_at(line, 0)) {
+        Some(Keyword::Flush | Keyword::FlushUnsure) => Some(Hint::MARK_OF_FLUSH),
+        Some(Keyword::FlushWq | Keyword::FlushWqUnsure) => Some(Hint::MARK_OF_FLUSHWQ),
+        Some(Keyword::Item | Keyword::Ordered) | None => None,
+    }
+}
+
 /// The first word of a line that should be a name and isn't one.
 fn bad_name<'a>(line: &Line<'a>) -> Finding<'a> {
     for word in line.words().skip(1) {
         if !is_name(word.bytes()) {
             let word = Token::of(line, &word);
-            return Finding::marked(
-                word.mark,
-                What::NoName(word.quoted()),
-                name_hint(word.bytes),
-            );
+            let hint = misplaced_mark(line, word.bytes).unwrap_or(name_hint(word.bytes));
+            return Finding::marked(word.mark, What::NoName(word.quoted()), hint);
         }
     }
     Finding::whole(What::Said("a word of the line isn't a name"))

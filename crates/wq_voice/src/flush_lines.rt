@@ -82,6 +82,14 @@ impl<'a, A: Allocator + Copy> FlushLines<'a, A> {
         self.lines.get(usize::from(*at)).copied()
     }
 
+    /// The number of the line that declares the flush at this place; 0 if there is none.
+    pub(crate) fn line_no(&self, place: u32) -> u32 {
+        match self.line(place) {
+            Some(line) => line.no,
+            None => 0,
+        }
+    }
+
     /// The target of the flush at this place, in its line.
     pub(crate) fn spot(&self, place: u32) -> Spot<'a> {
         let Some(FlushLine { no, first, span }) = self.line(place) else {
