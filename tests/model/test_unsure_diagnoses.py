@@ -1,7 +1,6 @@
-"""What standard error says of unsure lines, each byte written by hand in tests/cli/unsure_diagnoses: the model has the same words.
+"""What standard error says of unsure lines, each byte written by hand in tests/cli/diagnoses/unsure: the model has the same words.
 
-These are folders as those of tests/cli/diagnoses, where they belong once the program knows unsure lines. Of a refusal the model has only
-the answer: it knows no hints.
+Of a refusal the model has only the answer: it knows no hints.
 """
 
 import pathlib
@@ -16,7 +15,7 @@ from commands import TEXTS_OF
 from models import ANSWERS, agrees
 from test_diagnoses import parts
 
-FOLDER = pathlib.Path(__file__).resolve().parents[1] / "cli" / "unsure_diagnoses"
+FOLDER = pathlib.Path(__file__).resolve().parents[1] / "cli" / "diagnoses" / "unsure"
 BEHIND_NO = 3  # lines of the diagnosis of a `no`
 
 

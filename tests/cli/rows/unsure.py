@@ -290,8 +290,7 @@ DRAWINGS = [
         r"for it, can do.\lDotted: not sure.\l", ["a"], ['"a" -> "a" [color=red, penwidth=4, style=dotted]'])),
 ]
 
-# These tables are for tests/model (test_examples.py) alone, until the program knows unsure lines. Then they are the TABLES of this file.
-UNSURE_TABLES = [
+TABLES = [
     ("unsure lines: deadlock", "deadlock", DEADLOCKS),
     ("unsure lines: replay", "replay", REPLAYS),
     ("unsure lines: plan", "plan", PLANS),
