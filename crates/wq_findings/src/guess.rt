@@ -117,7 +117,15 @@ pub(crate) fn text_with(word: &[u8]) -> Option<&'static str> {
         "plan" | "wq" | "chain" => Some("a plan or an assignment"),
         "norescuer" => Some("an assignment"),
         "circle" => Some("a circle"),
-        "run" | "unsure" | "queue" | "cancel" | "start" | "wait" | "over" | "waitwq" | "overwq"
+        "run"
+        | "unsure"
+        | "queue"
+        | "cancel"
+        | "start"
+        | "wait"
+        | "over"
+        | "waitwq"
+        | "overwq"
         | "finish" => Some("a run"),
         "refused" => Some("a refusal, written here in place of an answer"),
         _ => None,
@@ -222,7 +230,11 @@ pub(crate) fn directive_like<A: Allocator + Copy>(
     alloc: A,
     word: &[u8],
 ) -> Result<Option<&'static str>, AllocError> {
-    most_like(alloc, word, &["item", "flush", "flushwq", "flush?", "flushwq?", "ordered"])
+    most_like(
+        alloc,
+        word,
+        &["item", "flush", "flushwq", "flush?", "flushwq?", "ordered"],
+    )
 }
 
 /// The one of these words that a word of a text is most like, if it is like one; of several the first.

@@ -8,7 +8,7 @@ use crate::declaration::not_above;
 use crate::guess::{Guess, begins_comment, encoding_hint, guess_at, text_with};
 use crate::hint::Hint;
 use crate::names::{LineNames, declared_on};
-use crate::token::{bytes_at, Mark, first_word, line_at, word_at};
+use crate::token::{Mark, bytes_at, first_word, line_at, word_at};
 use std::alloc::{AllocError, Allocator};
 use wq_decl::{Keyword, is_name};
 use wq_text::{Line, Text};

@@ -175,13 +175,11 @@ impl Stage {
                 has_number: true,
                 names: None,
             },
-            Stage::ChainArc { .. }
-            | Stage::CircleArc { .. }
-            | Stage::Unsure { .. }
-            | Stage::End => Shape {
-                has_number: false,
-                names: Some(2),
-            },
+            Stage::ChainArc { .. } | Stage::CircleArc { .. } | Stage::Unsure { .. } | Stage::End =>
+                Shape {
+                    has_number: false,
+                    names: Some(2),
+                },
             Stage::Step { .. } => Shape {
                 has_number: !is_call(word),
                 names: Some(1),

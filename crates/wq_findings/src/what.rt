@@ -106,7 +106,10 @@ fn not_unsure<W: fmt::Write>(
     match count {
         0 => write!(f, "`{words}` isn't unsure in the declaration"),
         1 => write!(f, "`{words}` is unsure only once in the declaration"),
-        _ => write!(f, "`{words}` is unsure only {count} times in the declaration"),
+        _ => write!(
+            f,
+            "`{words}` is unsure only {count} times in the declaration"
+        ),
     }
 }
 

@@ -306,11 +306,7 @@ impl<A: Allocator + Copy> Search<A> {
     {
         let near = self.comes_first(&self.near, &self.far);
         let near_unsure = self.comes_first(&self.near_unsure, &self.far_unsure);
-        match (
-            self.sure_comes_first(near, near_unsure),
-            near,
-            near_unsure,
-        ) {
+        match (self.sure_comes_first(near, near_unsure), near, near_unsure) {
             (true, true, _) => self.near.pop_front(),
             (true, false, _) => self.far.pop_front(),
             (false, _, true) => self.near_unsure.pop_front(),

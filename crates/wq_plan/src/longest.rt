@@ -50,13 +50,7 @@ fn doubts_by(unsure: &[bool], doubts: &[u16], arc: &WaitArc) -> u16
 }
 
 /// With how few unsure flushes arcs lead down from a vertex with these arcs, where `on` is the next lane.
-fn fewest_doubts(
-    unsure: &[bool],
-    doubts: &[u16],
-    arcs: &[WaitArc],
-    lane: &[u16],
-    on: u16,
-) -> u16
+fn fewest_doubts(unsure: &[bool], doubts: &[u16], arcs: &[WaitArc], lane: &[u16], on: u16) -> u16
     requires one_each { length doubts.now ≡ length lane.now }
     requires vertices { All (λ (a : WaitArc). a.head < length lane.now) arcs.now }
     requires few { All (λ n. n < 4096) doubts.now }

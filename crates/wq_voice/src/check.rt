@@ -74,9 +74,13 @@ fn yes_note<A: Allocator + Copy>(
         return Ok(Vec::new(alloc));
     }
     match read_answer(alloc, text, &declared.table, &declared.groups) {
-        Ok(CertAnswer::Plan {
-            assignment, arcs, ..
-        }) => {
+        Ok(
+            CertAnswer::Plan {
+                assignment,
+                arcs,
+                ..
+            },
+        ) => {
             let lanes = u32::from(assignment.lanes());
             chain_note(alloc, file, declared, lanes, arcs.as_slice())
         }

@@ -19,8 +19,8 @@ use crate::flush_lines::FlushLines;
 use crate::note::listed;
 use crate::subject::Subject;
 use std::alloc::{AllocError, Allocator};
-use wq_circles::components;
 use wq_cert::has_unsure;
+use wq_circles::components;
 use wq_deadlock::bare_waits;
 use wq_diagnosis::put_line;
 use wq_graph::WaitArc;
@@ -193,7 +193,14 @@ fn no_difference_note<A: Allocator + Copy>(
         [_] => messages::makes_no_difference(alloc, file.as_bytes(), &all, place, &listed)?,
         more => {
             let some = more.len().to_string(alloc)?;
-            messages::make_no_difference(alloc, file.as_bytes(), some.as_bytes(), &all, place, &listed)?
+            messages::make_no_difference(
+                alloc,
+                file.as_bytes(),
+                some.as_bytes(),
+                &all,
+                place,
+                &listed,
+            )?
         }
     };
     line_of(alloc, &line)
@@ -216,7 +223,13 @@ pub(crate) fn of_idle<A: Allocator + Copy>(
         return Ok(Vec::new(alloc));
     }
     let lines = idle_lines(alloc, table, subject.flushes, components, waits)?;
-    no_difference_note(alloc, subject.declaration.file, place, count, lines.as_slice())
+    no_difference_note(
+        alloc,
+        subject.declaration.file,
+        place,
+        count,
+        lines.as_slice(),
+    )
 }
 
 /// That so many waits aren't decided.
