@@ -290,7 +290,8 @@ def guesses(directives):
 def findings(directives):
     """crates/wq_findings/src/declaration.rt with the directives, and with the form of each."""
     parts = Parts("crates/wq_findings/src/declaration.rt")
-    parts.replace(r'(?<=Hint::Said\("a line begins with ).*(?="\),$)', of_directives(directives)["words"])
+    sure = [row for row in directives if "unsure" not in row]
+    parts.replace(r'(?<=Hint::Said\("a line begins with ).*(?="\),$)', of_directives(sure)["words"])
     for row in directives:
         parts.replace(rf'(?<= => "){re.escape(row["directive"])} NAME[^"]*(?=",$)', f'{row["directive"]} {row["names"]}')
     return parts

@@ -20,12 +20,12 @@ import collections
 import os
 import re
 
-import changes
 import dot
 import notes
 import programs
 import pytest
 import reasons
+import told_changes
 import unrescued
 from cases import COMMANDS, KINDS, WITHOUT, cases, kind_of
 from commands import TEXTS_OF
@@ -71,7 +71,7 @@ def wrong_beside(command, files, texts, found):
     if printed.startswith((b"refused ", b"not lawful ")) or errors == note(files[0]):
         return None
     if command == "repair":
-        return changes.wrong_with(files, texts[:2], texts[2:], printed, errors)
+        return told_changes.wrong_with(files, texts[:2], texts[2:], printed, errors)
     behind = errors.split(b"\n", reasons.BLOCK)[reasons.BLOCK] if printed.startswith(b"no ") else errors
     try:
         last = notes.said_of(command, files, texts, printed) + unrescued.said_of(command, files, texts, printed)

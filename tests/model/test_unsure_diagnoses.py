@@ -6,10 +6,10 @@ Of a refusal the model has only the answer: it knows no hints.
 import pathlib
 import shlex
 
-import changes
 import notes
 import pytest
 import reasons
+import told_changes
 import unrescued
 from commands import TEXTS_OF
 from models import ANSWERS, agrees
@@ -30,7 +30,7 @@ def case_in(folder):
 
 def own_words(command, files, texts, names, printed):
     if command == "repair":
-        return changes.said_of(files, texts, names, printed)
+        return told_changes.said_of(files, texts, names, printed)
     return b"".join(of(command, files, texts, printed) for of in (reasons.said_of, notes.said_of, unrescued.said_of))
 
 
@@ -47,7 +47,7 @@ def test_model_says_the_same(folder):
     for answer, words in shown:
         assert agrees(command, texts, (printed, status), (answer, status)), answer.decode()
         if command == "repair":
-            assert changes.wrong_with(files, texts, names, answer, words) is None
+            assert told_changes.wrong_with(files, texts, names, answer, words) is None
         else:
             behind = notes.said_of(command, files, texts, answer) + unrescued.said_of(command, files, texts, answer)
             assert words.endswith(behind)

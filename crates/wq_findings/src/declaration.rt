@@ -137,9 +137,7 @@ fn directive_hint<A: Allocator + Copy>(
         Guess::OtherText(text) => Hint::LooksLike(text),
         Guess::OtherLine(text) => Hint::OwnFile(text),
         Guess::Directive(directive) => Hint::Directive(directive),
-        Guess::Unknown => Hint::Said(
-            "a line begins with `item`, `flush`, `flushwq`, `flush?`, `flushwq?` or `ordered`",
-        ),
+        Guess::Unknown => Hint::Said("a line begins with `item`, `flush`, `flushwq` or `ordered`"),
     })
 }
 
