@@ -1,10 +1,11 @@
 -- A search from one item: what it costs to come from it to the others, hop by hop.
 use Rattle.std.specs.Prelude.{◌≡◌, ◌≢◌, ℕ, ◌<◌, ◌≤◌, ◌+◌, ◌⊎◌, nat_lt, not, ◌&&◌, Bool, true, false, List, [], ◌∷◌}
 use Rattle.std.specs.Prelude.{if◌then◌else◌, ◌++◌, length, fold, slice_index, slice_index_or, slice_set, Contains}
+use Rattle.std.specs.List.{list_any}
 use Rattle.wq_items.specs.declared.target.Target.{Target}
 use Rattle.wq_core.specs.Wiring.{Wiring, HasRescuer, items, lane_of, declared_by}
 use Rattle.wq_hang.specs.declared.hop.Hop.{Hop}
-use Rattle.wq_hang.specs.Walk.{IsHop, IsPath, IsRound, target_beside, unsure_part}
+use Rattle.wq_hang.specs.Walk.{IsHop, IsPath, IsRound, target_beside, unsure_cost, unsure_part}
 
 -- what a hop costs
 abbrev pub hop_cost : Hop → ℕ
@@ -129,11 +130,15 @@ abbrev pub IsFollowed : Wiring → Reach → ℕ → ℕ → Type 0
 IsFollowed w s i cost = (t : Target) → Contains (declared_by w i) t → HasRescuer w (lane_of w t.item)
     → (slice_index s.costs t.item ≤ cost + step t) × (slice_index s.lane_costs (lane_of w t.item) ≤ cost + lane_step t)
 
+-- what each hop of item i costs at least
+abbrev pub least_hop : Wiring → ℕ → ℕ
+least_hop w i = if list_any (λ (t : Target). not t.unsure) (declared_by w i) then 3 else unsure_cost + 3
+
 -- item i need not be gone on from: its flushes are followed, or no round by way of it costs less than the cheapest way
 -- round so far
 abbrev pub IsDone : Wiring → ℕ → Reach → ℕ → Type 0
 IsDone w first s i =
-    IsFollowed w s i (slice_index s.costs i) ⊎ (slice_index s.costs first ≤ slice_index s.costs i + 3)
+    IsFollowed w s i (slice_index s.costs i) ⊎ (slice_index s.costs first ≤ slice_index s.costs i + least_hop w i)
 
 -- while the search goes on: the first item's flushes are followed from nothing; and each other item is to be gone on
 -- from, or need not be

@@ -1,13 +1,13 @@
 //! The cheapest round of one hop from an item: a flush that leads straight back to the item's own lane.
 //!
-//! Two hops cost 6 at least. So if a round is known that costs no more, only a round of one hop can be cheaper, and it
-//! is found without a search. It takes time in the number of the item's flushes.
+//! A further hop costs 3 at least. So if a round is known that costs no more than the item's cheapest hop and 3, only a
+//! round of one hop can be cheaper, and it is found without a search. It takes time in the number of the item's flushes.
 
 ghost use Rattle.std.specs.Prelude.{◌≡◌, ◌<◌, ◌≤◌, IfSome, IfNone};
 ghost use Rattle.wq_core.specs.Wiring.{HasRescuer, items, lane_of};
 ghost use Rattle.wq_hang.specs.declared.hop.Hop.{Hop};
 ghost use Rattle.wq_hang.specs.Walk.{unsure_part};
-ghost use Rattle.wq_hang.specs.Search.{IsHopBack, IsCheapestBack, hop_cost, hop_to};
+ghost use Rattle.wq_hang.specs.Search.{IsHopBack, IsCheapestBack, hop_cost, hop_to, least_hop};
 
 use crate::hop::Hop;
 use crate::waits::Waits;
@@ -22,6 +22,18 @@ pub(crate) fn unsure_part(flush: &Target) -> u32
     ensures { result ≡ unsure_part flush.now }
 {
     if flush.unsure { UNSURE } else { 0 }
+}
+
+/// What each hop of an item costs at least: 3, and more if the item declares no sure flush.
+pub(crate) fn least_hop<A: Allocator>(waits: &Waits<'_, A>, item: ItemId) -> u32
+    requires { item < items waits.now }
+    ensures { result ≡ least_hop waits.now item }
+{
+    if waits.flushes(item).iter().any(|flush| !flush.unsure) {
+        3
+    } else {
+        UNSURE + 3
+    }
 }
 
 /// What a hop of an item back to itself costs: 3, and 1 more if the target is another item, which is queued beside it;

@@ -18,7 +18,7 @@ ghost use Rattle.wq_hang.specs.Search.{AreItemsOn, IsTaken, IsSearched, with_tod
 ghost use Rattle.wq_hang.specs.Search.{follow, expand};
 
 use crate::hop::Hop;
-use crate::hop_back::unsure_part;
+use crate::hop_back::{least_hop, unsure_part};
 use crate::waits::Waits;
 use std::alloc::{AllocError, Allocator};
 use std::collections::VecDeque;
@@ -305,6 +305,13 @@ impl<A: Allocator + Copy> Search<A> {
         ensures far_unsure { IfNone result (length self.old.far_unsure ≡ 0) }
     {
         let near = self.comes_first(&self.near, &self.far);
+        if self.near_unsure.is_empty() && self.far_unsure.is_empty() {
+            return if near {
+                self.near.pop_front()
+            } else {
+                self.far.pop_front()
+            };
+        }
         let near_unsure = self.comes_first(&self.near_unsure, &self.far_unsure);
         match (self.sure_comes_first(near, near_unsure), near, near_unsure) {
             (true, true, _) => self.near.pop_front(),
@@ -333,8 +340,8 @@ pub(crate) fn search_from<A: Allocator + Copy>(
     search.expand(waits, on, first, 0)?;
     while let Some(item) = search.take() {
         let cost = search.cost(item);
-        // Each hop costs 3, so no round by way of this item costs less than the best one so far.
-        if search.cost(first).saturating_sub(cost) <= 3 {
+        // Then no round by way of this item costs less than the best one so far.
+        if search.cost(first).saturating_sub(cost) <= least_hop(waits, item) {
             continue;
         }
         search.expand(waits, on, item, cost)?;
