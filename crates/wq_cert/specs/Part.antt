@@ -1,6 +1,8 @@
 -- Unsure parts: which of the unsure flushes a run keeps. Each has the words of the line that declares it.
-use Rattle.std.specs.Prelude.{ℕ, zero, suc, ◌==◌, ◌&&◌, nat_lt, not, if◌then◌else◌, Bool, true, false, List, [], ◌∷◌, ◌++◌}
-use Rattle.std.specs.Prelude.{length, map, filter_map, flat_map, find, option_map, Option, Some, None, Result, Ok, Err, ok_or}
+use Rattle.std.specs.Prelude.{ℕ, zero, suc, ◌==◌, ◌&&◌, nat_lt, not, if◌then◌else◌, Bool, true, false, List}
+use Rattle.std.specs.Prelude.{[], ◌∷◌, ◌++◌}
+use Rattle.std.specs.Prelude.{length, map, filter_map, flat_map, find, option_map, Option, Some, None, Result}
+use Rattle.std.specs.Prelude.{Ok, Err, ok_or}
 use Rattle.std.specs.Prelude.{bytes_eq, codes, decimal}
 use Rattle.std.specs.List.{list_any, range_with_len}
 use Rattle.std.specs.Option.{option_zip}
@@ -106,7 +108,8 @@ begins_unsure [] = false
 begins_unsure (line ∷ lines) = begins_with (codes "unsure") line.words
 
 -- `unsure M`, M lines, and a run: the places for which the lines stand, and the steps
-abbrev pub part_reading : List (List ℕ) → List (List Target) → List CertLine → Result (Option (List ℕ) × List Step) CertError
+abbrev pub part_reading : List (List ℕ) → List (List Target) → List CertLine
+    → Result (Option (List ℕ) × List Step) CertError
 part_reading names waits lines =
     and_read (λ count behind.
     and_read (λ kept rest. and_then (λ steps. Ok (Some kept, steps)) (run_reading names rest))
@@ -114,7 +117,8 @@ part_reading names waits lines =
     (next_line unsure_count_reading lines)
 
 -- a run with an unsure part if the first word is `unsure`, and else one without
-abbrev pub made_reading : List (List ℕ) → List (List Target) → List CertLine → Result (Option (List ℕ) × List Step) CertError
+abbrev pub made_reading : List (List ℕ) → List (List Target) → List CertLine
+    → Result (Option (List ℕ) × List Step) CertError
 made_reading names waits lines =
     if begins_unsure lines then part_reading names waits lines
     else and_then (λ steps. Ok (None, steps)) (run_reading names lines)

@@ -118,8 +118,8 @@ fn put_part<A: Allocator + Copy>(
 /// The text of a run of the reading that keeps the unsure flushes at these places: its unsure part, if there is an
 /// unsure flush, the number of steps, and then the steps.
 ///
-/// There are fewer than 4,294,967,296 places and steps, each step of an item of the table and none of a helper. The only
-/// error is out of memory (20).
+/// There are fewer than 4,294,967,296 places and steps, each step of an item of the table and none of a helper. The
+/// only error is out of memory (20).
 pub fn reading_text<A: Allocator + Copy>(
     alloc: A,
     table: &ItemTable<'_, A>,

@@ -1,7 +1,7 @@
 //! Reading runs that may have an unsure part: which of the unsure flushes the run keeps, and then its steps.
 //!
-//! The text is that of "Run texts" in docs/FORMAT.md. Reading takes time in the length of the text, and for each line of
-//! the part in the number of the flushes of its item; and memory in the number of flushes and of the steps that are
+//! The text is that of "Run texts" in docs/FORMAT.md. Reading takes time in the length of the text, and for each line
+//! of the part in the number of the flushes of its item; and memory in the number of flushes and of the steps that are
 //! there.
 
 ghost use Rattle.std.specs.Prelude.{◌≡◌, ◌∷◌, ◌++◌, [], Ok, Err, None, IfOk, IfErr, map, option_map, ok_or, false};
@@ -84,7 +84,8 @@ fn unsure_form<A: Allocator + Copy>(
     })
 }
 
-/// The place of the unsure flush for which a line of this form stands, if those for which lines stand before are marked.
+/// The place of the unsure flush for which a line of this form stands, if those for which lines stand before are
+/// marked.
 fn stood_for<A: Allocator + Copy>(
     table: &ItemTable<'_, A>,
     marks: &[bool],

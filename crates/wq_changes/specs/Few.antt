@@ -17,5 +17,6 @@ few_line file = shown_lines (names_are_too_few file ∷ [])
 pub record TellsFew (first second : List ℕ) (s : Declared) (names : List (List ℕ)) (start : Workqueues)
     (text : List ℕ) : Type 0 where
   pub said : Option (List ℕ)
-  pub reason : GivesReason first can_hang_lead (λ h. words_of OnWorkqueues s start names h) (declared_waits s) start said
+  pub reason : GivesReason first can_hang_lead (λ h. words_of OnWorkqueues s start names h) (declared_waits s) start
+      said
   pub is : text ≡ (few_line second ++ assignment_text s.table.names s.partition start names) ++ unwrap_or said []

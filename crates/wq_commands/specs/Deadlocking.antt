@@ -22,8 +22,8 @@ use Rattle.wq_commands.specs.Declaration.{declaration}
 abbrev pub safe_text : List ℕ
 safe_text = line_text (codes "safe" ∷ [])
 
--- the run is printed by which workqueues hang; if some flush is unsure, behind the fewest unsure flushes that are enough
--- it is the run of the reading that keeps these: those of a walk that `hang` may print
+-- the run is printed by which workqueues hang; if some flush is unsure, behind the fewest unsure flushes that are
+-- enough it is the run of the reading that keeps these: those of a walk that `hang` may print
 abbrev pub PrintsRun : Bool → Declared → Workqueues → List ℕ → Type 0
 PrintsRun false s ws out =
     (steps : List Step) × IsHang (declared_waits s) ws steps × (out ≡ run_text s.table.names steps)

@@ -34,8 +34,8 @@ abbrev pub IsRunText : Named → List ℕ → List ℕ → List Step → Type 0
 IsRunText s out kept steps =
     (part : Option (List ℕ)) × (made_of s.names s.declared.waits out ≡ Ok (part, steps)) × (kept ≡ unwrap_or part [])
 
--- the text has a run of the reading that keeps the unsure flushes that it says, of which this holds; and no reading that
--- keeps fewer hangs
+-- the text has a run of the reading that keeps the unsure flushes that it says, of which this holds; and no reading
+-- that keeps fewer hangs
 pub record PrintsFewest (Holds : Wiring → List ℕ → List Step → Type 0) (declared lanes out : List ℕ) : Type 0 where
   pub s : Named
   pub ws : Workqueues

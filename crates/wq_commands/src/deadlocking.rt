@@ -1,8 +1,8 @@
 //! The answer to a declaration and an assignment, built in full in memory.
 //!
 //! The rules are those of "Deadlocking runs" and "Unsure lines" in docs/FORMAT.md. It takes the time and the memory of
-//! reading the two texts and of the verdict, whose run has 45,056 steps at most; and if a flush is unsure, of the search
-//! for the fewest that are enough.
+//! reading the two texts and of the verdict, whose run has 45,056 steps at most; and if a flush is unsure, of the
+//! search for the fewest that are enough.
 
 ghost use Rattle.std.specs.Prelude.{◌≡◌, true, false, length, IfOk};
 ghost use Rattle.wq_cert.specs.Part.{has_unsure};
@@ -75,8 +75,8 @@ fn deadlock_of_reading<A: Allocator + Copy>(
     }
 }
 
-/// What is printed of workqueues of groups that declare an unsure flush: the fewest that are enough, and the deadlocking
-/// run of the reading that keeps these.
+/// What is printed of workqueues of groups that declare an unsure flush: the fewest that are enough, and the
+/// deadlocking run of the reading that keeps these.
 fn judge_unsure<A: Allocator + Copy>(
     alloc: A,
     assigned: &Assigned<'_, '_, A>,

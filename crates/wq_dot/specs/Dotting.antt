@@ -68,8 +68,8 @@ plan_end bold unsure = if (bold == 0) && (unsure == 0) then [] else codes "\\l"
 -- `plan of K workqueues`, and what is said of the bold waits and the unsure flushes
 abbrev pub plan_title : ℕ → ℕ → ℕ → List ℕ
 plan_title workqueues bold unsure =
-    codes "plan of" ++ counted workqueues (codes "workqueue") ++ bold_text bold ++ unsure_text unsure ++ bold_legend bold
-    ++ dotted_legend unsure ++ plan_end bold unsure
+    codes "plan of" ++ counted workqueues (codes "workqueue") ++ bold_text bold ++ unsure_text unsure
+    ++ bold_legend bold ++ dotted_legend unsure ++ plan_end bold unsure
 
 -- how many of the red waits lead to no rescuer
 abbrev pub leading_text : ℕ → List ℕ

@@ -25,8 +25,8 @@ pub record IsHangOf (d : Declaration) (ws : Workqueues) (hops : List Hop) (steps
   pub alike : AreFirstAlike (wiring_of d ws) hops
   pub run : steps ≡ run_of_walk (wiring_of d ws) hops beside
 
--- no run ends stuck, whatever the unsure flushes turn out to be; or a shortest one that does, of a reading that keeps the
--- fewest of them
+-- no run ends stuck, whatever the unsure flushes turn out to be; or a shortest one that does, of a reading that keeps
+-- the fewest of them
 abbrev pub IsAnswer : {A : Type 0} → Declaration → Workqueues → Answer A → Type 0
 IsAnswer d ws answer.Safe = IsAssignment d.groups ws.assignment × IsSafe (wiring_of d ws)
 IsAnswer d ws (answer.Hang hops steps) = IsHangOf d ws hops.items steps.items

@@ -108,7 +108,8 @@ pub record IsToBare (w : Wiring) (h : Hop) : Type 0 where
   pub bare : ¬ HasRescuer w (lane_of w h.flush.item)
   pub next : h.next ≡ h.flush.item
 
--- a sure flush comes before an unsure one. Of two sure ones, and of two unsure ones, the one that is declared first does
+-- a sure flush comes before an unsure one. Of two sure ones, and of two unsure ones, the one that is declared first
+-- does
 abbrev pub ComesNoLater : Target → Target → Type 0
 ComesNoLater t u =
     ((t.unsure ≡ u.unsure) × (t.place ≤ u.place)) ⊎ ((t.unsure ≡ false) × (u.unsure ≢ false))

@@ -61,8 +61,8 @@ fn first_with<A: Allocator>(waits: &Waits<'_, A>, item: ItemId, found: Option<Ho
     first
 }
 
-/// Of the flushes that lead from a lane that has a rescuer to a bare lane the first: of the sure ones, if there are any,
-/// the one that is declared first.
+/// Of the flushes that lead from a lane that has a rescuer to a bare lane the first: of the sure ones, if there are
+/// any, the one that is declared first.
 pub(crate) fn first_to_bare<A: Allocator>(waits: &Waits<'_, A>) -> Option<Hop>
     ensures some { IfSome result (IsFirstToBare waits.now) }
     ensures none { IfNone result ((h : Hop) → IsHop waits.now h

@@ -1,7 +1,8 @@
 //! The cheapest round of one hop from an item: a flush that leads straight back to the item's own lane.
 //!
 //! A further hop costs 3 at least. So if a round is known that costs no more than the item's cheapest hop and 3, only a
-//! round of one hop can be cheaper, and it is found without a search. It takes time in the number of the item's flushes.
+//! round of one hop can be cheaper, and it is found without a search. It takes time in the number of the item's
+//! flushes.
 
 ghost use Rattle.std.specs.Prelude.{◌≡◌, ◌<◌, ◌≤◌, IfSome, IfNone};
 ghost use Rattle.wq_core.specs.Wiring.{HasRescuer, items, lane_of};

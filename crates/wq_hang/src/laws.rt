@@ -27,8 +27,8 @@ pub fn a_stuck_run_of_a_reading_has_a_walk()
 {}
 
 /// The run of a least walk is a shortest run that ends stuck of the reading that keeps its unsure flushes; no reading
-/// that keeps fewer hangs, nor one that keeps as few with fewer steps. It has as many steps as the walk has. Where there
-/// is no walk, no run ends stuck.
+/// that keeps fewer hangs, nor one that keeps as few with fewer steps. It has as many steps as the walk has. Where
+/// there is no walk, no run ends stuck.
 pub fn a_least_walk_has_a_shortest_run()
     ensures fewest { (w : Wiring) (hops : List Hop) (beside : List ℕ) → IsWiring w → ArePlacesApart w →
         IsLeastWalk w hops beside → IsFewest w (needs hops) (run_of_walk w hops beside) }

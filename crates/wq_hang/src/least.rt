@@ -1,8 +1,8 @@
 //! A least round: waits that hold one another up, at the least cost.
 //!
 //! A round is searched for from each of some items in turn, for less than the best one so far costs. If that is no more
-//! than two hops from the item cost, only the item's own flushes are looked at. Each round passes one of these items. It
-//! takes the time of a search for each of them, and memory in the number of items and lanes.
+//! than two hops from the item cost, only the item's own flushes are looked at. Each round passes one of these items.
+//! It takes the time of a search for each of them, and memory in the number of items and lanes.
 
 ghost use Rattle.std.specs.Prelude.{◌≡◌, ◌+◌, ◌<◌, ◌≤◌, List, length, slice_index, IfOk, IfSome, IfNone};
 ghost use Rattle.std.specs.List.{All};

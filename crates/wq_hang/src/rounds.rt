@@ -100,8 +100,8 @@ impl<A: Allocator + Copy> Rounds<A> {
     }
 
     /// A least one of the rounds all of whose waiting items are on these lanes, if there is one: with the fewest unsure
-    /// flushes, and then with the fewest steps. It begins with an unsure flush if it has one. A number that is no lane's
-    /// is passed over.
+    /// flushes, and then with the fewest steps. It begins with an unsure flush if it has one. A number that is no
+    /// lane's is passed over.
     ///
     /// The only error is out of memory (20).
     pub fn least_on(&mut self, alloc: A, lanes: &[u32]) -> Result<Option<Vec<Hop, A>>, AllocError>

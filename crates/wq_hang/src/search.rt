@@ -104,8 +104,8 @@ impl<A: Allocator + Copy> Search<A> {
         Ok(())
     }
 
-    /// An item is to be gone on from, which was reached at the least cost or at 1 more, and by a sure flush or an unsure
-    /// one.
+    /// An item is to be gone on from, which was reached at the least cost or at 1 more, and by a sure flush or an
+    /// unsure one.
     fn push(&mut self, near: bool, unsure: bool, item: ItemId) -> Result<(), AllocError>
         ensures { IfOk result (λ _. self.new ≡ with_todo near unsure item self.old) }
     {

@@ -54,8 +54,8 @@ Hangs declared text end out =
 
 -- ---- what is found, and printed
 
--- what is printed of this answer: `safe`, or the unsure flushes that it needs, if a flush is unsure, and the steps of its
--- run
+-- what is printed of this answer: `safe`, or the unsure flushes that it needs, if a flush is unsure, and the steps of
+-- its run
 abbrev pub PrintsAnswer : {A : Type 0} → Declared → Answer A → End → List ℕ → Type 0
 PrintsAnswer s answer.Safe end out = (end ≡ Good) × (out ≡ safe_text)
 PrintsAnswer s (answer.Hang hops steps) end out =

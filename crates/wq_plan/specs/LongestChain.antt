@@ -26,8 +26,8 @@ pub record IsChainDown (d : Declaration) (a : Assignment) (chain : List WaitArc)
 abbrev pub unsure_arcs : Declaration → List WaitArc → List WaitArc
 unsure_arcs d chain = filter (λ (arc : WaitArc). is_among (unsure_places d.waits) arc.place) chain
 
--- the first chain comes no later where the two part: it begins at the lower-numbered group, or of two arcs of one group it
--- goes on by the one of lower place
+-- the first chain comes no later where the two part: it begins at the lower-numbered group, or of two arcs of one group
+-- it goes on by the one of lower place
 abbrev pub ComesFirst : Declaration → List WaitArc → List WaitArc → Type 0
 ComesFirst d [] other = ⊤
 ComesFirst d (x ∷ chain) [] = ⊤
@@ -39,6 +39,7 @@ ComesFirst d (x ∷ chain) (y ∷ other) =
 -- no other chain down has fewer unsure flushes; and of those that have as few this one comes first
 pub record IsLongestChain (d : Declaration) (a : Assignment) (chain : List WaitArc) : Type 0 where
   pub down : IsChainDown d a chain
-  pub fewest : (other : List WaitArc) → IsChainDown d a other → length (unsure_arcs d chain) ≤ length (unsure_arcs d other)
+  pub fewest : (other : List WaitArc) → IsChainDown d a other
+      → length (unsure_arcs d chain) ≤ length (unsure_arcs d other)
   pub first : (other : List WaitArc) → IsChainDown d a other
       → length (unsure_arcs d other) ≡ length (unsure_arcs d chain) → ComesFirst d chain other

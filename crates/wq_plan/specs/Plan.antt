@@ -36,8 +36,8 @@ doubts unsure graph lane (suc below) v =
     (map (λ (a : WaitArc). doubts unsure graph lane below a.head + (if unsure a.place then 1 else 0))
     (filter (λ (a : WaitArc). slice_index lane a.head == below) (arcs_at graph v)))
 
--- the arc leads from a vertex to the one of these lanes that `below` lanes are below, with as few unsure flushes from the
--- vertex on as can be
+-- the arc leads from a vertex to the one of these lanes that `below` lanes are below, with as few unsure flushes from
+-- the vertex on as can be
 abbrev pub leads_best : (ℕ → Bool) → List (List WaitArc) → List ℕ → ℕ → ℕ → WaitArc → Bool
 leads_best unsure graph lane below v a =
     (slice_index lane a.head == below)
@@ -66,8 +66,8 @@ first_vertex unsure graph lane =
     == least_of (map (doubts unsure graph lane (lanes_of lane - 1)) (last_vertices lane)))
     (last_vertices lane)
 
--- the arcs of a longest chain with as few unsure flushes as can be, from the lowest-numbered vertex on the last lane from
--- which there is one; none if there is no vertex
+-- the arcs of a longest chain with as few unsure flushes as can be, from the lowest-numbered vertex on the last lane
+-- from which there is one; none if there is no vertex
 abbrev pub chain_of : (ℕ → Bool) → List (List WaitArc) → List ℕ → List WaitArc
 chain_of unsure graph lane =
     option_map_or (λ first.

@@ -1,10 +1,10 @@
 //! How many lanes ranks take, and the longest waiting chain that is printed.
 //!
-//! The rule is that of "Plan texts" in docs/FORMAT.md: the chain has as few unsure flushes as a longest one can. Of those
-//! with that few it begins at the lowest-numbered group on the last lane, and leaves each group by its first arc, in
-//! order of place, that leads to the next lane. With how few a chain leads down from each group is found from the lowest
-//! lane up. An arc may be declared by any item of its group. It takes time in the number of groups and arcs, and memory
-//! in the number of groups.
+//! The rule is that of "Plan texts" in docs/FORMAT.md: the chain has as few unsure flushes as a longest one can. Of
+//! those with that few it begins at the lowest-numbered group on the last lane, and leaves each group by its first arc,
+//! in order of place, that leads to the next lane. With how few a chain leads down from each group is found from the
+//! lowest lane up. An arc may be declared by any item of its group. It takes time in the number of groups and arcs, and
+//! memory in the number of groups.
 ghost use Rattle.std.specs.Prelude.{◌≡◌, ◌+◌, ◌-◌, ◌<◌, ◌≤◌, ◌==◌, ◌^◌, ℕ, false, length, slice_index, slice_index_or};
 ghost use Rattle.std.specs.Prelude.{◌&&◌, if◌then◌else◌, filter, map, Some, IfOk, OnErr};
 ghost use Rattle.std.specs.List.{All, find, range_with_len};

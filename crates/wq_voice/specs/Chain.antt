@@ -1,5 +1,6 @@
 -- What is said beside a plan whose chain follows unsure flushes: how many workqueues are enough without them.
-use Rattle.std.specs.Prelude.{◌≡◌, ◌≢◌, ◌==◌, ◌&&◌, ◌⊎◌, if◌then◌else◌, ℕ, Bool, not, List, [], ◌∷◌, ◌++◌, Option, Some, None}
+use Rattle.std.specs.Prelude.{◌≡◌, ◌≢◌, ◌==◌, ◌&&◌, ◌⊎◌, if◌then◌else◌, ℕ, Bool, not, List, [], ◌∷◌, ◌++◌}
+use Rattle.std.specs.Prelude.{Option, Some, None}
 use Rattle.std.specs.Prelude.{filter_map, flat_map, find, option_map, decimal}
 use Rattle.std.specs.List.{list_any}
 use Rattle.wq_items.specs.declared.target.Target.{Target}

@@ -1,5 +1,6 @@
 -- What is said of unsure flushes: whether they matter, and which make no difference.
-use Rattle.std.specs.Prelude.{◌≡◌, ◌==◌, ◌&&◌, if◌then◌else◌, ℕ, Bool, true, false, not, List, [], ◌∷◌, ◌++◌, Option, Some, None}
+use Rattle.std.specs.Prelude.{◌≡◌, ◌==◌, ◌&&◌, if◌then◌else◌, ℕ, Bool, true, false, not, List, [], ◌∷◌, ◌++◌}
+use Rattle.std.specs.Prelude.{Option, Some, None}
 use Rattle.std.specs.Prelude.{length, map, filter, decimal, unwrap_or}
 use Rattle.std.specs.List.{concat, range_with_len}
 use Rattle.wq_items.specs.declared.target.Target.{Target}
@@ -15,7 +16,8 @@ use Rattle.wq_hang.specs.Answer.{IsHangOf}
 use Rattle.wq_hang.specs.Walk.{needs}
 use Rattle.wq_circles.specs.Components.{AreComponents}
 use Rattle.wq_cert.specs.Part.{has_unsure}
-use Rattle.wq_names.specs.Messages.{arent_decided, hangs_for_sure, isnt_decided, make_no_difference, makes_no_difference}
+use Rattle.wq_names.specs.Messages.{arent_decided, hangs_for_sure}
+use Rattle.wq_names.specs.Messages.{isnt_decided, make_no_difference, makes_no_difference}
 use Rattle.wq_names.specs.Messages.{on_these, safe_whatever, safe_whatever_one, to_a_plan, unsure_line, unsure_lines}
 use Rattle.wq_names.specs.Names.{names_of}
 use Rattle.wq_groups.specs.DeclaredGroups.{declared_waits, Declared}
@@ -64,8 +66,8 @@ NotesSafeGroups first s said =
 
 -- ---- flushes that make no difference
 
--- the places of the unsure flushes that `circles` doesn't print: they are in none of these components, and don't lead to
--- no rescuer
+-- the places of the unsure flushes that `circles` doesn't print: they are in none of these components, and don't lead
+-- to no rescuer
 abbrev pub idle_places : List (List Target) → List (List WaitArc) → List WaitArc → List ℕ
 idle_places waits components bare =
     filter (λ p. is_among (unsure_places waits) p
@@ -138,8 +140,8 @@ TellsHang file words s ws hops text =
     × AreSaid file (told can_hang_lead words hops) reason
     × AreHangNotes (has_unsure s.table.waits) file s ws hops notes
 
--- how workqueues with this text hang soonest is said in this file, and which unsure flushes matter; nothing if no run ends
--- stuck
+-- how workqueues with this text hang soonest is said in this file, and which unsure flushes matter; nothing if no run
+-- ends stuck
 abbrev pub GivesHang : List ℕ → List ℕ → Declared → Workqueues → Option (List ℕ) → Type 0
 GivesHang first lanes s ws None = IsSafe (wiring_of (declared_waits s) ws)
 GivesHang first lanes s ws (Some text) =

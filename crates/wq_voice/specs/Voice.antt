@@ -142,8 +142,8 @@ abbrev pub declared_read : Declared → Option (List ℕ) → Declared
 declared_read s None = s
 declared_read s (Some kept) = reading_with_names s kept
 
--- of steps on workqueues with this text, in a reading or with all flushes: why the first that isn't lawful isn't; beside
--- `deadlock` and `stuck` how the workqueues hang soonest
+-- of steps on workqueues with this text, in a reading or with all flushes: why the first that isn't lawful isn't;
+-- beside `deadlock` and `stuck` how the workqueues hang soonest
 abbrev pub SaysEnd : List ℕ → List ℕ → List ℕ → Declared → Workqueues → Option (List ℕ) → List Step → RunEnd
     → Option (List ℕ) → Type 0
 SaysEnd first third lanes s ws kept steps Free said = NotesNoItem first s said

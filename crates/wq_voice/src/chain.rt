@@ -1,7 +1,7 @@
 //! The note beside a plan whose chain follows unsure flushes: how many workqueues are enough without them.
 //!
-//! The words are those of "What isn't sure" in docs/FORMAT.md. A call takes time in the number of items and flushes, the
-//! time and the memory of the words, and where the chain follows an unsure flush that of another plan.
+//! The words are those of "What isn't sure" in docs/FORMAT.md. A call takes time in the number of items and flushes,
+//! the time and the memory of the words, and where the chain follows an unsure flush that of another plan.
 
 ghost use Rattle.std.specs.Prelude.{◌≡◌, ◌++◌, ◌<◌, ℕ, length, filter_map, flat_map, IfOk, OnOk};
 ghost use Rattle.std.specs.List.{All};
@@ -88,8 +88,8 @@ fn needed_words<A: Allocator + Copy>(
     messages::are_needed(alloc, file.as_bytes(), count.as_bytes(), fewer.as_bytes())
 }
 
-/// What is said in this file of a plan of so many workqueues whose chain follows these waits; nothing if none of these is
-/// unsure, or if as many workqueues are needed without unsure flushes.
+/// What is said in this file of a plan of so many workqueues whose chain follows these waits; nothing if none of these
+/// is unsure, or if as many workqueues are needed without unsure flushes.
 pub(crate) fn chain_note<A: Allocator + Copy>(
     alloc: A,
     file: &str,

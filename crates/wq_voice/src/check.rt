@@ -1,6 +1,6 @@
 //! What is said beside the answer of `check`: of a certificate to which it says no the diagnosis of what it lacks; and
-//! behind that of a plan with a flush that doesn't fall how the plan's workqueues can hang. Of a plan whose chain follows
-//! unsure flushes, how many workqueues are enough without them.
+//! behind that of a plan with a flush that doesn't fall how the plan's workqueues can hang. Of a plan whose chain
+//! follows unsure flushes, how many workqueues are enough without them.
 //!
 //! Where flushes don't fall, workqueues may be safe nevertheless, if their numbers alone are wrong. A call takes the
 //! time and the memory of the diagnosis; behind it, of reading the plan's workqueues, and of the search for a shortest
@@ -60,8 +60,8 @@ fn of_lacking<'a, A: Allocator + Copy>(
     }
 }
 
-/// What is said of a certificate with this text, to which the checker said yes: of a plan how many workqueues are enough
-/// without unsure flushes.
+/// What is said of a certificate with this text, to which the checker said yes: of a plan how many workqueues are
+/// enough without unsure flushes.
 fn yes_note<A: Allocator + Copy>(
     alloc: A,
     declared: &Declaration<'_, A>,

@@ -100,8 +100,8 @@ fn first_of<'w, A: Allocator + Copy>(
     sure.or(waits.first())
 }
 
-/// Adds what is said of the first of these flushes, which lead to no rescuer, where there is one: of a sure one, if there
-/// is one.
+/// Adds what is said of the first of these flushes, which lead to no rescuer, where there is one: of a sure one, if
+/// there is one.
 fn put_first<A: Allocator + Copy>(
     alloc: A,
     out: &mut Vec<u8, A>,

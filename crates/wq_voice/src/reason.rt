@@ -126,8 +126,8 @@ pub fn say_hops<'a, A: Allocator + Copy>(
     Ok(said)
 }
 
-/// How these workqueues, whose text is that one, hang soonest, and which of the unsure flushes matter; nothing where they
-/// can't hang.
+/// How these workqueues, whose text is that one, hang soonest, and which of the unsure flushes matter; nothing where
+/// they can't hang.
 pub(crate) fn say_hang<'a, A: Allocator + Copy>(
     alloc: A,
     declaration: Source<'a>,

@@ -15,8 +15,8 @@ use wq_diagnosis::{Source, of_no_item};
 use wq_groups::Declaration;
 use wq_names::workqueue_names;
 
-/// What is said beside `safe` of groups, of which each has a workqueue of its own: that they are safe whatever the unsure
-/// flushes turn out to be, if there are any; or what is said in this file of a declaration without an item.
+/// What is said beside `safe` of groups, of which each has a workqueue of its own: that they are safe whatever the
+/// unsure flushes turn out to be, if there are any; or what is said in this file of a declaration without an item.
 pub(crate) fn say_safe_groups<A: Allocator + Copy>(
     alloc: A,
     declared: &Declaration<'_, A>,
@@ -31,8 +31,8 @@ pub(crate) fn say_safe_groups<A: Allocator + Copy>(
 }
 
 /// What is said beside `safe` of these workqueues, whose text is that one: which items are on workqueues without a
-/// rescuer; where there are none, what is said in this file of a declaration without an item. Above that it is said that
-/// they are safe whatever the unsure flushes turn out to be, if there are any.
+/// rescuer; where there are none, what is said in this file of a declaration without an item. Above that it is said
+/// that they are safe whatever the unsure flushes turn out to be, if there are any.
 ///
 /// The only error is out of memory (20).
 pub fn say_safe<A: Allocator + Copy>(

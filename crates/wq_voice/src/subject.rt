@@ -135,7 +135,8 @@ fn put_wait<A: Allocator + Copy>(
 ) -> Result<(), AllocError>
     requires item { hop.now.item < length subject.now.assigned.now.declared.partition.group_of }
     requires target { hop.now.flush.item < length subject.now.assigned.now.declared.partition.group_of }
-    ensures { OnOk result (AddsSaid subject.now.declaration.file.now ((lead_for lead.now hop.now ++ words_of subject.now.wording
+    ensures { OnOk result (AddsSaid subject.now.declaration.file.now
+        ((lead_for lead.now hop.now ++ words_of subject.now.wording
         subject.now.assigned.now.declared subject.now.assigned.now.workqueues (map (λ n. n.now) subject.now.names.now)
         hop.now)
         ∷ []) out.old.items out.new.items) }

@@ -1,7 +1,8 @@
 //! The notes on unsure flushes: whether they matter, and which don't.
 //!
-//! The words are those of "What isn't sure" in docs/FORMAT.md. A call takes time in the number of items and flushes, the
-//! time and the memory of the words, and where flushes may make no difference that of finding all that lie on circles.
+//! The words are those of "What isn't sure" in docs/FORMAT.md. A call takes time in the number of items and flushes,
+//! the time and the memory of the words, and where flushes may make no difference that of finding all that lie on
+//! circles.
 
 ghost use Rattle.std.specs.Prelude.{◌≡◌, ◌∷◌, [], ◌&&◌, ℕ, false, not, length, map, decimal};
 ghost use Rattle.std.specs.Prelude.{slice_index_or, IfOk, option_map};
