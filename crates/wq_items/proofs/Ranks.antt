@@ -184,12 +184,12 @@ IsPermutation-numbered (suc n) xs long differ below = elim (found_or_not xs n) [
       let shorter : length rest ≡ n = omega (arith, length-remove xs i within, long) in
       let moved : IsPermutation xs (n ∷ rest) = IsPermutation-remove xs i n within (sym found.2) in
       let apart : All (λ x. x ≢ n) rest = λ k d in-rest e.
-          Differ-IsPermutation xs (n ∷ rest) moved differ 0 (suc k) d (omega arith) (omega arith) (sym e) in
+      Differ-IsPermutation xs (n ∷ rest) moved differ 0 (suc k) d (omega arith) (omega arith) (sym e) in
       let low : All (λ x. x < suc n) (n ∷ rest) = All-permutation (λ x. x < suc n) xs (n ∷ rest) moved below in
       let lower : All (λ x. x < n) rest = λ k d in-rest.
-          let under : get_or rest k d < suc n = low (suc k) d (omega arith) in
-          let not : get_or rest k d ≢ n = apart k d in-rest in
-          below-other (get_or rest k d) n under not in
+      let under : get_or rest k d < suc n = low (suc k) d (omega arith) in
+      let not : get_or rest k d ≢ n = apart k d in-rest in
+      below-other (get_or rest k d) n under not in
       let inner : IsPermutation (range_with_len 0 n) rest = IsPermutation-numbered n rest shorter (all_pairs_remove (λ (a b : ℕ). a ≢ b) xs i within differ) lower in
       let pushed : range_with_len 0 (suc n) ≡ range_with_len 0 n ++ (n ∷ []) = ap (range_with_len 0) (omega arith) ∙ range_with_len-push n in
       subst (λ (l : List ℕ). IsPermutation l xs) (sym pushed) (
