@@ -355,7 +355,7 @@ module _ (w : Wiring) (ws : List (List Target)) (same : map (map flush_of) ws �
   Declared-same s (step ∷ steps) h = (Order-same s step h.0, Declared-same (effect w s step) steps (subst (λ (t : State). AsDeclaredFrom (other w ws) t steps) (effect-waits w ws s step) h.1))
 
 pub AsDeclared-same : (v w : Wiring) (steps : List Step) → SameButPlaces v w → AsDeclaredFrom v (empty_state v) steps → AsDeclaredFrom w (empty_state w) steps
-AsDeclared-same v w steps h as = Declared-same w v.waits h.flushes (empty_state w) steps (subst (λ (u : Wiring). AsDeclaredFrom u (empty_state u) steps) h.rest as)
+AsDeclared-same v w steps h declared = Declared-same w v.waits h.flushes (empty_state w) steps (subst (λ (u : Wiring). AsDeclaredFrom u (empty_state u) steps) h.rest declared)
 
 -- ---- a reading as a declaration of its own
 
