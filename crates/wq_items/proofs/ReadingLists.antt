@@ -1,17 +1,18 @@
 -- The lists by which a reading of a table is made: marks of places, and new places.
-use Rattle.std.proofs.Common.{◌≡◌, ℕ, zero, suc, ◌+◌, ◌<◌, ◌≤◌, inl, inr, Bool, true, false, cond, List, [], ◌∷◌, ◌++◌, length, map, get_or, set, replicate, refl, sym, ap, ap₂, subst, ◌∙◌, arith}
-use Rattle.std.specs.Prelude.{◌==◌, ◌||◌, not, filter, slice_index, slice_index_or, IsPermutation}
-use Rattle.std.specs.List.{All, list_any, range_with_len}
+use Rattle.std.proofs.Common.{◌≡◌, ℕ, ◌+◌, ◌<◌, ◌≤◌, inl, inr, Bool, true, false, cond, List, [], ◌∷◌, ◌++◌, length, map, get_or, set, replicate, refl, sym, ap, ap₂, subst, ◌∙◌, arith}
+use Rattle.std.specs.Prelude.{◌==◌, ◌||◌, not, filter, IsPermutation}
+use Rattle.std.specs.List.{All, range_with_len}
 use Rattle.std.proofs.lemmas.Bool.{cases_eq, eq-eqb, ne_eqb, or_right}
 use Rattle.std.proofs.lemmas.List.{length-map, length-set, length-replicate, get_or-set_same, get_or-set_other, get_or-replicate, get_or-map}
 use Rattle.std.proofs.lemmas.List.Elements.{All-tail, All-filter}
-use Rattle.std.proofs.lemmas.List.FromFn.{fill_by_all, get_or-map-range_with_len}
+use Rattle.std.proofs.lemmas.List.FromFn.{fill_by_all, length-map-range_with_len, get_or-map-range_with_len}
 use Rattle.std.proofs.lemmas.List.Sorted.{All-permutation}
 use Rattle.wq_items.specs.declared.target.Target.{Target}
 use Rattle.wq_items.specs.Table.{targets_of, flush_count, places}
 use Rattle.wq_items.specs.Readings.{is_among, is_kept, kept_of, places_before, renumbered, compact, is_marked, moved}
 use Rattle.wq_items.proofs.Lists.{range_with_len-below}
 use Rattle.wq_items.proofs.PlaceLemmas.{places-below}
+use Rattle.wq_items.proofs.Ranks.{Differ, before-next}
 use Rattle.wq_items.proofs.ReadingLemmas.{place_of, all_of, places-all, places-kept, targets_of-kept}
 
 -- ---- marks
@@ -65,6 +66,27 @@ AreMarked-past count those marks p past h = record {
 
 pub AreMarked-all : (count : ℕ) (those : List ℕ) (marks : List Bool) → AreMarked count those marks → marks ≡ map (is_among those) (range_with_len 0 count)
 AreMarked-all count those marks h = fill_by_all (is_among those) marks count false h.len h.each
+
+-- what the marks say of one place
+pub marked-at : (kept : List ℕ) (count n : ℕ) (marks : List Bool) → marks ≡ map (is_among kept) (range_with_len 0 count) → n < length marks → is_among kept n ≡ get_or marks n false
+marked-at kept count n marks are within =
+    let fits : n < count = omega (arith, within, ap length are, length-map-range_with_len (is_among kept) 0 count) in
+    sym (ap (λ (l : List Bool). get_or l n false) are ∙ get_or-map-range_with_len (is_among kept) 0 count n n false fits (omega arith))
+
+-- how many of these are before the next place
+pub before-more : (kept : List ℕ) (n before : ℕ) (mark : Bool) → Differ kept → is_among kept n ≡ mark → before ≡ places_before kept n → cond mark (before + 1) before ≡ places_before kept (n + 1)
+before-more kept n before mark differ is so_far = by mark is
+  where
+    next : places_before kept (n + 1) ≡ places_before kept n + cond (is_among kept n) 1 0
+    next = before-next kept n differ
+
+    by : (b : Bool) → is_among kept n ≡ b → cond b (before + 1) before ≡ places_before kept (n + 1)
+    by true is =
+        let one : ◌≡◌ {A = ℕ} (cond (is_among kept n) 1 0) 1 = ap (λ (b : Bool). cond b 1 0) is in
+        omega (arith, one, next, so_far)
+    by false is =
+        let none : ◌≡◌ {A = ℕ} (cond (is_among kept n) 1 0) 0 = ap (λ (b : Bool). cond b 1 0) is in
+        omega (arith, none, next, so_far)
 
 -- ---- what is marked is kept, and what is moved has its new place
 
@@ -125,3 +147,7 @@ targets-moved kept waits marks news i lt numbered are news_are =
     ap (map (moved news)) left
     ∙ map-moved n kept others news news_are (kept_of kept (targets_of waits i)) (All-filter (is_kept kept) (λ (t : Target). t.place < n) (targets_of waits i) below)
     ∙ sym (get_or-map (map (renumbered others)) (map (kept_of kept) waits) i [] [] (omega (arith, lt, length-map waits (kept_of kept))) ∙ ap (map (renumbered others)) (targets_of-kept kept waits i))
+
+-- lists are those of their numbers, in turn
+pub lists-each : (waits : List (List Target)) → waits ≡ map (targets_of waits) (range_with_len 0 (length waits))
+lists-each waits = fill_by_all (targets_of waits) waits (length waits) [] refl (λ k within. refl)
