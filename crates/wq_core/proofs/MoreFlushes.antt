@@ -1,24 +1,23 @@
 -- Wirings of which one declares more flushes than the other, and readings.
-use Rattle.std.proofs.Common.{◌≡◌, ◌↔◌, inl, inr, ℕ, zero, suc, ◌+◌, ◌<◌, ◌≤◌, Bool, true, false, cond, List, [], ◌∷◌, ◌++◌, length, map, get_or, Option, Some, None, refl, sym, ap, ap₂, subst, ◌∙◌, arith}
-use Rattle.std.specs.Prelude.{◌==◌, ◌||◌, not, filter, slice_get, option_map, Contains, IsTrue}
-use Rattle.std.specs.List.{Any, list_any}
+use Rattle.std.proofs.Common.{◌≡◌, ◌↔◌, ℕ, zero, suc, ◌≤◌, Bool, true, false, cond, List, [], ◌∷◌, ◌++◌, length, map, Some, refl, sym, ap, ap₂, subst, ◌∙◌, arith}
+use Rattle.std.specs.Prelude.{◌==◌, ◌||◌, not, filter, slice_get, Contains}
+use Rattle.std.specs.List.{Any}
 use Rattle.std.proofs.lemmas.Bool.{eq-eqb}
 use Rattle.std.proofs.lemmas.List.{length-map}
-use Rattle.wq_text.proofs.LimitLaws.{Any-later}
 use Rattle.wq_items.specs.declared.target.Target.{Target}
 use Rattle.wq_items.specs.Table.{ItemWaitsBy, targets_of, places}
-use Rattle.wq_items.specs.Readings.{is_among, is_kept, kept_of, unsure_places, renumbered, compacted, compact}
+use Rattle.wq_items.specs.Readings.{is_among, is_kept, kept_of, unsure_places, renumbered}
 use Rattle.wq_groups.specs.Declaration.{Declaration, reading_declared}
 use Rattle.wq_core.specs.declared.entry.Running.{Running}
 use Rattle.wq_core.specs.declared.step.Step.{Step}
 use Rattle.wq_core.specs.declared.step.Step.TheVariants.{Queue, Cancel, Start, Wait, Over, WaitAll, OverAll, Finish, Help}
 use Rattle.wq_core.specs.declared.step.HelpStep.{HelpStep}
 use Rattle.wq_core.specs.declared.step.HelpStep.TheVariants.{Start as DoStart, Wait as DoWait, WaitAll as DoWaitAll, Over as DoOver, OverAll as DoOverAll, Finish as DoFinish}
-use Rattle.wq_core.specs.Wiring.{Wiring, items, declared_by, with_helpers, max_helpers}
+use Rattle.wq_core.specs.Wiring.{Wiring, with_helpers}
 use Rattle.wq_core.specs.Workqueues.{Workqueues, wiring_of}
-use Rattle.wq_core.specs.State.{State, empty_state, lane_at, RunsIn}
+use Rattle.wq_core.specs.State.{State, empty_state}
 use Rattle.wq_core.specs.Rules.{MayWait, MayBeOver, MayDo, Lawful, effect}
-use Rattle.wq_core.specs.Runs.{after, IsRunFrom, IsRun, end_of, IsForcedStep, IsNextWait, KeepsOrderIn, KeepsOrder, AsDeclaredFrom}
+use Rattle.wq_core.specs.Runs.{after, IsRunFrom, IsRun, end_of, IsForcedStep, KeepsOrderIn, KeepsOrder, AsDeclaredFrom}
 use Rattle.wq_core.specs.Deadlock.{IsStuck, IsSafe}
 use Rattle.wq_core.specs.Readings.{reading, IsSafeAnyway, HangsForSure, DeclaresMore, flush_of, SameButPlaces}
 
@@ -139,6 +138,9 @@ IsSafe-fewer v w h safe n few steps run stuck =
 
 -- ---- readings
 
+any_later : {X : Type 0} (P : X → Type 0) (x : X) (xs : List X) → Any P xs → Any P (x ∷ xs)
+any_later P x xs (k, y, within, is, h) = (suc k, y, omega arith, is, h)
+
 -- some element that passes a test is one that passes another
 module _ {X : Type 0} (P : X → Type 0) (p q : X → Bool) (wider : (x : X) → p x ≡ true → q x ≡ true) where
   first-of : (x : X) (xs : List X) → P x → Any P (x ∷ xs)
@@ -150,13 +152,13 @@ module _ {X : Type 0} (P : X → Type 0) (p q : X → Bool) (wider : (x : X) →
 
   Any-wider : (xs : List X) → Any P (filter p xs) → Any P (filter q xs)
   Any-wider [] h = h
-  Any-wider (x ∷ xs) h = by (p x) refl (q x) refl h
+  Any-wider (x ∷ xs) h = by (p x) refl (q x) refl (λ (g : Any P (filter p xs)). Any-wider xs g) h
     where
-      by : (a : Bool) → p x ≡ a → (b : Bool) → q x ≡ b → Any P (cond a (x ∷ filter p xs) (filter p xs)) → Any P (cond b (x ∷ filter q xs) (filter q xs))
-      by true is true are h = Any-of-cons x (filter p xs) (Any P (x ∷ filter q xs)) (first-of x (filter q xs)) (λ (g : Any P (filter p xs)). Any-later P x (filter q xs) (Any-wider xs g)) h
-      by true is false are h = absurd (let yes = wider x is in cc)
-      by false is true are h = Any-later P x (filter q xs) (Any-wider xs h)
-      by false is false are h = Any-wider xs h
+      by : (a : Bool) → p x ≡ a → (b : Bool) → q x ≡ b → (Any P (filter p xs) → Any P (filter q xs)) → Any P (cond a (x ∷ filter p xs) (filter p xs)) → Any P (cond b (x ∷ filter q xs) (filter q xs))
+      by true is true are rest h = Any-of-cons x (filter p xs) (Any P (x ∷ filter q xs)) (first-of x (filter q xs)) (λ (g : Any P (filter p xs)). any_later P x (filter q xs) (rest g)) h
+      by true is false are rest h = absurd (let yes = wider x is in cc)
+      by false is true are rest h = any_later P x (filter q xs) (rest h)
+      by false is false are rest h = rest h
 
 length-wider : {X : Type 0} (p q : X → Bool) → ((x : X) → p x ≡ true → q x ≡ true) → (xs : List X) → length (filter p xs) ≤ length (filter q xs)
 length-wider p q wider [] = omega arith
@@ -218,36 +220,36 @@ among-Contains ps p = ap (λ (b : Bool). b || is_among ps p) (eq-eqb p p refl)
 -- of one item: if each unsure flush is kept, all are
 one_kept : (kept : List ℕ) (ts : List Target) → ((p : ℕ) → is_among (map (λ (t : Target). t.place) (filter (λ (t : Target). t.unsure) ts)) p ≡ true → is_among kept p ≡ true) → kept_of kept ts ≡ ts
 one_kept kept [] all = refl
-one_kept kept (t ∷ ts) all = by t.unsure refl
+one_kept kept (t ∷ ts) all = by t.unsure refl (λ rest. one_kept kept ts rest)
   where
-    by : (u : Bool) → t.unsure ≡ u → cond (not u || is_among kept t.place) (t ∷ kept_of kept ts) (kept_of kept ts) ≡ t ∷ ts
-    by false sure =
-        let rest : (p : ℕ) → is_among (map (λ (x : Target). x.place) (filter (λ (x : Target). x.unsure) ts)) p ≡ true → is_among kept p ≡ true =
-        λ p h. all p (ap (λ (b : Bool). is_among (map (λ (x : Target). x.place) (cond b (t ∷ filter (λ (x : Target). x.unsure) ts) (filter (λ (x : Target). x.unsure) ts))) p) sure ∙ h) in
-        ap (λ (l : List Target). t ∷ l) (one_kept kept ts rest)
-    by true unsure =
-        let these : List ℕ = map (λ (x : Target). x.place) (filter (λ (x : Target). x.unsure) ts) in
-        let all_these : (p : ℕ) → is_among (t.place ∷ these) p ≡ true → is_among kept p ≡ true =
+    by : (u : Bool) → t.unsure ≡ u → (((p : ℕ) → is_among (map (λ (x : Target). x.place) (filter (λ (x : Target). x.unsure) ts)) p ≡ true → is_among kept p ≡ true) → kept_of kept ts ≡ ts)
+        → cond (not u || is_among kept t.place) (t ∷ kept_of kept ts) (kept_of kept ts) ≡ t ∷ ts
+    by false sure others =
+        ap (λ (l : List Target). t ∷ l)
+        (others (λ p h. all p (ap (λ (b : Bool). is_among (map (λ (x : Target). x.place) (cond b (t ∷ filter (λ (x : Target). x.unsure) ts) (filter (λ (x : Target). x.unsure) ts))) p) sure ∙ h)))
+    by true unsure others =
+        let tail : List ℕ = map (λ (x : Target). x.place) (filter (λ (x : Target). x.unsure) ts) in
+        let all_these : (p : ℕ) → is_among (t.place ∷ tail) p ≡ true → is_among kept p ≡ true =
         λ p h. all p (ap (λ (b : Bool). is_among (map (λ (x : Target). x.place) (cond b (t ∷ filter (λ (x : Target). x.unsure) ts) (filter (λ (x : Target). x.unsure) ts))) p) unsure ∙ h) in
-        let here : is_among kept t.place ≡ true = all_these t.place (among-Contains these t.place) in
+        let here : is_among kept t.place ≡ true = all_these t.place (among-Contains tail t.place) in
         ap (λ (b : Bool). cond b (t ∷ kept_of kept ts) (kept_of kept ts)) here
-        ∙ ap (λ (l : List Target). t ∷ l) (one_kept kept ts (λ p h. all_these p (among-later p t.place these h)))
+        ∙ ap (λ (l : List Target). t ∷ l) (others (λ p h. all_these p (among-later p t.place tail h)))
 
 among-left : (p : ℕ) (xs ys : List ℕ) → is_among xs p ≡ true → is_among (xs ++ ys) p ≡ true
 among-left p [] ys h = absurd cc
-among-left p (x ∷ xs) ys h = by (x == p) h
+among-left p (x ∷ xs) ys h = by (x == p) (λ g. among-left p xs ys g) h
   where
-    by : (b : Bool) → (b || is_among xs p) ≡ true → (b || is_among (xs ++ ys) p) ≡ true
-    by true h = refl
-    by false h = among-left p xs ys h
+    by : (b : Bool) → (is_among xs p ≡ true → is_among (xs ++ ys) p ≡ true) → (b || is_among xs p) ≡ true → (b || is_among (xs ++ ys) p) ≡ true
+    by true rest h = refl
+    by false rest h = rest h
 
 among-right : (p : ℕ) (xs ys : List ℕ) → is_among ys p ≡ true → is_among (xs ++ ys) p ≡ true
 among-right p [] ys h = h
-among-right p (x ∷ xs) ys h = by (x == p)
+among-right p (x ∷ xs) ys h = by (x == p) (among-right p xs ys h)
   where
-    by : (b : Bool) → (b || is_among (xs ++ ys) p) ≡ true
-    by true = refl
-    by false = among-right p xs ys h
+    by : (b : Bool) → is_among (xs ++ ys) p ≡ true → (b || is_among (xs ++ ys) p) ≡ true
+    by true rest = refl
+    by false rest = rest
 
 each_kept : (kept : List ℕ) (waits : List (List Target)) → ((p : ℕ) → is_among (unsure_places waits) p ≡ true → is_among kept p ≡ true) → map (kept_of kept) waits ≡ waits
 each_kept kept [] all = refl
@@ -294,7 +296,7 @@ Any-flush_of whole j ts = (there ts, back ts)
     back : (ts : List Target) → Contains (map flush_of ts) (j, whole) → Any (λ (t : Target). (t.item ≡ j) × (t.whole ≡ whole)) ts
     back [] h = absurd (omega (arith, h.1))
     back (t ∷ ts) (zero, within, is) = (0, t, omega arith, refl, (ap (λ (p : ℕ × Bool). p.0) is, ap (λ (p : ℕ × Bool). p.1) is))
-    back (t ∷ ts) (suc k, within, is) = Any-later (λ (t : Target). (t.item ≡ j) × (t.whole ≡ whole)) t ts (back ts (k, omega arith, is))
+    back (t ∷ ts) (suc k, within, is) = any_later (λ (t : Target). (t.item ≡ j) × (t.whole ≡ whole)) t ts (back ts (k, omega arith, is))
 
 flushes-of-item : (vs ws : List (List Target)) (i : ℕ) → map (map flush_of) vs ≡ map (map flush_of) ws → map flush_of (targets_of vs i) ≡ map flush_of (targets_of ws i)
 flushes-of-item [] [] i same = refl
@@ -328,7 +330,9 @@ next-same (v ∷ vs) (w ∷ ws) zero b whole same (t, is, item, kind) =
     let like : flush_of v ≡ flush_of w = cc in
     (w, refl, sym (ap (λ (p : ℕ × Bool). p.0) like) ∙ ap (λ (x : Target). x.item) one ∙ item, sym (ap (λ (p : ℕ × Bool). p.1) like) ∙ ap (λ (x : Target). x.whole) one ∙ kind)
 next-same (v ∷ vs) (w ∷ ws) (suc k) b whole same (t, is, item, kind) =
-    let r = next-same vs ws k b whole cc (t, is, item, kind) in (r.0, r.1, r.2, r.3)
+    let others : map flush_of vs ≡ map flush_of ws = cc in
+    let r = next-same vs ws k b whole others (t, is, item, kind) in
+    (r.0, r.1, r.2, r.3)
 
 module _ (w : Wiring) (ws : List (List Target)) (same : map (map flush_of) ws ≡ map (map flush_of) w.waits) where
   Keeps-same : (s : State) (q c : ℕ) (deed : HelpStep) → KeepsOrderIn (other w ws) s q c deed → KeepsOrderIn w s q c deed
@@ -355,7 +359,7 @@ module _ (w : Wiring) (ws : List (List Target)) (same : map (map flush_of) ws �
   Declared-same s (step ∷ steps) h = (Order-same s step h.0, Declared-same (effect w s step) steps (subst (λ (t : State). AsDeclaredFrom (other w ws) t steps) (effect-waits w ws s step) h.1))
 
 pub AsDeclared-same : (v w : Wiring) (steps : List Step) → SameButPlaces v w → AsDeclaredFrom v (empty_state v) steps → AsDeclaredFrom w (empty_state w) steps
-AsDeclared-same v w steps h as = Declared-same w v.waits h.flushes (empty_state w) steps (subst (λ (u : Wiring). AsDeclaredFrom u (empty_state u) steps) h.rest as)
+AsDeclared-same v w steps h declared = Declared-same w v.waits h.flushes (empty_state w) steps (subst (λ (u : Wiring). AsDeclaredFrom u (empty_state u) steps) h.rest declared)
 
 -- ---- a reading as a declaration of its own
 

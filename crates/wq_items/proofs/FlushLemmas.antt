@@ -86,7 +86,7 @@ IsEven-table_after t ds u h e = table_after-keeps IsEven (λ (d : ℕ × Directi
 -- ---- counts
 
 -- the flushes that the words of a line declare
-abbrev pub said : Bool → WordView → List WordView → List (List ℕ × (Kind × List ℕ))
+abbrev pub said : Kind → WordView → List WordView → List (List ℕ × (Kind × List ℕ))
 said kind name targets = map (λ (w : WordView). (name.bytes, (kind, w.bytes))) targets
 
 count_flushes : (t : Table) (n : ℕ) (kind : Kind) (name : WordView) (targets : List WordView) (u : Table) → IsEven t → flushes_declared t n kind (items_named t.names (name ∷ targets)) ≡ Ok u

@@ -19,3 +19,4 @@ pub mod ReadLemmas
 pub mod AtOnceLemmas
 pub mod Ranks
 pub mod ReadingLemmas
+pub mod ReadingLists

@@ -1,7 +1,7 @@
 -- How many of some numbers are before one of them, if they differ: 0, 1, 2 and so on, in another order.
-use Rattle.std.proofs.Common.{◌≡◌, ◌≢◌, ◌⊎◌, inl, inr, ℕ, zero, suc, ◌+◌, ◌<◌, ◌≤◌, Bool, true, false, cond, eqb, List, [], ◌∷◌, ◌++◌, length, map, get_or, set, refl, sym, ap, subst, ◌∙◌, arith}
-use Rattle.std.specs.Prelude.{◌==◌, ◌||◌, nat_lt, AllPairs, Contains, IsPermutation, slice_index}
-use Rattle.std.specs.List.{All, list_any, count_by, range_with_len, remove, IsDistinct}
+use Rattle.std.proofs.Common.{◌≡◌, ◌≢◌, ◌⊎◌, inl, inr, ℕ, zero, suc, ◌+◌, ◌<◌, ◌≤◌, Bool, false, cond, eqb, List, [], ◌∷◌, ◌++◌, length, map, get_or, refl, sym, ap, subst, ◌∙◌, arith}
+use Rattle.std.specs.Prelude.{◌||◌, nat_lt, AllPairs, Contains, IsPermutation}
+use Rattle.std.specs.List.{All, range_with_len, remove, IsDistinct}
 use Rattle.std.proofs.lemmas.Bool.{cases_eq, cases_lt, cases_order, eq-eqb, ne_eqb, eqb-false, lt-ltb, le-ltb}
 use Rattle.std.proofs.lemmas.List.{length-map, get_or-map}
 use Rattle.std.proofs.lemmas.List.Elements.{All-cons, All-map, Contains-get_or}
@@ -24,7 +24,7 @@ Differ xs = AllPairs (λ (a b : ℕ). a ≢ b) xs
 before-cons : (x : ℕ) (xs : List ℕ) (n : ℕ) → places_before (x ∷ xs) n ≡ cond (nat_lt x n) 1 0 + places_before xs n
 before-cons x xs n = sum_by-cons (λ (p : ℕ). cond (nat_lt p n) 1 0) x xs
 
-before-one : (x n : ℕ) → ((x < n) × (cond (nat_lt x n) 1 0 ≡ 1)) ⊎ ((n ≤ x) × (cond (nat_lt x n) 1 0 ≡ 0))
+before-one : (x n : ℕ) → ((x < n) × (◌≡◌ {A = ℕ} (cond (nat_lt x n) 1 0) 1)) ⊎ ((n ≤ x) × (◌≡◌ {A = ℕ} (cond (nat_lt x n) 1 0) 0))
 before-one x n = elim (cases_lt x n) [
   | inl lt ↦ inl (lt, ap (λ (b : Bool). cond b 1 0) (lt-ltb x n lt))
   | inr le ↦ inr (le, ap (λ (b : Bool). cond b 1 0) (le-ltb x n le))
@@ -116,8 +116,8 @@ before-next (x ∷ xs) n differ =
     elim (cases_eq x n) [
       | inl same ↦
           let none : is_among xs n ≡ false = not_among xs n (subst (λ (m : ℕ). All (λ y. y ≢ m) xs) same (λ k d within e. AllPairs-head (λ (a b : ℕ). a ≢ b) x xs differ k d within (sym e))) in
-          let here : cond (is_among (x ∷ xs) n) 1 0 ≡ 1 = ap (λ (b : Bool). cond (b || is_among xs n) 1 0) (eq-eqb x n same) in
-          let no : cond (is_among xs n) 1 0 ≡ 0 = ap (λ (b : Bool). cond b 1 0) none in
+          let here : ◌≡◌ {A = ℕ} (cond (is_among (x ∷ xs) n) 1 0) 1 = ap (λ (b : Bool). cond (b || is_among xs n) 1 0) (eq-eqb x n same) in
+          let no : ◌≡◌ {A = ℕ} (cond (is_among xs n) 1 0) 0 = ap (λ (b : Bool). cond b 1 0) none in
           elim (before-one x n) [
             | inl low ↦ absurd (omega (arith, low.0, same))
             | inr high ↦ elim (before-one x (n + 1)) [
@@ -126,7 +126,7 @@ before-next (x ∷ xs) n differ =
             ]
           ]
       | inr other ↦
-          let here : cond (is_among (x ∷ xs) n) 1 0 ≡ cond (is_among xs n) 1 0 = ap (λ (b : Bool). cond (b || is_among xs n) 1 0) (ne_eqb x n other) in
+          let here : ◌≡◌ {A = ℕ} (cond (is_among (x ∷ xs) n) 1 0) (cond (is_among xs n) 1 0) = ap (λ (b : Bool). cond (b || is_among xs n) 1 0) (ne_eqb x n other) in
           elim (before-one x n) [
             | inl low ↦ elim (before-one x (n + 1)) [
               | inl lower ↦ omega (arith, before-cons x xs n, before-cons x xs (n + 1), low.1, lower.1, rest, here)
@@ -184,14 +184,15 @@ IsPermutation-numbered (suc n) xs long differ below = elim (found_or_not xs n) [
       let shorter : length rest ≡ n = omega (arith, length-remove xs i within, long) in
       let moved : IsPermutation xs (n ∷ rest) = IsPermutation-remove xs i n within (sym found.2) in
       let apart : All (λ x. x ≢ n) rest = λ k d in-rest e.
-          Differ-IsPermutation xs (n ∷ rest) moved differ 0 (suc k) d (omega arith) (omega arith) (sym e) in
+      Differ-IsPermutation xs (n ∷ rest) moved differ 0 (suc k) d (omega arith) (omega arith) (sym e) in
       let low : All (λ x. x < suc n) (n ∷ rest) = All-permutation (λ x. x < suc n) xs (n ∷ rest) moved below in
       let lower : All (λ x. x < n) rest = λ k d in-rest.
-          let under : get_or rest k d < suc n = low (suc k) d (omega arith) in
-          let not : get_or rest k d ≢ n = apart k d in-rest in
-          below-other (get_or rest k d) n under not in
+      let under : get_or rest k d < suc n = low (suc k) d (omega arith) in
+      let not : get_or rest k d ≢ n = apart k d in-rest in
+      below-other (get_or rest k d) n under not in
       let inner : IsPermutation (range_with_len 0 n) rest = IsPermutation-numbered n rest shorter (all_pairs_remove (λ (a b : ℕ). a ≢ b) xs i within differ) lower in
-      let pushed : range_with_len 0 (suc n) ≡ range_with_len 0 n ++ (n ∷ []) = ap (range_with_len 0) (omega arith) ∙ range_with_len-push n in
+      let one_more : suc n ≡ n + 1 = omega arith in
+      let pushed : range_with_len 0 (suc n) ≡ range_with_len 0 n ++ (n ∷ []) = ap (range_with_len 0) one_more ∙ range_with_len-push n in
       subst (λ (l : List ℕ). IsPermutation l xs) (sym pushed) (
       IsPermutation-trans (range_with_len 0 n ++ (n ∷ [])) (n ∷ range_with_len 0 n) xs (IsPermutation-to_front (range_with_len 0 n) n) (
       IsPermutation-trans (n ∷ range_with_len 0 n) (n ∷ rest) xs (IsPermutation-cons n (range_with_len 0 n) rest inner) (IsPermutation-sym xs (n ∷ rest) moved)

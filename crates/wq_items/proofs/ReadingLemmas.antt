@@ -2,7 +2,6 @@
 use Rattle.std.proofs.Common.{◌≡◌, ◌≢◌, ℕ, zero, suc, ◌+◌, ◌<◌, ◌≤◌, Bool, true, false, cond, List, [], ◌∷◌, ◌++◌, length, map, get_or, refl, sym, ap, ap₂, subst, ◌∙◌, arith}
 use Rattle.std.specs.Prelude.{filter, flat_map, AllPairs, Contains, IsPermutation}
 use Rattle.std.specs.List.{All, range_with_len}
-use Rattle.std.specs.List.Sorted.{IsStrictlyIncreasing}
 use Rattle.std.proofs.lemmas.List.{length-map, length-append, map-append, get_or-map}
 use Rattle.std.proofs.lemmas.List.Elements.{All-map, All-filter, All-weaker, filter-append, Contains-append_left, Contains-append_right}
 use Rattle.std.proofs.lemmas.List.Kept.{AllPairs-filter, AllPairs-from_increasing}
@@ -20,7 +19,7 @@ place_of = λ (t : Target). t.place
 abbrev pub all_of : List (List Target) → List Target
 all_of waits = flat_map (λ (targets : List Target). targets) waits
 
-places-all : (waits : List (List Target)) → places waits ≡ map place_of (all_of waits)
+pub places-all : (waits : List (List Target)) → places waits ≡ map place_of (all_of waits)
 places-all [] = refl
 places-all (ts ∷ waits) = ap (λ (l : List ℕ). map place_of ts ++ l) (places-all waits) ∙ sym (map-append place_of ts (all_of waits))
 
@@ -71,11 +70,11 @@ Differ-kept kept waits numbered =
     let left : List Target = filter (is_kept kept) all in
     let differ : Differ (map place_of all) = subst Differ (places-all waits) (Differ-numbered (flush_count waits) (places waits) numbered) in
     let apart : AllPairs (λ (a b : Target). a.place ≢ b.place) all = λ i j d lt within e.
-        differ i j 0 lt (omega (arith, within, length-map all place_of)) (get_or-map place_of all i d 0 (omega arith) ∙ e ∙ sym (get_or-map place_of all j d 0 within)) in
+    differ i j 0 lt (omega (arith, within, length-map all place_of)) (get_or-map place_of all i d 0 (omega arith) ∙ e ∙ sym (get_or-map place_of all j d 0 within)) in
     let some : AllPairs (λ (a b : Target). a.place ≢ b.place) left = AllPairs-filter (λ (a b : Target). a.place ≢ b.place) (is_kept kept) all apart in
     subst Differ (sym (places-kept kept waits)) (λ i j d lt within e.
-        let in-left : j < length left = omega (arith, within, length-map left place_of) in
-        some i j nothing lt in-left (sym (get_or-map place_of left i nothing d (omega arith)) ∙ e ∙ get_or-map place_of left j nothing d in-left))
+    let in-left : j < length left = omega (arith, within, length-map left place_of) in
+    some i j nothing lt in-left (sym (get_or-map place_of left i nothing d (omega arith)) ∙ e ∙ get_or-map place_of left j nothing d in-left))
 
 -- ---- new places
 
@@ -107,8 +106,8 @@ PlacesRise-filter p ts rise k within =
     let long : length (map place_of (filter p ts)) ≡ length (filter p ts) = length-map (filter p ts) place_of in
     let pairs : AllPairs (λ (a b : ℕ). a < b) (map place_of ts) = AllPairs-from_increasing (map place_of ts) rise in
     let lower : AllPairs (λ (a b : Target). a.place < b.place) ts = λ i j d lt in-ts.
-        let less : get_or (map place_of ts) i 0 < get_or (map place_of ts) j 0 = pairs i j 0 lt (omega (arith, in-ts, length-map ts place_of)) in
-        omega (arith, less, get_or-map place_of ts i d 0 (omega arith), get_or-map place_of ts j d 0 in-ts) in
+    let less : get_or (map place_of ts) i 0 < get_or (map place_of ts) j 0 = pairs i j 0 lt (omega (arith, in-ts, length-map ts place_of)) in
+    omega (arith, less, get_or-map place_of ts i d 0 (omega arith), get_or-map place_of ts j d 0 in-ts) in
     let some : AllPairs (λ (a b : Target). a.place < b.place) (filter p ts) = AllPairs-filter (λ (a b : Target). a.place < b.place) p ts lower in
     let in-next : k + 1 < length (filter p ts) = omega arith in
     omega (
@@ -140,7 +139,7 @@ PlacesRise-renumbered others ts there rise k within =
 
 -- ---- the table
 
-targets_of-kept : (kept : List ℕ) (waits : List (List Target)) (i : ℕ) → targets_of (map (kept_of kept) waits) i ≡ kept_of kept (targets_of waits i)
+pub targets_of-kept : (kept : List ℕ) (waits : List (List Target)) (i : ℕ) → targets_of (map (kept_of kept) waits) i ≡ kept_of kept (targets_of waits i)
 targets_of-kept kept [] i = refl
 targets_of-kept kept (ts ∷ waits) zero = refl
 targets_of-kept kept (ts ∷ waits) (suc i) = targets_of-kept kept waits i

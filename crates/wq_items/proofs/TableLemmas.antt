@@ -1,5 +1,5 @@
 -- What each step of building a table keeps.
-use Rattle.std.proofs.Common.{◌≡◌, ◌≢◌, ℕ, zero, suc, ◌+◌, ◌<◌, ◌≤◌, ltb, List, [], ◌∷◌, ◌++◌, length, map, get_or, set, Option, Some, None, refl, sym, ap, subst, ◌∙◌, arith, IsTrue, append_assoc, append-nil, ltb-false}
+use Rattle.std.proofs.Common.{◌≡◌, ◌≢◌, ℕ, zero, suc, ◌+◌, ◌<◌, ◌≤◌, Bool, ltb, List, [], ◌∷◌, ◌++◌, length, map, get_or, set, Option, Some, None, refl, sym, ap, subst, ◌∙◌, arith, IsTrue, append_assoc, append-nil, ltb-false}
 use Rattle.std.specs.Prelude.{bytes_eq, IsPermutation}
 use Rattle.std.specs.List.{All, range_with_len, position_or_len}
 use Rattle.std.proofs.lemmas.Bool.{both_ways}

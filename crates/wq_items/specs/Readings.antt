@@ -1,6 +1,6 @@
 -- Readings: what is declared once each unsure flush is decided. A reading keeps some of them, maybe none or all, and
 -- leaves out the others. It is given by the places of those that it keeps.
-use Rattle.std.specs.Prelude.{ℕ, ◌==◌, ◌||◌, nat_lt, not, Bool, false, List, map, filter}
+use Rattle.std.specs.Prelude.{ℕ, ◌==◌, ◌||◌, nat_lt, not, Bool, false, List, map, filter, slice_index, slice_index_or}
 use Rattle.std.specs.List.{list_any, count_by}
 use Rattle.wq_items.specs.declared.target.Target.{Target}
 use Rattle.wq_items.specs.Table.{Table, places}
@@ -42,3 +42,13 @@ compact kept waits = compacted (map (kept_of kept) waits)
 -- the table of the reading
 abbrev pub table_reading : Table → List ℕ → Table
 table_reading t kept = record t { waits = compact kept t.waits }
+
+-- ---- with lists for all places
+
+-- the reading declares this flush, if just the places that it keeps are marked
+abbrev pub is_marked : List Bool → Target → Bool
+is_marked marks t = not t.unsure || slice_index_or marks t.place false
+
+-- the flush as it stands where these are the new places of all places
+abbrev pub moved : List ℕ → Target → Target
+moved places t = record t { unsure = false; place = slice_index places t.place }

@@ -76,10 +76,10 @@ fn unsure_unjudged<'a>(whole: bool, mut words: Words<'a>) -> Option<Option<Direc
 {
     let name = words.next()?;
     let target = words.next()?;
-    match words.next() {
-        None => Some(Some(Directive::Unsure(name, target, whole))),
-        Some(_) => None,
+    if words.next().is_none() {
+        return Some(Some(Directive::Unsure(name, target, whole)));
     }
+    None
 }
 
 /// The words after the keyword as a directive, whatever they are.

@@ -4,11 +4,10 @@
 //! those that are kept, and places are counted anew. It takes time and memory in the number of items and flushes, and
 //! time in the number of places that are kept.
 
-ghost use Rattle.std.specs.Prelude.{◌≡◌, ◌<◌, ◌++◌, ◌≢◌, ◌||◌, ℕ, false, not, length, map, filter, IfOk};
-ghost use Rattle.std.specs.Prelude.{AllPairs, List, slice_index_or};
-ghost use Rattle.std.specs.List.{All, range_with_len};
+ghost use Rattle.std.specs.Prelude.{◌≡◌, ◌++◌, ◌≢◌, ℕ, false, map, filter, slice_index_or, IfOk, AllPairs};
+ghost use Rattle.std.specs.List.{range_with_len};
 ghost use Rattle.wq_items.specs.declared.target.Target.{Target};
-ghost use Rattle.wq_items.specs.Readings.{is_among, places_before, renumbered, table_reading};
+ghost use Rattle.wq_items.specs.Readings.{is_among, is_marked, moved, places_before, table_reading};
 
 use crate::table::ItemTable;
 use crate::target::{ItemId, Target};
@@ -33,12 +32,37 @@ fn marked<A: Allocator + Copy>(
     Ok(marks)
 }
 
+/// Whether this place is marked.
+fn is_set(marks: &[bool], place: u32) -> bool
+    ensures { result ≡ slice_index_or marks.now place false }
+{
+    match marks.get(place as usize) {
+        Some(mark) => *mark,
+        None => false,
+    }
+}
+
 /// Whether a reading has this flush, where each place that it keeps is marked.
 fn is_kept(marks: &[bool], target: Target) -> bool
-    requires { target.place < length marks.now }
-    ensures { result ≡ (not target.unsure || slice_index_or marks.now target.place false) }
+    ensures { result ≡ is_marked marks.now target }
 {
-    !target.unsure || marks[target.place as usize]
+    !target.unsure || is_set(marks, target.place)
+}
+
+/// The flush at its new place.
+fn moved(places: &[u32], target: Target) -> Target
+    ensures { result ≡ moved places.now target }
+{
+    let place = match places.get(target.place as usize) {
+        Some(place) => *place,
+        None => 0,
+    };
+    Target {
+        item: target.item,
+        whole: target.whole,
+        unsure: false,
+        place,
+    }
 }
 
 /// The places of the flushes that a reading has, where each place that it keeps is marked.
@@ -47,9 +71,8 @@ fn kept_places<A: Allocator + Copy>(
     targets: &[Target],
     marks: &[bool],
 ) -> Result<Vec<u32, A>, AllocError>
-    requires { All (λ (t : Target). t.place < length marks.now) targets.now }
-    ensures { IfOk result (λ places. places.items ≡ map (λ (t : Target). t.place)
-        (filter (λ (t : Target). not t.unsure || slice_index_or marks.now t.place false) targets.now)) }
+    ensures { IfOk result (λ places. places.items
+        ≡ map (λ (t : Target). t.place) (filter (is_marked marks.now) targets.now)) }
 {
     let mut places = Vec::with_capacity(alloc, targets.len())?;
     for target in targets {
@@ -72,9 +95,9 @@ fn new_places<A: Allocator + Copy>(
     let marks = marked(alloc, count, kept)?;
     let mut places = Vec::with_capacity(alloc, marks.len())?;
     let mut before = 0u32;
-    for is_kept in marks.as_slice() {
+    for mark in marks.as_slice() {
         places.push(before)?;
-        if *is_kept {
+        if *mark {
             before += 1;
         }
     }
@@ -89,21 +112,13 @@ fn push_kept<A: Allocator + Copy>(
     marks: &[bool],
     places: &[u32],
 ) -> Result<(), AllocError>
-    requires marks { All (λ (t : Target). t.place < length marks.now) targets.now }
-    requires places { All (λ (t : Target). t.place < length places.now) targets.now }
     ensures pieces { IfOk result (λ _. pieces.new.pieces ≡ pieces.old.pieces) }
-    ensures next { IfOk result (λ _. (others : List ℕ) → places.now ≡ map (places_before others) (range_with_len 0 (length places.now)) →
-        pieces.new.next ≡ pieces.old.next ++ map (renumbered others)
-        (filter (λ (t : Target). not t.unsure || slice_index_or marks.now t.place false) targets.now)) }
+    ensures next { IfOk result (λ _. pieces.new.next
+        ≡ pieces.old.next ++ map (moved places.now) (filter (is_marked marks.now) targets.now)) }
 {
     for target in targets {
         if is_kept(marks, *target) {
-            pieces.push(Target {
-                item: target.item,
-                whole: target.whole,
-                unsure: false,
-                place: places[target.place as usize],
-            })?;
+            pieces.push(moved(places, *target))?;
         }
     }
     Ok(())
@@ -114,12 +129,13 @@ impl<'a, A: Allocator + Copy> ItemTable<'a, A> {
     pub fn reading(&self, alloc: A, kept: &[u32]) -> Result<Self, AllocError>
         ensures { IfOk result (λ t. t ≡ table_reading self.now kept.now) }
     {
+        let items = self.len();
         let count = self.flushes();
         let marks = marked(alloc, count, kept)?;
         let left = kept_places(alloc, self.all_waits(), marks.as_slice())?;
         let places = new_places(alloc, count, left.as_slice())?;
-        let mut pieces = PiecesBuilder::with_room(alloc, left.len(), self.len())?;
-        for i in 0..self.len() {
+        let mut pieces = PiecesBuilder::with_room(alloc, left.len(), items)?;
+        for i in 0..items {
             let targets = self.waits(ItemId::new(i));
             push_kept(&mut pieces, targets, marks.as_slice(), places.as_slice())?;
             pieces.end_piece()?;
