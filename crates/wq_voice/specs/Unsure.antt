@@ -45,10 +45,11 @@ above (byte ∷ note) said = Some ((byte ∷ note) ++ unwrap_or said [])
 
 -- ---- beside `safe`
 
--- beside `safe`: that it is so whatever so many unsure flushes turn out to be; nothing if there are none
+-- beside `safe`: that it is so whatever so many unsure flushes turn out to be
 abbrev pub safe_words : List ℕ → ℕ → List ℕ
 safe_words file n = if n == 1 then safe_whatever_one file else safe_whatever file (decimal n)
 
+-- the same as a line; nothing if no flush is unsure
 abbrev pub safe_note : List ℕ → Declared → List ℕ
 safe_note file s =
     if unsure_count s.table.waits == 0 then [] else shown_lines (safe_words file (unsure_count s.table.waits) ∷ [])
@@ -117,6 +118,7 @@ TellsComponents file place words s ws components waits text =
 abbrev pub undecided_words : List ℕ → ℕ → List ℕ
 undecided_words file n = if n == 1 then isnt_decided file else arent_decided file (decimal n)
 
+-- the same as a line
 abbrev pub undecided_note : List ℕ → ℕ → List ℕ
 undecided_note file n = shown_lines (undecided_words file n ∷ [])
 

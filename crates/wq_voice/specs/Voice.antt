@@ -100,6 +100,7 @@ abbrev pub IsCertNote : List ℕ → Declared → Certificate → List ℕ → T
 IsCertNote first s (OfPlan c) note = IsChainNote first s c.assignment.lanes c.arcs note
 IsCertNote first s (OfCircle c) note = note ≡ []
 
+-- the same of the certificate with this text; nothing if no flush is unsure
 abbrev pub IsYesNote : List ℕ → Declared → List ℕ → List ℕ → Type 0
 IsYesNote first s text note =
     ((note ≡ []) × (has_unsure s.table.waits ≡ false))
