@@ -159,8 +159,8 @@ def test_a_relative_cache(wqsource, tmp_path):
     """It is meant from where the command runs, and not from the tree, where spatch runs."""
     ran = wqsource("draft", "--cache", "kept", "--tree", RDISK, "rdisk.c", cwd=tmp_path)
     assert ran.status == 0 and "item rdisk_send" in ran.out
-    # The facts of the file, and the types of its headers.
-    assert len([path for path in (tmp_path / "kept").rglob("*") if path.is_file()]) == 2
+    # The facts of the file, what it calls by its text alone, and the types of its headers.
+    assert len([path for path in (tmp_path / "kept").rglob("*") if path.is_file()]) == 3
 
 
 class Terminal(io.StringIO):
