@@ -13,7 +13,9 @@ and the status must be 1, since the script then says `failed`. So must a SCSI ta
 With --patched also what the pages say of patched drivers, and of each script on the other kernel: that takes some ten
 minutes more the first time, and downloads the sources of two kernels, some 290 MB. It is run before a release.
 
-A later kernel that doesn't hang fails this test: then the pages have to say so.
+A later kernel that doesn't hang fails this test: then the pages have to say so. The thin pool hangs only if memory is
+asked back within the second in which its write fails. A guest that is slow, on a busy host, can miss it, and so it has
+three tries.
 
 Where QEMU or a kernel can't be had, it says so, and skips what needs it: that is no failure.
 """
@@ -49,11 +51,12 @@ PARTS = "while no worker can be created", "with memory again", "with memory", "t
 class Run:
     """One guest: its script, the flags of kernel/driver, and what must be so while no worker can be created: how much
     hangs, and where the rescuer sleeps, as functions of its stack in their order. `stays`: so it is with memory again.
+    `tries`: so many guests there are at most, until what hangs does.
     """
 
-    def __init__(self, script, *flags, hung=0, rescuer=None, frames=(), stays=False):
+    def __init__(self, script, *flags, hung=0, rescuer=None, frames=(), stays=False, tries=1):
         self.script, self.flags, self.hung, self.rescuer, self.frames = script, flags, hung, rescuer, frames
-        self.stays = stays
+        self.stays, self.tries = stays, tries
         if self.frames and self.frames[-1] != "worker_thread":
             self.frames = *frames, "rescuer_thread"
 
@@ -70,7 +73,7 @@ WITH_TWICE = "nvme-twice.sh", "--file", SCRIPTS / "nvme.sh"
 UNCHANGED = [
     Run(NFS, hung=1, rescuer="rpciod", frames=ON_RPCIOD),
     Run("md.sh", hung=4, rescuer="md", frames=ON_MD, stays=True),
-    Run(*THIN, hung=1, rescuer="dm-thin", frames=ABORTS),
+    Run(*THIN, hung=1, rescuer="dm-thin", frames=ABORTS, tries=3),
     Run("nvme.sh", hung=1, rescuer="nvme-wq", frames=READS_A_TABLE),
     Run(*WITH_TWICE, "--kernel", "6.12", hung=1, rescuer="kworker/R-nvme-wq", frames=SCANS),
     Run(*TARGET, hung=2, rescuer="target_submission", frames=("flush_work", *PREEMPTS), stays=True),
@@ -87,7 +90,7 @@ PATCHED = [
     Run(NFS, "--kernel", "6.12", hung=1, rescuer="kworker/R-rpciod", frames=ON_RPCIOD),
     Run(NFS, "--kernel", "6.12", *WITH_NFS),
     Run(*WITH_TWICE),
-    Run(*THIN, "--kernel", "6.12", hung=1, rescuer="kworker/R-dm-thin", frames=("__flush_work", *ABORTS[1:])),
+    Run(*THIN, "--kernel", "6.12", hung=1, rescuer="kworker/R-dm-thin", frames=("__flush_work", *ABORTS[1:]), tries=3),
     Run(*TARGET, "--kernel", "6.12", hung=2, rescuer="target_submission", frames=("__flush_work", *PREEMPTS), stays=True),
     Run(*TARGET, "--patch", SCRIPTS / "target.patch"),
     Run(*TARGET, "--patch", SCRIPTS / "target.patch", "--kernel", "6.12"),
@@ -140,9 +143,19 @@ def judge(asked, console, status):
     tell(hanging(after) == (hung if asked.stays else []), f"{name}: with memory again", f"{hanging(after)}")
 
 
+def run_until_it_hangs(asked):
+    """The last of its guests: of these only the last may hang."""
+    for tried in range(1, asked.tries + 1):
+        ended = run(asked.words(), timeout=SECONDS, capture_output=True)
+        parts = parts_of(ended.stdout.decode("latin-1"))
+        if tried == asked.tries or len(parts) != 2 or hanging(parts[0]) != []:
+            return ended
+        print(f"        {asked.script} didn't hang in try {tried} of {asked.tries}", flush=True)
+
+
 def main(arguments):
     for asked in UNCHANGED + (PATCHED if arguments == ["--patched"] else []):
-        ended = run(asked.words(), timeout=SECONDS, capture_output=True)
+        ended = run_until_it_hangs(asked)
         if ended.returncode == MISSING and not ended.stdout:
             print(f"skipped drivers, {asked.script}: {ended.stderr.decode().strip()}")
             continue
