@@ -1,6 +1,6 @@
 """Who waits for whom, and where: messages in which items or workqueues could be exchanged, each written by hand for one small case.
 
-The other tests read the words of docs/tables/messages.txt, or are changed with them by `tests/docs/made.py --write`. These aren't: an
+The other tests read the words of docs/tables/messages.txt, or are changed with them by tests/docs/made.py. These aren't: an
 item or a workqueue that changes its place in a message, there and so everywhere, is told here. What stands before a message on its
 line (the file, the line and the column), and the line of the file below it, belong to tests/cli/diagnoses.
 
