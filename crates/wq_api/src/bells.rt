@@ -1,7 +1,7 @@
 //! Condition variables that know who sleeps there, and that one was rung, as a value.
 //!
 //! So a contract can say on which variable a group of sleepers waits, and whom a call has woken. A ring takes a few
-//! instructions where nobody sleeps, and no call of the kernel.
+//! instructions if nobody sleeps, and no call of the kernel.
 
 ghost use Rattle.std.specs.Prelude.{◌≡◌, true, false};
 

@@ -242,7 +242,7 @@ impl<N: Naming, A: Allocator> WqRuntime<N, A> {
         }
     }
 
-    /// Waits until an ask is told that its wait is over, where it waits.
+    /// Waits until an ask is told that its wait is over, if it waits.
     fn be_told<R: Wait>(
         &self,
         rt: &R,
@@ -266,7 +266,7 @@ impl<N: Naming, A: Allocator> WqRuntime<N, A> {
         }
     }
 
-    /// Asks whether anything is unfinished there, and where it is, waits until it is told with the mark of its ask.
+    /// Asks whether anything is unfinished there, and if it is, waits until it is told with the mark of its ask.
     pub(crate) fn flush<R: Wait>(
         &self,
         rt: &R,
@@ -285,7 +285,7 @@ impl<N: Naming, A: Allocator> WqRuntime<N, A> {
         }
     }
 
-    /// Asks about an item and removes its pending entry in one call, and where the ask waits, waits until it is told.
+    /// Asks about an item and removes its pending entry in one call, and if the ask waits, waits until it is told.
     pub(crate) fn cancel_and_wait<R: Wait>(
         &self,
         rt: &R,

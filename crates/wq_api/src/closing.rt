@@ -1,7 +1,7 @@
-//! Closing a runtime: first nothing is queued any more, and then, where nothing is unfinished, all is handed back.
+//! Closing a runtime: first nothing is queued any more, and then, if nothing is unfinished, all is handed back.
 //!
 //! `destroy` waits until no entry is unfinished. `close` takes time in the number of all counts, and no memory. In each
-//! seat there are 22 counts for each item, or for each workqueue where there are more of those.
+//! seat there are 22 counts for each item, or for each workqueue if there are more of those.
 
 ghost use Rattle.std.specs.Prelude.{◌≡◌, vec_len, Ok, IfOk, IfErr};
 ghost use Rattle.wq_history.specs.declared.call.Call.TheVariants.{Close, Drain};
@@ -60,7 +60,7 @@ impl<N: Naming, A: Allocator> WqRuntime<N, A> {
 
     /// Closes an idle runtime, given all of its seats, and returns its book and the sums of their counts.
     ///
-    /// The error is `NotIdle` (71) where an entry is unfinished or a caller waits, or else `SeatsMissing` (72) where
+    /// The error is `NotIdle` (71) if an entry is unfinished or a caller waits, or else `SeatsMissing` (72) if
     /// not all seats are handed in. Then the runtime and the seats are handed back as they were.
     pub fn close(self, seats: Vec<Seat<N, A>, A>) -> Result<Closed<N, A>, CloseRefused<N, A>>
         ensures closed { IfOk result (λ c. IsClosed N.wiring N.rows seats.items c.book c.counts c.agree) }

@@ -1,11 +1,11 @@
 //! The condition variables of a runtime, on which those who sleep wait to be woken.
 //!
 //! Each group of sleepers has one of its own; but there are at most 256 for those who
-//! wait for items. Where there are more items, some share one. Then who waits for one
+//! wait for items. If there are more items, some share one. Then who waits for one
 //! of these is also woken by an entry of another that ends, looks, and sleeps again.
 //!
 //! `new` takes time and memory in the number of workqueues, 48 bytes for each, and of items, 24 bytes for each of up to
-//! 256. Where nobody sleeps, a wake-up takes a few instructions, and no call of the kernel.
+//! 256. If nobody sleeps, a wake-up takes a few instructions, and no call of the kernel.
 
 ghost use Rattle.std.specs.Prelude.{◌≡◌, ◌<◌, ◌⊎◌, min, vec_len, IfOk, OnErr};
 ghost use Rattle.wq_history.specs.declared.sleepers.Sleepers.TheVariants.{ItemWaiters, Destroyers};
@@ -52,7 +52,7 @@ pub(crate) struct Woken {
     destroyers: Option<Rung>,
 }
 
-/// Those for this many workqueues. The only error is out of memory, which can't occur where there are none.
+/// Those for this many workqueues. The only error is out of memory, which can't occur if there are none.
 #[tactic(auto, using(crate::proofs::LaneBells::of_lanes_none))]
 fn for_lanes<A: Allocator>(alloc: A, count: u16) -> Result<Vec<LaneCondvars, A>, AllocError>
     ensures one_each { IfOk result (λ v. (vec_len v ≡ count)
@@ -69,7 +69,7 @@ fn for_lanes<A: Allocator>(alloc: A, count: u16) -> Result<Vec<LaneCondvars, A>,
     Ok(lanes)
 }
 
-/// Those for this many items. The only error is out of memory, which can't occur where there are none.
+/// Those for this many items. The only error is out of memory, which can't occur if there are none.
 #[tactic(auto, using(crate::proofs::LaneBells::of_items_none))]
 fn for_items<A: Allocator>(alloc: A, count: u16) -> Result<Vec<Bell, A>, AllocError>
     ensures number { IfOk result (λ v. (vec_len v ≡ min count max_item_condvars) × AreOfItems (λ b. b.of) v.items) }
@@ -87,7 +87,7 @@ fn for_items<A: Allocator>(alloc: A, count: u16) -> Result<Vec<Bell, A>, AllocEr
 
 impl<A: Allocator + Copy> Condvars<A> {
     /// Those for this many workqueues and items. The only error is out of memory
-    /// (20), which can't occur where there are neither.
+    /// (20), which can't occur if there are neither.
     pub(crate) fn new(alloc: A, lanes: u16, items: u16) -> Result<Self, AllocError>
         ensures lanes { IfOk result (λ r. vec_len r.lanes ≡ lanes) }
         ensures items { IfOk result (λ r. vec_len r.items ≡ min items max_item_condvars) }

@@ -29,7 +29,7 @@ pub(crate) struct Layout<N: Naming, A: Allocator> {
     ghost few_lanes: { N.wiring.lanes ≤ max_runtime_lanes },
 }
 
-/// The workqueue of each of this many items. The only error is out of memory, which can't occur where there are none.
+/// The workqueue of each of this many items. The only error is out of memory, which can't occur if there are none.
 fn lanes_of_items<N: Naming, A: Allocator>(
     alloc: A,
     held: &Held<N, A>,
@@ -51,7 +51,7 @@ fn lanes_of_items<N: Naming, A: Allocator>(
 }
 
 /// How many helpers each of this many workqueues has. The only error is out of
-/// memory, which can't occur where there are none.
+/// memory, which can't occur if there are none.
 fn helpers_of_lanes<N: Naming, A: Allocator>(
     alloc: A,
     held: &Held<N, A>,
@@ -69,7 +69,7 @@ fn helpers_of_lanes<N: Naming, A: Allocator>(
 
 impl<N: Naming, A: Allocator + Copy> Layout<N, A> {
     /// That of a runtime with this many items and workqueues. The only error is out
-    /// of memory (20), which can't occur where there are neither.
+    /// of memory (20), which can't occur if there are neither.
     pub(crate) fn new(
         alloc: A,
         held: &Held<N, A>,
@@ -101,7 +101,7 @@ impl<N: Naming, A: Allocator> Layout<N, A> {
         self.helpers.len() as u16
     }
 
-    /// The workqueue of an item, where there is such an item.
+    /// The workqueue of an item, if there is such an item.
     pub(crate) fn lane_of(&self, item: ItemId) -> Option<LaneId>
         ensures some { IfSome result (λ q. IsOnLane N.wiring q item) }
         ensures none { IfNone result (items_of N.wiring ≤ item) }

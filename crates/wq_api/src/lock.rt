@@ -1,7 +1,7 @@
 //! The lock of a runtime, and those who sleep until what it protects has changed.
 //!
 //! Nothing else in this crate takes the lock. `call` takes it, hands over the call, and wakes whom
-//! the answer names; where the call is too early, its caller sleeps among those whom it names.
+//! the answer names; if the call is too early, its caller sleeps among those whom it names.
 //! `Lock` knows of what it protects that it takes turns, and of a call that it can be copied. So
 //! it hands over just the call that it was handed. No caller sleeps with the lock held.
 
@@ -85,7 +85,7 @@ impl<H: Watched, A: Allocator> Lock<H, A> {
         }
     }
 
-    /// Takes the lock, hands over the call, releases the lock, and wakes whom the answer names, as it shows. Where the
+    /// Takes the lock, hands over the call, releases the lock, and wakes whom the answer names, as it shows. If the
     /// call is too early, its caller sleeps among those whom it names, and the call is handed over again when one of
     /// them is woken. There is a condition variable for each group of sleepers, which groups that wait for items may
     /// share.
@@ -112,7 +112,7 @@ impl<H: Watched, A: Allocator> Lock<H, A> {
         unreachable!()
     }
 
-    /// Ends what the lock protects, with what is the caller's own. Where it can't end, what is the caller's own comes
+    /// Ends what the lock protects, with what is the caller's own. If it can't end, what is the caller's own comes
     /// back as it was, and the lock with the same condition variables.
     pub(crate) fn end<S, T, E>(self, own: S) -> Result<T, (Self, S, E)>
     where

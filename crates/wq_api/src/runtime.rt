@@ -1,6 +1,6 @@
 //! The runtime: the calls of kernel/workqueue.c, for many threads over one book under one lock.
 //!
-//! Each method makes a call of the book, or two where it has to wait. The clause `took` says which. The other clauses
+//! Each method makes a call of the book, or two if it has to wait. The clause `took` says which. The other clauses
 //! say what the caller can know: its answer, and its own counts. What never changes is known without the lock.
 //!
 //! Apart from what it waits for, a call takes the time of the book's answers. `seat` takes time and memory in the
@@ -52,7 +52,7 @@ impl<N: Naming, A: Allocator + Copy> WqRuntime<N, A> {
     ///
     /// The error is the first of these that holds: `TooManyLanes` (69), more than 256 workqueues; `TooManyRows` (68),
     /// more than 16,777,216; `NotSafe` (67), some run of the assignment ends stuck. Out of memory (20) may come in
-    /// place of the last, or where none holds.
+    /// place of the last, or if none holds.
     pub fn new(
         alloc: A,
         blank: Blank,
@@ -76,11 +76,11 @@ impl<N: Naming, A: Allocator + Copy> WqRuntime<N, A> {
 
     /// Makes the runtime of a table, the groups of its items and an assignment, as `new`.
     /// Each workqueue that isn't ordered has `helpers` helpers beside its rescuer, numbered
-    /// from 1. A workqueue is ordered where it holds a group of two or more items.
+    /// from 1. A workqueue is ordered if it holds a group of two or more items.
     ///
     /// The error is the first of these that holds: `TooManyLanes` (69), more than 256 workqueues; `TooManyRows` (68),
     /// more than 16,777,216; `TooManyHelpers` (74), more than 8; `NotSafe` (67), some run of the assignment ends stuck.
-    /// Out of memory (20) may come in place of the last, or where none holds.
+    /// Out of memory (20) may come in place of the last, or if none holds.
     pub fn with_helpers(
         alloc: A,
         blank: Blank,
@@ -115,7 +115,7 @@ impl<N: Naming, A: Allocator + Copy> WqRuntime<N, A> {
 
     /// Makes a seat for one caller, with no counts.
     ///
-    /// The error is `TooManySeats` (70) where 65,535 were made, or else out of
+    /// The error is `TooManySeats` (70) if 65,535 were made, or else out of
     /// memory (20). After an error no seat is made; nothing else makes such an error.
     pub fn seat<R: Wait>(&self, rt: &R, alloc: A) -> Result<Seat<N, A>, NoSeat<N>>
         ensures took { IsSeated N.wiring N.rows result }
@@ -136,7 +136,7 @@ impl<N: Naming, A: Allocator> WqRuntime<N, A> {
         self.layout.lanes()
     }
 
-    /// The workqueue of an item, where there is such an item.
+    /// The workqueue of an item, if there is such an item.
     pub fn lane_of(&self, item: ItemId) -> Option<LaneId>
         ensures some { IfSome result (λ q. IsOnLane N.wiring q item) }
         ensures none { IfNone result (items N.wiring ≤ item) }
@@ -158,11 +158,11 @@ impl<N: Naming, A: Allocator> WqRuntime<N, A> {
         self.layout.has_context(q, helper)
     }
 
-    /// Queues an item on its workqueue (`queue_work`): true where it wasn't pending, false where it was.
+    /// Queues an item on its workqueue (`queue_work`): true if it wasn't pending, false if it was.
     ///
-    /// The error is the first of these that holds: `NoItem` (66); `WrongLane` (64), where the item belongs to another
-    /// workqueue; `HistoryFull` (60), where the seat is full; `Closed` (61); `HistoryFull` (60), where fewer rows are
-    /// free than it needs: 1 where the item is pending, else 3, and 2 more for each flush that it declares. After an
+    /// The error is the first of these that holds: `NoItem` (66); `WrongLane` (64), if the item belongs to another
+    /// workqueue; `HistoryFull` (60), if the seat is full; `Closed` (61); `HistoryFull` (60), if fewer rows are
+    /// free than it needs: 1 if the item is pending, else 3, and 2 more for each flush that it declares. After an
     /// error nothing is changed or counted.
     pub fn queue_work<R: Wait>(
         &self,
@@ -193,7 +193,7 @@ impl<N: Naming, A: Allocator> WqRuntime<N, A> {
     /// Queues an item on its own workqueue, whichever that is: `queue_work` for a caller who knows the item alone.
     ///
     /// The error is the first of these that holds: `NoItem` (66); `HistoryFull` (60),
-    /// where the seat is full; `Closed` (61); `HistoryFull` (60), where fewer rows are
+    /// if the seat is full; `Closed` (61); `HistoryFull` (60), if fewer rows are
     /// free than `queue_work` needs. After an error nothing is changed or counted.
     pub fn queue_item<R: Wait>(
         &self,
@@ -211,9 +211,9 @@ impl<N: Naming, A: Allocator> WqRuntime<N, A> {
         self.yes(rt, seat, wq_history::QueueCall { item })
     }
 
-    /// Removes the pending entry of an item (`cancel_work`): true where one was pending.
+    /// Removes the pending entry of an item (`cancel_work`): true if one was pending.
     ///
-    /// The error is `NoItem` (66), or else `HistoryFull` (60), where the seat is full, or nothing is pending and no row
+    /// The error is `NoItem` (66), or else `HistoryFull` (60), if the seat is full, or nothing is pending and no row
     /// is free. After an error nothing is changed or counted.
     pub fn cancel_work<R: Wait>(
         &self,
@@ -230,11 +230,11 @@ impl<N: Naming, A: Allocator> WqRuntime<N, A> {
         self.yes(rt, seat, wq_history::CancelCall { item })
     }
 
-    /// Waits until none of an item's entries that were queued before the call is unfinished (`flush_work`): true where
-    /// it had to wait, false where the item was idle.
+    /// Waits until none of an item's entries that were queued before the call is unfinished (`flush_work`): true if
+    /// it had to wait, false if the item was idle.
     ///
-    /// The error is `NoItem` (66), or else `HistoryFull` (60), where the seat is full or fewer rows are free than it
-    /// needs: 1 where the item is idle, else 2. Then nothing is changed or counted.
+    /// The error is `NoItem` (66), or else `HistoryFull` (60), if the seat is full or fewer rows are free than it
+    /// needs: 1 if the item is idle, else 2. Then nothing is changed or counted.
     pub fn flush_work<R: Wait>(
         &self,
         rt: &R,
@@ -252,10 +252,10 @@ impl<N: Naming, A: Allocator> WqRuntime<N, A> {
     }
 
     /// Waits until none of a workqueue's entries that were queued before the call is unfinished (`flush_workqueue`). It
-    /// returns at once where the workqueue is idle; what is queued after the call doesn't prolong the wait.
+    /// returns at once if the workqueue is idle; what is queued after the call doesn't prolong the wait.
     ///
-    /// The error is `WrongLane` (64), where there is no such workqueue, or else `HistoryFull` (60), where the seat is
-    /// full or fewer rows are free than it needs: 1 where the workqueue is idle, else 2. Then nothing is changed or
+    /// The error is `WrongLane` (64), if there is no such workqueue, or else `HistoryFull` (60), if the seat is
+    /// full or fewer rows are free than it needs: 1 if the workqueue is idle, else 2. Then nothing is changed or
     /// counted.
     pub fn flush_workqueue<R: Wait>(
         &self,
@@ -277,9 +277,9 @@ impl<N: Naming, A: Allocator> WqRuntime<N, A> {
     }
 
     /// Removes the pending entry of an item, and waits until none of its entries that were queued before the call is
-    /// unfinished (`cancel_work_sync`): true where one was pending.
+    /// unfinished (`cancel_work_sync`): true if one was pending.
     ///
-    /// The error is `NoItem` (66), or else `HistoryFull` (60), where the seat is full or fewer than 3 rows are free.
+    /// The error is `NoItem` (66), or else `HistoryFull` (60), if the seat is full or fewer than 3 rows are free.
     /// Then nothing is changed or counted.
     pub fn cancel_work_sync<R: Wait>(
         &self,

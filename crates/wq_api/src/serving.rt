@@ -35,7 +35,7 @@ impl<N: Naming, A: Allocator> WqRuntime<N, A> {
     /// of its workqueue whose item no context runs. It waits while there is none, unless nothing is pending on the
     /// workqueue and the runtime is closed. Then it gives nothing.
     ///
-    /// The only error is `WrongLane` (64), where there is no such context or it runs
+    /// The only error is `WrongLane` (64), if there is no such context or it runs
     /// an entry. After an error nothing is changed.
     #[tactic(auto, using(crate::proofs::Contexts::by_start))]
     pub fn next_in<R: Wait>(&self, rt: &R, context: Context) -> Result<Next<N>, CallError>
@@ -50,11 +50,11 @@ impl<N: Naming, A: Allocator> WqRuntime<N, A> {
 
     /// Makes what a context runs wait for an item (`flush_work` in a work function), or for the whole workqueue of the
     /// item (`flush_workqueue`), until none of the entries there that were queued before the call is unfinished: true
-    /// where one was when the wait began.
+    /// if one was when the wait began.
     ///
-    /// The error is the first of these that holds: `WrongLane` (64), where there is no such context; `HistoryFull`
-    /// (60), where the seat is full; `WrongLane` (64), where the context runs nothing or waits; `Undeclared` (62),
-    /// where what it runs declares no such flush; `TooManyWaits` (63). Then nothing is changed or counted.
+    /// The error is the first of these that holds: `WrongLane` (64), if there is no such context; `HistoryFull`
+    /// (60), if the seat is full; `WrongLane` (64), if the context runs nothing or waits; `Undeclared` (62),
+    /// if what it runs declares no such flush; `TooManyWaits` (63). Then nothing is changed or counted.
     pub fn wait_in<R: Wait>(
         &self,
         rt: &R,
@@ -102,7 +102,7 @@ impl<N: Naming, A: Allocator> WqRuntime<N, A> {
     /// pending one whose item no helper runs. It waits while there is none, unless nothing is pending and the runtime
     /// is closed. Then it gives nothing.
     ///
-    /// The only error is `WrongLane` (64), where there is no such workqueue or its
+    /// The only error is `WrongLane` (64), if there is no such workqueue or its
     /// rescuer runs an entry. After an error nothing is changed.
     pub fn next<R: Wait>(&self, rt: &R, q: LaneId) -> Result<Next<N>, CallError>
         ensures took { GivesNext (context_of q 0)
@@ -116,11 +116,11 @@ impl<N: Naming, A: Allocator> WqRuntime<N, A> {
     }
 
     /// Makes what the rescuer of a workqueue runs wait for an item (`flush_work` in a work function), until none of its
-    /// entries that were queued before the call is unfinished: true where one was when the wait began.
+    /// entries that were queued before the call is unfinished: true if one was when the wait began.
     ///
-    /// The error is the first of these that holds: `WrongLane` (64), where there is no such workqueue; `HistoryFull`
-    /// (60), where the seat is full; `WrongLane` (64), where the rescuer runs nothing or waits; `Undeclared` (62),
-    /// where what it runs declares no flush of this item alone; `TooManyWaits` (63). Then nothing is changed or
+    /// The error is the first of these that holds: `WrongLane` (64), if there is no such workqueue; `HistoryFull`
+    /// (60), if the seat is full; `WrongLane` (64), if the rescuer runs nothing or waits; `Undeclared` (62),
+    /// if what it runs declares no flush of this item alone; `TooManyWaits` (63). Then nothing is changed or
     /// counted.
     pub fn wait_for<R: Wait>(
         &self,
@@ -147,11 +147,11 @@ impl<N: Naming, A: Allocator> WqRuntime<N, A> {
 
     /// Makes what the rescuer of a workqueue runs wait for the whole workqueue of an item
     /// (`flush_workqueue` in a work function), until none of the entries that were queued
-    /// on it before the call is unfinished: true where one was when the wait began.
+    /// on it before the call is unfinished: true if one was when the wait began.
     ///
-    /// The error is the first of these that holds: `WrongLane` (64), where there is no workqueue `q`; `HistoryFull`
-    /// (60), where the seat is full; `WrongLane` (64), where the rescuer of `q` runs nothing or waits; `Undeclared`
-    /// (62), where what it runs declares no flush of the whole workqueue of this very item; `TooManyWaits` (63). Then
+    /// The error is the first of these that holds: `WrongLane` (64), if there is no workqueue `q`; `HistoryFull`
+    /// (60), if the seat is full; `WrongLane` (64), if the rescuer of `q` runs nothing or waits; `Undeclared`
+    /// (62), if what it runs declares no flush of the whole workqueue of this very item; `TooManyWaits` (63). Then
     /// nothing is changed or counted.
     pub fn wait_all_for<R: Wait>(
         &self,
@@ -200,7 +200,7 @@ impl<N: Naming, A: Allocator> WqRuntime<N, A> {
     /// Starts the next entry that a helper of a workqueue can start, and gives its item, as `next` does for the
     /// rescuer: the first pending one whose item neither the rescuer nor another helper runs.
     ///
-    /// The only error is `WrongLane` (64), where the workqueue has no helper `h`, or
+    /// The only error is `WrongLane` (64), if the workqueue has no helper `h`, or
     /// that helper runs an entry. After an error nothing is changed.
     pub fn help_next<R: Wait>(&self, rt: &R, q: LaneId, h: u8) -> Result<Next<N>, CallError>
         ensures took { 0 < h → GivesNext (context_of q h)
@@ -218,9 +218,9 @@ impl<N: Naming, A: Allocator> WqRuntime<N, A> {
 
     /// Makes what a helper of a workqueue runs wait for an item, as `wait_for` does for the rescuer.
     ///
-    /// The error is the first of these that holds: `WrongLane` (64), where the workqueue has no helper `h`;
-    /// `HistoryFull` (60), where the seat is full; `WrongLane` (64), where the helper runs nothing or waits;
-    /// `Undeclared` (62), where what it runs declares no flush of this item alone; `TooManyWaits` (63). Then nothing is
+    /// The error is the first of these that holds: `WrongLane` (64), if the workqueue has no helper `h`;
+    /// `HistoryFull` (60), if the seat is full; `WrongLane` (64), if the helper runs nothing or waits;
+    /// `Undeclared` (62), if what it runs declares no flush of this item alone; `TooManyWaits` (63). Then nothing is
     /// changed or counted.
     pub fn help_wait_for<R: Wait>(
         &self,
@@ -252,9 +252,9 @@ impl<N: Naming, A: Allocator> WqRuntime<N, A> {
     /// Makes what a helper of a workqueue runs wait for the whole workqueue of an
     /// item, as `wait_all_for` does for the rescuer.
     ///
-    /// The error is the first of these that holds: `WrongLane` (64), where the workqueue has no helper `h`;
-    /// `HistoryFull` (60), where the seat is full; `WrongLane` (64), where the helper runs nothing or waits;
-    /// `Undeclared` (62), where what it runs declares no flush of the whole workqueue of this very item; `TooManyWaits`
+    /// The error is the first of these that holds: `WrongLane` (64), if the workqueue has no helper `h`;
+    /// `HistoryFull` (60), if the seat is full; `WrongLane` (64), if the helper runs nothing or waits;
+    /// `Undeclared` (62), if what it runs declares no flush of the whole workqueue of this very item; `TooManyWaits`
     /// (63). Then nothing is changed or counted.
     pub fn help_wait_all_for<R: Wait>(
         &self,

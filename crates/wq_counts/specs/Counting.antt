@@ -1,7 +1,7 @@
 -- Counting: how many rows there are of an item or a lane, of a kind and with an answer.
 --
 -- Every row is counted except those of starts, which no seat counts. A row of a helper's step counts as that of the
--- same step of the rescuer. A row of a wait, or of its end, counts for the item that is waited for, and where a whole
+-- same step of the rescuer. A row of a wait, or of its end, counts for the item that is waited for, and if a whole
 -- lane is waited for, for the item that names it. A caller's ask about a whole lane, and the end of its wait, count for
 -- the lane. Counts stand in slots: slot n holds those of item n and those of lane n.
 use Rattle.std.specs.Prelude.{◌≡◌, ℕ, ◌+◌, ◌*◌, ◌<◌, ◌==◌, ◌&&◌, Option, Some, None, option_map, is_some, Bool, true}

@@ -98,7 +98,7 @@ fn add_each(counts: &mut [u64], more: &[u64])
 }
 
 impl<A: Allocator> Counts<A> {
-    /// Counts of this many slots, all 0. The only error is out of memory, which can't occur where there is no slot.
+    /// Counts of this many slots, all 0. The only error is out of memory, which can't occur if there is no slot.
     pub fn new(alloc: A, slots: usize) -> Result<Self, AllocError>
         ensures counts { IfOk result (λ c. c ≡ replicate (counts_each * slots) 0) }
         ensures memory { OnErr result (0 < slots) }
@@ -109,7 +109,7 @@ impl<A: Allocator> Counts<A> {
         Ok(Counts { counts, total: 0 })
     }
 
-    /// The count at a place; 0 where there is no such place.
+    /// The count at a place; 0 if there is no such place.
     fn at(&self, place: usize) -> u64
         ensures { result ≡ slice_index self.now place }
     {

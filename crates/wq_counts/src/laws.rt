@@ -36,7 +36,7 @@ pub fn one_more_of_a_lane_raises_one_count()
         made (raised_lane counts q kind said) i other answer ≡ made counts i other answer }
 {}
 
-/// The counts of this many slots are equal exactly where each item, kind and answer
+/// The counts of this many slots are equal exactly if each item, kind and answer
 /// has the same count in both, and each lane, kind and answer.
 pub fn counts_are_equal_where_each_count_is()
     ensures { (slots : ℕ) (a b : List ℕ) → HasCountsOf slots a → HasCountsOf slots b → (a ≡ b)
@@ -60,7 +60,7 @@ pub fn a_counted_row_is_of_one_item_kind_and_answer()
     ensures not_both { (row : Row) (kind : Kind) → kind_in row.event ≡ Some kind → lane_kind_in row.event ≡ None }
 {}
 
-/// The counts are the tallies of the rows exactly where each says how many of the rows are of its item, kind and
+/// The counts are the tallies of the rows exactly if each says how many of the rows are of its item, kind and
 /// answer, or of its lane, kind and answer.
 pub fn tallies_are_those_of_each_item_and_lane()
     ensures { (slots : ℕ) (rows : List Row) (counts : List ℕ) → AreTallies slots rows counts
@@ -83,7 +83,7 @@ pub fn tallies_sum_up_to_the_counted_rows()
         AreTallies slots rows counts → sum counts ≡ counted_rows rows }
 {}
 
-/// Where the counts of some rows are added to those of others, they are the counts of both.
+/// If the counts of some rows are added to those of others, they are the counts of both.
 pub fn tallies_of_two_runs_of_rows_are_added()
     ensures { (slots : ℕ) (rows more : List Row) (a b c : List ℕ) → AreTallies slots rows a → AreTallies slots more b →
         ((p : ℕ) → slice_index c p ≡ slice_index a p + slice_index b p) → AreTallies slots (rows ++ more) c }

@@ -1,7 +1,7 @@
 //! Counts of rows: how many there are of each item or lane, of each kind and with each answer.
 //!
-//! What the layers above rely on: a row raises exactly one count, or none where it is a start; the counts of two runs
-//! of rows are added place by place; and two lists of counts are equal exactly where each count is. So callers can
+//! What the layers above rely on: a row raises exactly one count, or none if it is a start; the counts of two runs
+//! of rows are added place by place; and two lists of counts are equal exactly if each count is. So callers can
 //! count their own rows, and the sums of their counts can be compared with those of a whole history.
 #![tactic(auto)]
 

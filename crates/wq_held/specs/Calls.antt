@@ -95,7 +95,7 @@ abbrev pub IsSettled : Result Reply CallError → Type 0
 IsSettled (Ok NotYet) = ⊥
 IsSettled _ = Unit {0}
 
--- what a call comes to that the book answered so, if this is the book after: its caller sleeps where it is too early
+-- what a call comes to that the book answered so, if this is the book after: its caller sleeps if it is too early
 abbrev pub BecomesTurn : BookView → Call → Result Reply CallError → Turn (Result Reply CallError) → Type 0
 BecomesTurn b call answer (Answered same wake) = (same ≡ answer) × IsSettled answer × WakesAfter b call answer wake
 BecomesTurn b call answer (Sleeps among) = (answer ≡ Ok NotYet) × (among ≡ sleepers_of b.wiring call)

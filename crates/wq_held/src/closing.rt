@@ -1,6 +1,6 @@
 //! What is handed back when a runtime is closed: its history, and the sums of all that its callers counted.
 //!
-//! Where the sums agree with the tallies of the history, all callers together counted, for each item or lane, kind and
+//! If the sums agree with the tallies of the history, all callers together counted, for each item or lane, kind and
 //! answer, as many rows as were written. Starts aren't counted. Closing takes time in the number of all counts, which
 //! are 22 for each seat and slot (there are as many slots as items or lanes, whichever are more), and no memory.
 
@@ -85,7 +85,7 @@ impl<N: Naming, A: Allocator> Held<N, A> {
 
     /// Closes an idle runtime, given all of its seats, and gives its book and the sums of their counts.
     ///
-    /// The error is `NotIdle` (71) where an entry is unfinished or a caller waits, or else `SeatsMissing` (72) where
+    /// The error is `NotIdle` (71) if an entry is unfinished or a caller waits, or else `SeatsMissing` (72) if
     /// not all seats are handed in. It comes with what the lock protects and with the seats, as they were.
     pub fn close(
         self,

@@ -59,8 +59,8 @@ pub(crate) fn slots_of<A: Allocator>(book: &Book<A>) -> usize
 impl<N: Naming, A: Allocator + Copy> Held<N, A> {
     /// Makes a seat, with no counts.
     ///
-    /// The error is `TooManySeats` (70) exactly where 65,535 were made. Otherwise it is out of memory (20), which can't
-    /// occur where there are no items and no lanes. After an error nothing is changed, and no seat counts as made.
+    /// The error is `TooManySeats` (70) exactly if 65,535 were made. Otherwise it is out of memory (20), which can't
+    /// occur if there are no items and no lanes. After an error nothing is changed, and no seat counts as made.
     pub fn seat(&mut self, alloc: A) -> Result<Seat<N, A>, NoSeat<N>>
         ensures seat { IfOk result (λ s. s ≡ replicate (counts_each * slots N.wiring) 0) }
         ensures made { OnOk result ((self.old.seats < 65535)
@@ -97,7 +97,7 @@ impl<N: Naming, A: Allocator> Held<N, A> {
         self.tallies.audit(seat);
     }
 
-    /// The workqueue of an item, where there is such an item.
+    /// The workqueue of an item, if there is such an item.
     pub fn lane_of(&self, item: ItemId) -> Option<LaneId>
         ensures some { IfSome result (λ q. IsOnLane N.wiring q item) }
         ensures none { IfNone result (items N.wiring ≤ item) }
@@ -114,8 +114,8 @@ impl<N: Naming, A: Allocator> Held<N, A> {
 
     /// Whether the runtime can be closed with this many seats.
     ///
-    /// The error is `NotIdle` (71) exactly where an entry is unfinished or a caller waits. Otherwise it is
-    /// `SeatsMissing` (72), exactly where not this many seats were made.
+    /// The error is `NotIdle` (71) exactly if an entry is unfinished or a caller waits. Otherwise it is
+    /// `SeatsMissing` (72), exactly if not this many seats were made.
     pub fn closable(&self, seats: usize) -> Result<(), Unclosed<N>>
         ensures closes { OnOk result (Closes self.now seats) }
         ensures refused { IfErr result (λ e. (e.seats ≡ seats) × RefusesClose self.now seats e.why) }

@@ -30,7 +30,7 @@ pub const MAX_LANES: u16 = 256;
 ///
 /// The error is the first of these that holds: `TooManyLanes` (69), more than 256 workqueues; `TooManyRows` (68), more
 /// than 16,777,216; `TooManyHelpers` (74), more than 8; `NotSafe` (67), some run of the assignment ends stuck. Out of
-/// memory (20) may come in place of the last, or where none holds.
+/// memory (20) may come in place of the last, or if none holds.
 #[tactic(auto, using(crate::proofs::RefusedMaking::book_refused, crate::proofs::RefusedMaking::some_lanes, crate::proofs::RefusedMaking::safe_with))]
 pub fn new_held<N: Naming, A: Allocator + Copy>(
     alloc: A,

@@ -1,8 +1,8 @@
 //! Whom a row wakes, once it is written, and among whom the caller of a call sleeps that is too early.
 //!
-//! A queueing lets one context of its workqueue go on. So does a finish, where the next entry of the item is pending:
+//! A queueing lets one context of its workqueue go on. So does a finish, if the next entry of the item is pending:
 //! no other context could start that while the item ran. An entry that ends, by a finish or a cancellation, can end
-//! each wait for its item, and for its workqueue; and the last one that is unfinished, all waits in `destroy`. Where
+//! each wait for its item, and for its workqueue; and the last one that is unfinished, all waits in `destroy`. If
 //! the book is closed, the contexts of a workqueue end with its last pending entry, by a start or a cancellation. Every
 //! call takes constant time.
 
@@ -23,7 +23,7 @@ use wq_history::{Book, Call, Sleepers, Subject, Wake, WokenContexts};
 use wq_items::ItemId;
 use wq_rows::{Event, Row};
 
-/// All contexts of a workqueue, where it has ended.
+/// All contexts of a workqueue, if it has ended.
 fn if_ended<A: Allocator>(book: &Book<A>, q: LaneId) -> WokenContexts
     ensures { WakesIfEnded book.now q result }
 {
@@ -34,7 +34,7 @@ fn if_ended<A: Allocator>(book: &Book<A>, q: LaneId) -> WokenContexts
     }
 }
 
-/// One context of a workqueue, where an entry of the item is pending.
+/// One context of a workqueue, if an entry of the item is pending.
 fn if_pending<A: Allocator>(book: &Book<A>, q: LaneId, item: ItemId) -> WokenContexts
     ensures { WakesIfPending book.now q item result }
 {
@@ -56,7 +56,7 @@ fn lane_of_item<A: Allocator>(book: &Book<A>, item: ItemId) -> LaneId
     q
 }
 
-/// Whom a queueing of an item, which exists, wakes, where it was accepted or wasn't.
+/// Whom a queueing of an item, which exists, wakes, if it was accepted or wasn't.
 fn by_queueing<A: Allocator>(book: &Book<A>, item: ItemId, accepted: bool) -> Wake
     requires { item < items book.now.wiring }
     ensures { WakesBy book.now (QueueEvent item) accepted result }
@@ -80,7 +80,7 @@ fn by_end<A: Allocator>(book: &Book<A>, contexts: WokenContexts, q: LaneId, item
     }
 }
 
-/// Whom a cancellation of an item, which exists, wakes, where it took an entry or didn't.
+/// Whom a cancellation of an item, which exists, wakes, if it took an entry or didn't.
 fn by_cancel<A: Allocator>(book: &Book<A>, item: ItemId, taken: bool) -> Wake
     requires { item < items book.now.wiring }
     ensures { WakesBy book.now (CancelEvent item) taken result }

@@ -2,7 +2,7 @@
 -- caller sleeps.
 --
 -- What is replied is the row that the call writes. Whether that row may come, and with which `yes` and which number,
--- is said by MayCome; how many free rows it needs by rows_needed; and both by Appends. Where there is no row to
+-- is said by MayCome; how many free rows it needs by rows_needed; and both by Appends. If there is no row to
 -- write, the call is done; or it is too early, and then nothing is changed, and its caller sleeps and calls again.
 use Rattle.std.specs.Prelude.{◌≡◌, ℕ, ◌<◌, ◌≤◌, ◌⊎◌, length, Bool, true, false, Option, Some, None, Result, Ok, Err}
 use Rattle.std.specs.Prelude.{MatchOption}

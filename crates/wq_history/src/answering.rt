@@ -28,7 +28,7 @@ use wq_items::ItemId;
 use wq_rows::{Event, Row};
 
 impl<A: Allocator> Book<A> {
-    /// Answers a call: by the row or the two rows that it wrote, by `Done` or `NotYet` where there is none to write, or
+    /// Answers a call: by the row or the two rows that it wrote, by `Done` or `NotYet` if there is none to write, or
     /// by a refusal. Only a row that was written, and `Close`, change the book.
     ///
     /// An ask that is told is named by its subject and its mark alone, which anybody may make up: whoever uses `answer`
@@ -89,7 +89,7 @@ impl<A: Allocator> Book<A> {
         }
     }
 
-    /// Writes the row of a cancellation, where there are enough rows for it.
+    /// Writes the row of a cancellation, if there are enough rows for it.
     fn write_cancel(&mut self, item: ItemId) -> Option<Row>
         requires { item < items self.old.wiring }
         ensures { IsWritten self.old (CancelEvent item) result self.new }
@@ -138,7 +138,7 @@ impl<A: Allocator> Book<A> {
         }
     }
 
-    /// Writes the row of an ask, where there are enough rows for it.
+    /// Writes the row of an ask, if there are enough rows for it.
     #[inline(always)]
     fn write_ask(&mut self, subject: &Subject) -> Option<Row>
         requires { IsThere self.old.wiring subject.now }
@@ -238,7 +238,7 @@ impl<A: Allocator> Book<A> {
         Ok(Reply::Wrote(row))
     }
 
-    /// The wait of what a context runs, where it is of this kind and for this target.
+    /// The wait of what a context runs, if it is of this kind and for this target.
     fn wait_for(&self, context: &Context, flush: &Flush) -> Option<Waiting>
         ensures some { IfSome result (λ f. IsWaitingBy self.now context.now.lane context.now.number flush.now.whole f
             × (f.target ≡ flush.now.target)) }
@@ -254,7 +254,7 @@ impl<A: Allocator> Book<A> {
         Some(waits)
     }
 
-    /// Lets what a context runs go on, where it waits so and that wait is over.
+    /// Lets what a context runs go on, if it waits so and that wait is over.
     pub(crate) fn answer_over(&mut self, context: Context, flush: Flush) -> Result<Reply, CallError>
         ensures { Answers self.old (Over context flush) result self.new }
     {

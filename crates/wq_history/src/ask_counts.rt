@@ -43,7 +43,7 @@ fn place(subject: Subject) -> usize
 
 impl<A: Allocator> AskCounts<A> {
     /// Counts for this many items and lanes; no ask is waiting. The only error is out of memory (20), which can't occur
-    /// where there is no item and no lane.
+    /// if there is no item and no lane.
     pub fn new(alloc: A, items: usize, lanes: usize) -> Result<Self, AllocError>
         requires items { items ≤ 65536 }
         requires lanes { lanes ≤ 65536 }

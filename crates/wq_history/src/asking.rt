@@ -95,7 +95,7 @@ pub enum Told {
     Done,
     /// An entry that is waited for is unfinished.
     NotYet(Asked),
-    /// No ask about this item waits in this book (65). This occurs only where an ask
+    /// No ask about this item waits in this book (65). This occurs only if an ask
     /// of another book is, or was, told here.
     NotAsked(Asked),
 }
@@ -144,7 +144,7 @@ pub enum LaneTold {
     Done,
     /// An entry that is waited for is unfinished.
     NotYet(LaneAsked),
-    /// No ask about this lane waits in this book (65). This occurs only where an ask
+    /// No ask about this lane waits in this book (65). This occurs only if an ask
     /// of another book is, or was, told here.
     NotAsked(LaneAsked),
 }

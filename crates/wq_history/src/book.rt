@@ -70,8 +70,8 @@ impl<A: Allocator + Copy> Book<A> {
     /// Makes the book of a machine on which nothing has happened, with room for this
     /// many rows. Its lanes have the helpers of the machine.
     ///
-    /// The error is `TooManyRows` (68) exactly where there are more than 16,777,216 rows. Otherwise it is out of memory
-    /// (20), which can't occur where there are no rows, no items and no lanes.
+    /// The error is `TooManyRows` (68) exactly if there are more than 16,777,216 rows. Otherwise it is out of memory
+    /// (20), which can't occur if there are no rows, no items and no lanes.
     pub fn new(alloc: A, core: Core<A>, rows: u32) -> Result<Self, BookError>
         requires { core.state ≡ empty_state core.wiring }
         ensures book { IfOk result (λ b. b ≡ record { wiring = core.wiring; rows = []; room = rows; closed = false }) }
@@ -198,7 +198,7 @@ impl<A: Allocator> Book<A> {
         }
     }
 
-    /// What a context runs; nothing where there is no such lane or no such context.
+    /// What a context runs; nothing if there is no such lane or no such context.
     fn entry_in(&self, context: &Context) -> Option<Running>
         ensures running { result ≡ run_by (lane_at (state self.now) context.now.lane) context.now.number }
         ensures known { IfSome result (λ r. (r.entry.item < items self.now.wiring)
@@ -208,7 +208,7 @@ impl<A: Allocator> Book<A> {
         self.core.running_in(*context)
     }
 
-    /// The first pending entry of a lane whose item isn't running; none where there is no such entry, or no such lane.
+    /// The first pending entry of a lane whose item isn't running; none if there is no such entry, or no such lane.
     pub(crate) fn next_on(&self, q: LaneId) -> Option<Entry>
         ensures next { result ≡ next_of (lane_at (state self.now) q) }
     {
@@ -225,7 +225,7 @@ impl<A: Allocator> Book<A> {
         self.core.has_context(*context) && self.entry_in(context).is_none()
     }
 
-    /// What a context runs, where it doesn't wait.
+    /// What a context runs, if it doesn't wait.
     pub(crate) fn awake_in(&self, context: &Context) -> Option<Running>
         ensures some { IfSome result (λ r. IsAwake self.now context.now.lane context.now.number r) }
         ensures known { IfSome result (λ r. (r.entry.item < items self.now.wiring)
@@ -271,7 +271,7 @@ impl<A: Allocator> Book<A> {
         }
     }
 
-    /// Queues an item: true where it is accepted, false where it is pending already.
+    /// Queues an item: true if it is accepted, false if it is pending already.
     ///
     /// The error is the first of these that holds: `NoItem` (66), `Closed` (61),
     /// `HistoryFull` (60). After an error nothing is changed.
@@ -285,10 +285,10 @@ impl<A: Allocator> Book<A> {
         Ok(row.yes)
     }
 
-    /// Removes the pending entry of an item: true where there is one.
+    /// Removes the pending entry of an item: true if there is one.
     ///
     /// The error is `NoItem` (66), or else `HistoryFull` (60), which occurs only
-    /// where none is pending. After an error nothing is changed.
+    /// if none is pending. After an error nothing is changed.
     #[tactic(auto, using(crate::proofs::Answered::cancel_refused, crate::proofs::CallRows::appends_cancel))]
     pub fn cancel(&mut self, item: ItemId) -> Result<bool, BookError>
         ensures row { IfOk result (λ taken. AppendsOne self.old self.new (Cancel item) taken) }
@@ -298,7 +298,7 @@ impl<A: Allocator> Book<A> {
         Ok(row.yes)
     }
 
-    /// Asks whether an item has an unfinished entry. Where it has, the caller waits
+    /// Asks whether an item has an unfinished entry. If it has, the caller waits
     /// for it. This takes two of the free rows at most.
     ///
     /// The error is `NoItem` (66), or else `HistoryFull` (60). After an error nothing is changed.
@@ -317,8 +317,8 @@ impl<A: Allocator> Book<A> {
         }
     }
 
-    /// Tells a waiting caller whether its wait is over. The answer is `NotAsked` (65) exactly where no ask about its
-    /// item waits, and otherwise `NotYet` exactly where an unfinished entry of the item has a number below the mark. In
+    /// Tells a waiting caller whether its wait is over. The answer is `NotAsked` (65) exactly if no ask about its
+    /// item waits, and otherwise `NotYet` exactly if an unfinished entry of the item has a number below the mark. In
     /// both cases nothing is changed, and the ask is given back.
     #[tactic(auto, using(crate::proofs::Answered::told_done, crate::proofs::Answered::no_ask))]
     pub fn told(&mut self, asked: Asked) -> Told
@@ -336,10 +336,10 @@ impl<A: Allocator> Book<A> {
         }
     }
 
-    /// Asks whether a lane has an unfinished entry. Where it has, the caller waits
+    /// Asks whether a lane has an unfinished entry. If it has, the caller waits
     /// for the whole lane. This takes two of the free rows at most.
     ///
-    /// The error is `WrongLane` (64), where there is no such lane, or else
+    /// The error is `WrongLane` (64), if there is no such lane, or else
     /// `HistoryFull` (60). After an error nothing is changed.
     #[tactic(auto, using(crate::proofs::Answered::ask_lane_idle, crate::proofs::Answered::ask_lane_waits))]
     pub fn ask_lane(&mut self, q: LaneId) -> Result<LaneAsk, BookError>
@@ -356,8 +356,8 @@ impl<A: Allocator> Book<A> {
         }
     }
 
-    /// Tells a caller who waits for a whole lane whether its wait is over. The answer is `NotAsked` (65) exactly where
-    /// no ask about its lane waits, and otherwise `NotYet` exactly where an unfinished entry of the lane has a number
+    /// Tells a caller who waits for a whole lane whether its wait is over. The answer is `NotAsked` (65) exactly if
+    /// no ask about its lane waits, and otherwise `NotYet` exactly if an unfinished entry of the lane has a number
     /// below the mark. In both cases nothing is changed, and the ask is given back.
     #[tactic(auto, using(crate::proofs::Answered::told_lane_done, crate::proofs::Answered::no_ask))]
     pub fn told_lane(&mut self, asked: LaneAsked) -> LaneTold
@@ -376,9 +376,9 @@ impl<A: Allocator> Book<A> {
     }
 
     /// Starts the first pending entry of a lane whose item isn't running, in this context, and gives its item, which is
-    /// one of this lane. Where there is none it gives nothing, and nothing is changed.
+    /// one of this lane. If there is none it gives nothing, and nothing is changed.
     ///
-    /// The error is `WrongLane` (64), exactly where there is no such lane or no such context, or it runs an entry.
+    /// The error is `WrongLane` (64), exactly if there is no such lane or no such context, or it runs an entry.
     /// After an error nothing is changed.
     #[tactic(auto, using(crate::proofs::Answered::start_some, crate::proofs::Answered::start_none, crate::proofs::Answered::start_later, crate::proofs::Answered::lane_refused, crate::proofs::Answered::lane_of_book))]
     fn start_in(&mut self, context: Context) -> Result<Option<ItemId>, BookError>
@@ -398,10 +398,10 @@ impl<A: Allocator> Book<A> {
         }
     }
 
-    /// Lets what a context runs go on, where its wait is over, for an item or for a whole lane. It gives false where
+    /// Lets what a context runs go on, if its wait is over, for an item or for a whole lane. It gives false if
     /// the wait isn't over; then nothing is changed.
     ///
-    /// The error is `WrongLane` (64), exactly where there is no such lane or no such context, it runs nothing, or its
+    /// The error is `WrongLane` (64), exactly if there is no such lane or no such context, it runs nothing, or its
     /// entry doesn't wait. After an error nothing is changed.
     #[tactic(auto, using(crate::proofs::Answered::over_true, crate::proofs::Answered::over_false, crate::proofs::Answered::over_not_refused))]
     fn over_in(&mut self, context: Context) -> Result<bool, BookError>
@@ -426,9 +426,9 @@ impl<A: Allocator> Book<A> {
     }
 
     /// Starts the first pending entry of a lane whose item isn't running, in its rescuer, and gives its item, which is
-    /// one of this lane. Where there is none it gives nothing, and nothing is changed.
+    /// one of this lane. If there is none it gives nothing, and nothing is changed.
     ///
-    /// The error is `WrongLane` (64), exactly where there is no such lane or its
+    /// The error is `WrongLane` (64), exactly if there is no such lane or its
     /// rescuer runs an entry. After an error nothing is changed.
     pub fn start(&mut self, q: LaneId) -> Result<Option<ItemId>, BookError>
         ensures row { IfOk result (λ answer. AnswersStart self.old self.new q 0 answer) }
@@ -439,10 +439,10 @@ impl<A: Allocator> Book<A> {
         self.start_in(Context { lane: q, number: 0 })
     }
 
-    /// Makes what a lane's rescuer runs begin to wait for an item: true where that item has an unfinished entry.
+    /// Makes what a lane's rescuer runs begin to wait for an item: true if that item has an unfinished entry.
     ///
-    /// The error is the first of these that holds: `WrongLane` (64), where there is no such lane, its rescuer runs
-    /// nothing, or what it runs waits; `Undeclared` (62), where what runs declares no flush of the item alone;
+    /// The error is the first of these that holds: `WrongLane` (64), if there is no such lane, its rescuer runs
+    /// nothing, or what it runs waits; `Undeclared` (62), if what runs declares no flush of the item alone;
     /// `TooManyWaits` (63). After an error nothing is changed.
     #[tactic(auto, using(crate::proofs::Answered::wait_row))]
     pub fn wait(&mut self, q: LaneId, target: ItemId) -> Result<bool, BookError>
@@ -458,10 +458,10 @@ impl<A: Allocator> Book<A> {
     }
 
     /// Makes what a lane's rescuer runs begin to wait for the whole lane of an item:
-    /// true where that lane has an unfinished entry.
+    /// true if that lane has an unfinished entry.
     ///
-    /// The error is the first of these that holds: `WrongLane` (64), where there is no such lane, its rescuer runs
-    /// nothing, or what it runs waits; `Undeclared` (62), where what runs declares no flush of the whole lane of the
+    /// The error is the first of these that holds: `WrongLane` (64), if there is no such lane, its rescuer runs
+    /// nothing, or what it runs waits; `Undeclared` (62), if what runs declares no flush of the whole lane of the
     /// item; `TooManyWaits` (63). After an error nothing is changed.
     #[tactic(auto, using(crate::proofs::Answered::wait_row))]
     pub fn wait_all(&mut self, q: LaneId, target: ItemId) -> Result<bool, BookError>
@@ -476,10 +476,10 @@ impl<A: Allocator> Book<A> {
         Ok(row.yes)
     }
 
-    /// Lets what a lane's rescuer runs go on, where its wait is over, for an item or for a whole lane. It gives false
-    /// where the wait isn't over; then nothing is changed.
+    /// Lets what a lane's rescuer runs go on, if its wait is over, for an item or for a whole lane. It gives false
+    /// if the wait isn't over; then nothing is changed.
     ///
-    /// The error is `WrongLane` (64), exactly where there is no such lane, its rescuer runs nothing, or what it runs
+    /// The error is `WrongLane` (64), exactly if there is no such lane, its rescuer runs nothing, or what it runs
     /// doesn't wait. After an error nothing is changed.
     pub fn over(&mut self, q: LaneId) -> Result<bool, BookError>
         ensures row { IfOk result (λ answer. AnswersOver self.old self.new q 0 answer) }
@@ -490,7 +490,7 @@ impl<A: Allocator> Book<A> {
 
     /// Finishes what a lane's rescuer runs.
     ///
-    /// The error is `WrongLane` (64), exactly where there is no such lane, its rescuer runs nothing, or what it runs
+    /// The error is `WrongLane` (64), exactly if there is no such lane, its rescuer runs nothing, or what it runs
     /// waits. After an error nothing is changed.
     #[tactic(auto, using(crate::proofs::Answered::by_finish))]
     pub fn finish(&mut self, q: LaneId) -> Result<(), BookError>
@@ -507,9 +507,9 @@ impl<A: Allocator> Book<A> {
     }
 
     /// Starts the first pending entry of a lane whose item isn't running, in a helper, and gives its item, which is one
-    /// of this lane. Where there is none it gives nothing, and nothing is changed.
+    /// of this lane. If there is none it gives nothing, and nothing is changed.
     ///
-    /// The error is `WrongLane` (64), exactly where there is no such lane, it has no such helper, or the helper runs an
+    /// The error is `WrongLane` (64), exactly if there is no such lane, it has no such helper, or the helper runs an
     /// entry. After an error nothing is changed.
     pub fn help_start(&mut self, q: LaneId, h: u8) -> Result<Option<ItemId>, BookError>
         ensures row { IfOk result (λ answer. (0 < h) × AnswersStart self.old self.new q h answer) }
@@ -524,10 +524,10 @@ impl<A: Allocator> Book<A> {
         self.start_in(Context { lane: q, number: h })
     }
 
-    /// Makes what a helper runs begin to wait for an item: true where that item has an unfinished entry.
+    /// Makes what a helper runs begin to wait for an item: true if that item has an unfinished entry.
     ///
-    /// The error is the first of these that holds: `WrongLane` (64), where there is no such lane, it has no such
-    /// helper, the helper runs nothing, or what it runs waits; `Undeclared` (62), where what runs declares no flush of
+    /// The error is the first of these that holds: `WrongLane` (64), if there is no such lane, it has no such
+    /// helper, the helper runs nothing, or what it runs waits; `Undeclared` (62), if what runs declares no flush of
     /// the item alone; `TooManyWaits` (63). After an error nothing is changed.
     #[tactic(auto, using(crate::proofs::Answered::wait_row))]
     pub fn help_wait(&mut self, q: LaneId, h: u8, target: ItemId) -> Result<bool, BookError>
@@ -548,10 +548,10 @@ impl<A: Allocator> Book<A> {
     }
 
     /// Makes what a helper runs begin to wait for the whole lane of an item: true
-    /// where that lane has an unfinished entry.
+    /// if that lane has an unfinished entry.
     ///
-    /// The error is the first of these that holds: `WrongLane` (64), where there is no such lane, it has no such
-    /// helper, the helper runs nothing, or what it runs waits; `Undeclared` (62), where what runs declares no flush of
+    /// The error is the first of these that holds: `WrongLane` (64), if there is no such lane, it has no such
+    /// helper, the helper runs nothing, or what it runs waits; `Undeclared` (62), if what runs declares no flush of
     /// the whole lane of the item; `TooManyWaits` (63). After an error nothing is changed.
     #[tactic(auto, using(crate::proofs::Answered::wait_row))]
     pub fn help_wait_all(&mut self, q: LaneId, h: u8, target: ItemId) -> Result<bool, BookError>
@@ -571,10 +571,10 @@ impl<A: Allocator> Book<A> {
         Ok(row.yes)
     }
 
-    /// Lets what a helper runs go on, where its wait is over, for an item or for a whole lane. It gives false where the
+    /// Lets what a helper runs go on, if its wait is over, for an item or for a whole lane. It gives false if the
     /// wait isn't over; then nothing is changed.
     ///
-    /// The error is `WrongLane` (64), exactly where there is no such lane, it has no such helper, the helper runs
+    /// The error is `WrongLane` (64), exactly if there is no such lane, it has no such helper, the helper runs
     /// nothing, or what it runs doesn't wait. After an error nothing is changed.
     pub fn help_over(&mut self, q: LaneId, h: u8) -> Result<bool, BookError>
         ensures row { IfOk result (λ answer. (0 < h) × AnswersOver self.old self.new q h answer) }
@@ -589,7 +589,7 @@ impl<A: Allocator> Book<A> {
 
     /// Finishes what a helper runs.
     ///
-    /// The error is `WrongLane` (64), exactly where there is no such lane, it has no such helper, the helper runs
+    /// The error is `WrongLane` (64), exactly if there is no such lane, it has no such helper, the helper runs
     /// nothing, or what it runs waits. After an error nothing is changed.
     #[tactic(auto, using(crate::proofs::Answered::by_finish))]
     pub fn help_finish(&mut self, q: LaneId, h: u8) -> Result<(), BookError>
@@ -637,7 +637,7 @@ impl<A: Allocator> Book<A> {
         self.closed && self.is_idle()
     }
 
-    /// Whether some ask is waiting. Where none is, for each item and each lane as
+    /// Whether some ask is waiting. If none is, for each item and each lane as
     /// many callers were told as asked about it with `yes`.
     pub fn has_waiting_asks(&self) -> bool
         ensures some { IsTrue result ↔ (0 < all_asks_waiting self.now.rows) }
@@ -654,14 +654,14 @@ impl<A: Allocator> Book<A> {
         self.core.is_pending(item)
     }
 
-    /// Whether an entry is pending on a lane; false where there is no such lane.
+    /// Whether an entry is pending on a lane; false if there is no such lane.
     pub fn is_pending_on(&self, q: LaneId) -> bool
         ensures { IsTrue result ↔ HasPendingOn self.now q }
     {
         self.core.first_on(q).is_some()
     }
 
-    /// The item that a context runs; nothing where it runs none, or there is no such lane or no such context.
+    /// The item that a context runs; nothing if it runs none, or there is no such lane or no such context.
     pub fn running_in(&self, context: &Context) -> Option<ItemId>
         ensures some { IfSome result (λ item. (r : Running) × LaneRuns self.now context.now.lane context.now.number r
             × (r.entry.item ≡ item)) }
@@ -673,7 +673,7 @@ impl<A: Allocator> Book<A> {
         Some(running.entry.item)
     }
 
-    /// The target of the wait of a context, where it waits for an item alone, as `waiting`, or where it waits for a
+    /// The target of the wait of a context, if it waits for an item alone, as `waiting`, or if it waits for a
     /// whole lane, as `waiting_all`.
     pub fn waiting_in(&self, context: &Context, whole: bool) -> Option<ItemId>
         ensures some { IfSome result (λ target. (f : Waiting)
@@ -691,7 +691,7 @@ impl<A: Allocator> Book<A> {
         }
     }
 
-    /// The item that a lane's rescuer runs; nothing where it runs none, or there is no such lane.
+    /// The item that a lane's rescuer runs; nothing if it runs none, or there is no such lane.
     pub fn running(&self, q: LaneId) -> Option<ItemId>
         ensures some { IfSome result (λ item. (r : Running) × LaneRuns self.now q 0 r × (r.entry.item ≡ item)) }
         ensures known { IfSome result (λ item. (item < items self.now.wiring) × (lane_of self.now.wiring item ≡ q)) }
@@ -700,8 +700,8 @@ impl<A: Allocator> Book<A> {
         self.running_in(&Context { lane: q, number: 0 })
     }
 
-    /// The item that a lane's rescuer waits for, where it waits for an item alone; nothing where it waits for a whole
-    /// lane, doesn't wait, runs none, or where there is no such lane.
+    /// The item that a lane's rescuer waits for, if it waits for an item alone; nothing if it waits for a whole
+    /// lane, doesn't wait, runs none, or if there is no such lane.
     pub fn waiting(&self, q: LaneId) -> Option<ItemId>
         ensures some { IfSome result (λ target. (f : Waiting)
             × IsWaitingBy self.now q 0 false f
@@ -711,8 +711,8 @@ impl<A: Allocator> Book<A> {
         self.waiting_in(&Context { lane: q, number: 0 }, false)
     }
 
-    /// The item for whose whole lane a lane's rescuer waits; nothing where it waits for an item alone, doesn't wait,
-    /// runs none, or where there is no such lane.
+    /// The item for whose whole lane a lane's rescuer waits; nothing if it waits for an item alone, doesn't wait,
+    /// runs none, or if there is no such lane.
     pub fn waiting_all(&self, q: LaneId) -> Option<ItemId>
         ensures some { IfSome result (λ target. (f : Waiting) × IsWaitingBy self.now q 0 true f × (f.target ≡ target)) }
         ensures none { IfNone result ((f : Waiting) → ¬ IsWaitingBy self.now q 0 true f) }
@@ -720,7 +720,7 @@ impl<A: Allocator> Book<A> {
         self.waiting_in(&Context { lane: q, number: 0 }, true)
     }
 
-    /// The item that a helper runs; nothing where it runs none, or there is no such lane or no such helper.
+    /// The item that a helper runs; nothing if it runs none, or there is no such lane or no such helper.
     pub fn help_running(&self, q: LaneId, h: u8) -> Option<ItemId>
         ensures some { IfSome result (λ item. (r : Running) × HelperRuns self.now q h r × (r.entry.item ≡ item)) }
         ensures known { IfSome result (λ item. (item < items self.now.wiring) × (lane_of self.now.wiring item ≡ q)) }
@@ -732,8 +732,8 @@ impl<A: Allocator> Book<A> {
         self.running_in(&Context { lane: q, number: h })
     }
 
-    /// The item that a helper waits for, where it waits for an item alone; nothing where it waits for a whole lane,
-    /// doesn't wait, runs none, or where there is no such lane or no such helper.
+    /// The item that a helper waits for, if it waits for an item alone; nothing if it waits for a whole lane,
+    /// doesn't wait, runs none, or if there is no such lane or no such helper.
     pub fn help_waiting(&self, q: LaneId, h: u8) -> Option<ItemId>
         ensures some { IfSome result (λ target. (f : Waiting)
             × HelperWaitsBy self.now q h false f
@@ -746,8 +746,8 @@ impl<A: Allocator> Book<A> {
         self.waiting_in(&Context { lane: q, number: h }, false)
     }
 
-    /// The item for whose whole lane a helper waits; nothing where it waits for an item alone, doesn't wait, runs none,
-    /// or where there is no such lane or no such helper.
+    /// The item for whose whole lane a helper waits; nothing if it waits for an item alone, doesn't wait, runs none,
+    /// or if there is no such lane or no such helper.
     pub fn help_waiting_all(&self, q: LaneId, h: u8) -> Option<ItemId>
         ensures some { IfSome result (λ target. (f : Waiting)
             × HelperWaitsBy self.now q h true f
@@ -760,14 +760,14 @@ impl<A: Allocator> Book<A> {
         self.waiting_in(&Context { lane: q, number: h }, true)
     }
 
-    /// How many helpers a lane has, at most 8; 0 where there is no such lane.
+    /// How many helpers a lane has, at most 8; 0 if there is no such lane.
     pub fn helpers_of(&self, q: LaneId) -> u8
         ensures { result ≡ helpers_of self.now.wiring q }
     {
         self.core.helpers_of(q)
     }
 
-    /// The lane of an item, where there is such an item.
+    /// The lane of an item, if there is such an item.
     pub fn lane_of(&self, item: ItemId) -> Option<LaneId>
         ensures some { IfSome result (λ q. (item < items self.now.wiring) × (q ≡ lane_of self.now.wiring item)) }
         ensures none { IfNone result (items self.now.wiring ≤ item) }

@@ -84,7 +84,7 @@ fn may_help<A: Allocator>(
     says(core, deed, yes) && makes(core, &Step::Help(helper.lane, helper.number, *deed), number)
 }
 
-/// Whether a row may come next, where this many asks about its item or its lane are waiting.
+/// Whether a row may come next, if this many asks about its item or its lane are waiting.
 fn may_come<A: Allocator>(core: &Core<A>, waiting: u32, row: &Row) -> bool
     requires { core.now.state.next < 4294967295 }
     ensures { IsTrue result
@@ -159,13 +159,13 @@ fn make<A: Allocator>(core: &mut Core<A>, step: Option<Step>)
     }
 }
 
-/// Judges the rows that bytes hold, on a machine on which nothing has happened. Where they are a legal history, it
+/// Judges the rows that bytes hold, on a machine on which nothing has happened. If they are a legal history, it
 /// gives how many rows there are, and the machine is then their replay.
 ///
-/// The error has the place of the lowest row at fault, from 1, and the cause: `BadRow` (75), where the bytes there are
-/// fewer than 12 or hold no row, or `NotLegal` (76), where the row may not follow those before it. The machine is then
+/// The error has the place of the lowest row at fault, from 1, and the cause: `BadRow` (75), if the bytes there are
+/// fewer than 12 or hold no row, or `NotLegal` (76), if the row may not follow those before it. The machine is then
 /// the replay of the rows before it. Or the error is `OutOfMemory` (20) at 0, which comes before any row and can't
-/// occur where there are no items and no lanes.
+/// occur if there are no items and no lanes.
 pub fn check_rows<A: Allocator + Copy>(
     alloc: A,
     core: &mut Core<A>,

@@ -34,7 +34,7 @@ ghost use Rattle.wq_history.specs.Waits.{Condition, IsMet, BecomesMet, WakesBy, 
 ghost use Rattle.wq_history.specs.Waits.{by_closing};
 ghost use Rattle.wq_history.specs.Sleeping.{Crew, Moves, IsCovered};
 
-/// A history is legal exactly where it is legal without its last row, and that row may follow the others.
+/// A history is legal exactly if it is legal without its last row, and that row may follow the others.
 pub fn a_history_is_legal_row_by_row()
     ensures last { (w : Wiring) (rows : List Row) (row : Row) →
         IsLegal w (rows ++ (row ∷ [])) ↔ (IsLegal w rows × MayFollow w rows row) }
@@ -46,14 +46,14 @@ pub fn the_steps_of_a_legal_history_are_a_run()
     ensures { (w : Wiring) (rows : List Row) → IsLegal w rows → IsRun w (steps_of rows) }
 {}
 
-/// Where an assignment is safe, the state that a legal history leaves isn't stuck,
+/// If an assignment is safe, the state that a legal history leaves isn't stuck,
 /// with at most 8 helpers for each lane.
 pub fn a_legal_history_under_a_safe_assignment_is_not_stuck()
     ensures { (w : Wiring) (rows : List Row) → IsSafe w → w.helpers ≤ max_helpers → IsLegal w rows →
         ¬ IsStuck w (state_after w rows) }
 {}
 
-/// Where nothing more is queued after a legal history, rescuers and helpers make at most as many steps as there is work
+/// If nothing more is queued after a legal history, rescuers and helpers make at most as many steps as there is work
 /// left, whatever the order, and whatever is cancelled in between.
 pub fn rescuer_steps_after_a_legal_history_are_bounded()
     ensures { (w : Wiring) (rows : List Row) (more : List Step) → IsLegal w rows →
@@ -62,7 +62,7 @@ pub fn rescuer_steps_after_a_legal_history_are_bounded()
 {}
 
 /// Some rows need no free row: those of rescuers and helpers, of cancellations that remove an entry, and of callers who
-/// are told. Where a history goes on with such rows, there are no more of them than rows are kept.
+/// are told. If a history goes on with such rows, there are no more of them than rows are kept.
 pub fn rows_are_kept_for_all_that_needs_none()
     ensures { (w : Wiring) (rows more : List Row) → IsLegal w (rows ++ more) →
         All (λ (row : Row). rows_needed w row.event row.yes ≡ 0) more → length more ≤ reserved w rows }
@@ -107,7 +107,7 @@ pub fn an_event_wakes_enough()
     ensures closing { (old : BookView) → WakesEnough old (record old { closed = true }) by_closing }
 {}
 
-/// Where enough are woken, somebody is woken for each condition that becomes true.
+/// If enough are woken, somebody is woken for each condition that becomes true.
 pub fn whoever_can_go_on_is_woken()
     ensures { (old new : BookView) (wake : Wake) (c : Condition) → WakesEnough old new wake → BecomesMet old new c →
         WakesOne wake (sleepers_for c) }

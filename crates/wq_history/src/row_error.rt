@@ -38,7 +38,7 @@ impl RowFault {
 #[derive(Clone, Copy, Debug, PartialEq, Eq, Error)]
 #[error("row {at}: {why}")]
 pub struct RowError {
-    /// The place of the row, from 1; 0 where memory ran out.
+    /// The place of the row, from 1; 0 if memory ran out.
     pub at: u32,
     /// What is wrong with it.
     pub why: RowFault,

@@ -51,7 +51,7 @@ pub(crate) fn is_lane<A: Allocator>(core: &Core<A>, q: LaneId) -> bool
     usize::from(q.get()) < core.lanes()
 }
 
-/// Whether a lane has an unfinished entry; false where there is no such lane.
+/// Whether a lane has an unfinished entry; false if there is no such lane.
 pub(crate) fn is_busy<A: Allocator>(core: &Core<A>, q: LaneId) -> bool
     ensures { IsTrue result ↔ IsBusy (lane_at core.now.state q) }
 {

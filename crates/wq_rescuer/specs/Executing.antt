@@ -132,8 +132,8 @@ RefusesQueueByBody w counts i Closed = (i < items w) × SeatHasRoom counts
 RefusesQueueByBody w counts i HistoryFull = i < items w
 RefusesQueueByBody w counts i _ = ⊥
 
--- a rescuer of lane q, whose seat has these counts when it ends: 64, where there is no such lane or another caller
--- drove it; or else 60, where there is such a lane and the seat is full
+-- a rescuer of lane q, whose seat has these counts when it ends: 64, if there is no such lane or another caller
+-- drove it; or else 60, if there is such a lane and the seat is full
 abbrev pub RefusesRescue : Wiring → ℕ → List ℕ → CallError → Type 0
 RefusesRescue w q seat e = call_code e ≢ 64 → (call_code e ≡ 60) × (q < w.lanes) × (seat_rows ≤ sum seat)
 
@@ -145,9 +145,9 @@ RefusesServe w q c seat e = call_code e ≢ 64 → (call_code e ≡ 60) × HasCo
 abbrev pub RefusesHelper : Wiring → ℕ → ℕ → List ℕ → CallError → Type 0
 RefusesHelper w q h seat e = call_code e ≢ 64 → (call_code e ≡ 60) × IsHelper w q h × (seat_rows ≤ sum seat)
 
--- context c of lane q was refused (64), where it executed by this body and turned these counts into those: when it was
+-- context c of lane q was refused (64), if it executed by this body and turned these counts into those: when it was
 -- to start an entry, which something that the lock may protect refuses, since the context runs one already or isn't
--- there; or when it was to finish what its body had run last. A context that is there comes to this only where another
+-- there; or when it was to finish what its body had run last. A context that is there comes to this only if another
 -- caller drives it, too
 abbrev pub WasDrivenIn : Wiring → ℕ → ℕ → ℕ → (ℕ → Result (Unit {0}) BodyFault → List ℕ → List ℕ → Type 0) → List ℕ
     → List ℕ

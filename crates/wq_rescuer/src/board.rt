@@ -28,7 +28,7 @@ pub(crate) struct Jobs<J: Drop, E: Drop, A: Allocator> {
 
 impl<J: Drop, E: Drop, A: Allocator + Copy> Jobs<J, E, A> {
     /// Room for this many jobs, of which there is none yet. The only error is out of
-    /// memory (20), and never where there is to be no job.
+    /// memory (20), and never if there is to be no job.
     pub(crate) fn new(alloc: A, count: usize) -> Result<Self, AllocError>
         ensures room { IfOk result (λ r. HasRoomFor count (vec_len r.waiting) (vec_capacity r.waiting)
             × HasRoomFor count (vec_len r.ends) (vec_capacity r.ends)) }
@@ -50,7 +50,7 @@ pub(crate) struct Board<N: Naming, A: Allocator, B: Body + Drop, C: Caller + Dro
 
 impl<N: Naming, A: Allocator + Copy, B: Body + Drop, C: Caller + Drop> Board<N, A, B, C> {
     /// Room for the jobs of this many contexts and callers, of which there is none yet. The only error is out of memory
-    /// (20), and never where there is to be no job.
+    /// (20), and never if there is to be no job.
     pub(crate) fn new(alloc: A, contexts: usize, callers: usize) -> Result<Self, AllocError>
         ensures contexts { IfOk result (λ r.
             HasRoomFor contexts (vec_len r.contexts.waiting) (vec_capacity r.contexts.waiting)

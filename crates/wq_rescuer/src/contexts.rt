@@ -44,7 +44,7 @@ fn add_contexts_on<A: Allocator>(
 }
 
 /// Lists the contexts of a runtime, workqueue by workqueue: the rescuer, then its helpers. The only error is out of
-/// memory (20), and never where there is none.
+/// memory (20), and never if there is none.
 pub fn contexts_of<N: Naming, A: Allocator>(
     alloc: A,
     runtime: &WqRuntime<N, A>,

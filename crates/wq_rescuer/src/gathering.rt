@@ -31,7 +31,7 @@ pub(crate) struct Back<N: Naming, A: Allocator, B: Body + Drop, C: Caller + Drop
     pub(crate) results: Vec<Result<(), CallError>, A>,
 }
 
-/// How many executions a context finished, counted as 0 where it was refused.
+/// How many executions a context finished, counted as 0 if it was refused.
 fn count_finished(answer: &Result<Rescued, CallError>) -> u64
     ensures count { result ≡ finished_by answer.now }
     ensures few { result < 4294967296 }
@@ -42,7 +42,7 @@ fn count_finished(answer: &Result<Rescued, CallError>) -> u64
     }
 }
 
-/// How many of these executions ended with a fault, counted as 0 where the context was refused.
+/// How many of these executions ended with a fault, counted as 0 if the context was refused.
 fn count_faults(answer: &Result<Rescued, CallError>) -> u64
     ensures count { result ≡ faults_by answer.now }
     ensures few { result < 4294967296 }
@@ -142,7 +142,7 @@ fn gather_callers<N: Naming, A: Allocator, C: Caller + Drop>(
     }
 }
 
-/// Puts together what came back of the contexts and of the callers, where all of it came back. The last one came back
+/// Puts together what came back of the contexts and of the callers, if all of it came back. The last one came back
 /// first, of either.
 pub(crate) fn gather<N: Naming, A: Allocator, B: Body + Drop, C: Caller + Drop>(
     board: Board<N, A, B, C>,
@@ -254,7 +254,7 @@ fn hand_back_callers<N: Naming, A: Allocator, C: Caller + Drop>(
     }
 }
 
-/// Hands back, where a thread couldn't be made, what came back and the jobs that no
+/// Hands back, if a thread couldn't be made, what came back and the jobs that no
 /// thread took. There is room for all of it.
 pub(crate) fn hand_back<N: Naming, A: Allocator, B: Body + Drop, C: Caller + Drop>(
     board: Board<N, A, B, C>,

@@ -6,7 +6,7 @@
 //! wait for them, and gather what they hand back.
 //!
 //! What the layer above relies on: for each item, a context's seat counts as finished what its body ran, or no more
-//! than that if the context was refused. Where everything was run in threads, that holds of each context's seat, whose
+//! than that if the context was refused. If everything was run in threads, that holds of each context's seat, whose
 //! body ran items of its own workqueue alone, and the sums are those of the contexts that weren't refused.
 #![tactic(auto)]
 

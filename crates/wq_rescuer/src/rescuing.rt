@@ -91,8 +91,8 @@ fn execute<N: Naming, A: Allocator, R: Wait, B: Body>(
 /// what the seat counts as finished has risen by what the body ran.
 ///
 /// The body has run nothing before, and can count each item. It runs only items of this workqueue. The error is
-/// `WrongLane` (64), where there is no such context, or `HistoryFull` (60), where the seat is full, or `WrongLane`
-/// (64), where another caller drove the same context. Then what the seat counts as finished has risen by no more than
+/// `WrongLane` (64), if there is no such context, or `HistoryFull` (60), if the seat is full, or `WrongLane`
+/// (64), if another caller drove the same context. Then what the seat counts as finished has risen by no more than
 /// what the body ran.
 ///
 /// What the seat counts besides is what the runs of the body may change, and nothing else.
@@ -161,8 +161,8 @@ pub fn serve<N: Naming, A: Allocator, R: Wait, B: Body>(
 /// the seat counts as finished has risen by what the body ran.
 ///
 /// The body has run nothing before, and can count each item. It runs only items of this
-/// workqueue. The error is `WrongLane` (64), where there is no such workqueue, or `HistoryFull`
-/// (60), where the seat is full, or `WrongLane` (64), where another caller drove the same
+/// workqueue. The error is `WrongLane` (64), if there is no such workqueue, or `HistoryFull`
+/// (60), if the seat is full, or `WrongLane` (64), if another caller drove the same
 /// rescuer. Then what the seat counts as finished has risen by no more than what the body ran.
 pub fn rescue<N: Naming, A: Allocator, R: Wait, B: Body>(
     rt: &R,
@@ -194,8 +194,8 @@ pub fn rescue<N: Naming, A: Allocator, R: Wait, B: Body>(
 /// for a helper what `rescue` does for the rescuer.
 ///
 /// The body has run nothing before, and can count each item. It runs only items of this workqueue.
-/// The error is `WrongLane` (64), where the workqueue has no helper `h`, or `HistoryFull` (60),
-/// where the seat is full, or `WrongLane` (64), where another caller drove the same helper. Then
+/// The error is `WrongLane` (64), if the workqueue has no helper `h`, or `HistoryFull` (60),
+/// if the seat is full, or `WrongLane` (64), if another caller drove the same helper. Then
 /// what the seat counts as finished has risen by no more than what the body ran.
 pub fn help<N: Naming, A: Allocator, R: Wait, B: Body>(
     rt: &R,

@@ -77,7 +77,7 @@ pub struct Ran<N: Naming, A: Allocator, B: Body + Drop, C: Caller + Drop> {
     pub faults: u64,
 }
 
-/// What is handed back where not everything was run.
+/// What is handed back if not everything was run.
 #[derive(Drop)]
 pub struct RunFault<N: Naming, A: Allocator, B: Body + Drop, C: Caller + Drop> {
     /// The seats that were made, except for that of a thread that couldn't be made.
@@ -153,8 +153,8 @@ fn make_jobs<N: Naming, A: Allocator, B: Body + Drop, C: Caller + Drop>(
 /// its helpers, and so are the bodies.
 ///
 /// No body has run anything yet, and each can count all items. The error is the first of these that holds:
-/// `BodiesDiffer` (73), where there isn't one body for each context; `TooManySeats` (70) or `OutOfMemory` (20), before
-/// any thread starts; `NoThread` (22), where a thread can't be made. Then no further thread is started, and those that
+/// `BodiesDiffer` (73), if there isn't one body for each context; `TooManySeats` (70) or `OutOfMemory` (20), before
+/// any thread starts; `NoThread` (22), if a thread can't be made. Then no further thread is started, and those that
 /// run are ended as above. All bodies and callers are handed back, except that after `NoThread` what that thread was to
 /// take is lost: its seat, so that `WqRuntime::close` refuses from then on (72), and its body or its caller.
 ///

@@ -44,7 +44,7 @@ pub(crate) struct NoSpace<N: Naming, A: Allocator> {
 
 impl<N: Naming, A: Allocator + Copy, B: Body + Drop, C: Caller + Drop> Space<N, A, B, C> {
     /// Room for these contexts and this many callers, without a seat. The only error is out of memory (20), and never
-    /// where there is neither a context nor a caller.
+    /// if there is neither a context nor a caller.
     fn new(alloc: A, contexts: Vec<Context, A>, callers: usize) -> Result<Self, AllocError>
         requires { vec_len contexts + callers < 2 ^ 64 }
         ensures all { IfOk result (λ r. r.contexts.items ≡ contexts.items) }
@@ -106,7 +106,7 @@ fn make_seats<N: Naming, A: Allocator + Copy, R: Wait>(
 }
 
 /// Lists the contexts of a runtime, which are so many, and makes room for them and for this many callers. The only
-/// error is out of memory (20), and never where there is neither a context nor a caller.
+/// error is out of memory (20), and never if there is neither a context nor a caller.
 fn take_room<N: Naming, A: Allocator + Copy, B: Body + Drop, C: Caller + Drop>(
     alloc: A,
     runtime: &WqRuntime<N, A>,

@@ -1,7 +1,7 @@
 //! Threads: one for each context, and then one for each caller.
 //!
 //! Each thread is started one level deeper than the one before, and joined on the way back: the callers first, and
-//! after `destroy` the contexts. So they come back in the order in which they were started, the last one first. Where a
+//! after `destroy` the contexts. So they come back in the order in which they were started, the last one first. If a
 //! thread can't be made, no further one is started, and what it was to take is lost. The stack is as deep as there are
 //! contexts and callers.
 
@@ -21,7 +21,7 @@ use std::thread::{Scope, Threads};
 use wq_api::{Naming, WqRuntime};
 
 /// Starts the callers that no thread has taken yet, and waits until all of them have made their calls. It says whether
-/// each has had a thread; where one hasn't, it is lost.
+/// each has had a thread; if one hasn't, it is lost.
 fn run_callers<
     's,
     E,
@@ -58,7 +58,7 @@ fn run_callers<
 }
 
 /// Starts the contexts that no thread has taken yet, and then the callers. It waits until the callers have made their
-/// calls and the contexts have nothing left to do. It says whether each has had a thread; where one hasn't, it is lost.
+/// calls and the contexts have nothing left to do. It says whether each has had a thread; if one hasn't, it is lost.
 fn run_contexts<
     's,
     E,
@@ -113,7 +113,7 @@ fn run_contexts<
 }
 
 /// Starts all threads, and waits for all of them. It hands back the board, and says whether each context and each
-/// caller has had a thread; where one hasn't, it is lost.
+/// caller has had a thread; if one hasn't, it is lost.
 pub(crate) fn run_threads<
     N: Naming + Send + Sync,
     A: Allocator + Send + Sync,

@@ -56,7 +56,7 @@ impl<'a, N: Naming, A: Allocator> Work<'a, N, A> {
     }
 
     /// States what holds of the counts of its seat: there are 22 for each item, or
-    /// for each workqueue where there are more of those.
+    /// for each workqueue if there are more of those.
     pub fn holds(&self)
         ensures { HasCountsOf (slots N.wiring) self.now.seat.now }
     {
@@ -70,10 +70,10 @@ impl<'a, N: Naming, A: Allocator> Work<'a, N, A> {
         self.item
     }
 
-    /// Queues an item: true where it wasn't pending, false where it was.
+    /// Queues an item: true if it wasn't pending, false if it was.
     ///
-    /// The error is the first of these that holds: `NoItem` (66); `HistoryFull` (60), where the seat is full; `Closed`
-    /// (61); `HistoryFull` (60), where fewer rows are free than it needs: 1 where the item is pending, else 3, and 2
+    /// The error is the first of these that holds: `NoItem` (66); `HistoryFull` (60), if the seat is full; `Closed`
+    /// (61); `HistoryFull` (60), if fewer rows are free than it needs: 1 if the item is pending, else 3, and 2
     /// more for each flush that it declares. After an error nothing is changed or counted.
     pub fn queue<R: Wait>(&mut self, rt: &R, item: ItemId) -> Result<bool, CallError>
         ensures took { GivesYes
@@ -91,9 +91,9 @@ impl<'a, N: Naming, A: Allocator> Work<'a, N, A> {
         self.runtime.queue_item(rt, self.seat, item)
     }
 
-    /// Removes the pending entry of an item: true where one was pending.
+    /// Removes the pending entry of an item: true if one was pending.
     ///
-    /// The error is `NoItem` (66), or else `HistoryFull` (60), where the seat is full, or nothing is pending and no row
+    /// The error is `NoItem` (66), or else `HistoryFull` (60), if the seat is full, or nothing is pending and no row
     /// is free. After an error nothing is changed or counted.
     pub fn cancel<R: Wait>(&mut self, rt: &R, item: ItemId) -> Result<bool, CallError>
         ensures took { GivesYes
@@ -112,11 +112,11 @@ impl<'a, N: Naming, A: Allocator> Work<'a, N, A> {
     }
 
     /// Waits until none of an item's entries that were queued before the call is
-    /// unfinished: true where one was when the wait began.
+    /// unfinished: true if one was when the wait began.
     ///
-    /// The error is the first of these that holds: `HistoryFull` (60), where the seat is full; `Undeclared` (62), where
-    /// the running item declares no flush of this one alone; `TooManyWaits` (63), where it has made as many as it
-    /// declares, of both kinds. Then nothing is changed or counted. `WrongLane` (64) comes only where another caller
+    /// The error is the first of these that holds: `HistoryFull` (60), if the seat is full; `Undeclared` (62), if
+    /// the running item declares no flush of this one alone; `TooManyWaits` (63), if it has made as many as it
+    /// declares, of both kinds. Then nothing is changed or counted. `WrongLane` (64) comes only if another caller
     /// drives the same context.
     pub fn flush<R: Wait>(&mut self, rt: &R, target: ItemId) -> Result<bool, CallError>
         ensures counted { IfOk result (λ unfinished. HasContext N.wiring self.old.context.lane self.old.context.number
@@ -147,12 +147,12 @@ impl<'a, N: Naming, A: Allocator> Work<'a, N, A> {
     }
 
     /// Waits until none of the entries that were queued before the call on an item's workqueue is unfinished: true
-    /// where one was when the wait began.
+    /// if one was when the wait began.
     ///
-    /// The error is the first of these that holds: `HistoryFull` (60), where the seat is full; `Undeclared` (62), where
-    /// the running item declares no flush of the whole workqueue of this very item; `TooManyWaits` (63), where it has
+    /// The error is the first of these that holds: `HistoryFull` (60), if the seat is full; `Undeclared` (62), if
+    /// the running item declares no flush of the whole workqueue of this very item; `TooManyWaits` (63), if it has
     /// made as many flushes as it declares, of both kinds. Then nothing is changed or counted. `WrongLane` (64) comes
-    /// only where another caller drives the same context as this body.
+    /// only if another caller drives the same context as this body.
     pub fn flush_wq<R: Wait>(&mut self, rt: &R, target: ItemId) -> Result<bool, CallError>
         ensures counted { IfOk result (λ unfinished. HasContext N.wiring self.old.context.lane self.old.context.number
             × (target < items N.wiring)

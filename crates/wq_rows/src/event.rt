@@ -53,7 +53,7 @@ pub struct Row {
     /// the item had an unfinished entry; for WaitAll, whether the lane of the item had one; for AskLane, whether the
     /// lane had one; for a helper's step what it is for the rescuer's; for all others true.
     pub yes: bool,
-    /// The number of the entry that was queued, removed, started or finished; the mark of a wait or an ask. 0 where
+    /// The number of the entry that was queued, removed, started or finished; the mark of a wait or an ask. 0 if
     /// nothing was queued or removed.
     pub number: u32,
 }
@@ -118,7 +118,7 @@ impl Event {
         }
     }
 
-    /// The number of its lane; 0 where it has none.
+    /// The number of its lane; 0 if it has none.
     #[inline(always)]
     pub(crate) fn lane(&self) -> u16
         ensures { result ≡ lane_in self.now }
@@ -137,7 +137,7 @@ impl Event {
         }
     }
 
-    /// The number of the helper that made its step; 0 where none did.
+    /// The number of the helper that made its step; 0 if none did.
     #[inline(always)]
     pub(crate) fn helper(&self) -> u8
         ensures { result ≡ helper_in self.now }

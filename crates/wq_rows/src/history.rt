@@ -36,7 +36,7 @@ impl<A: Allocator> Model for History<A> {
 
 impl<A: Allocator> History<A> {
     /// A history without rows, with room for this many. It takes memory once, 12 bytes for each of them (which is
-    /// tested). The only error is out of memory, which can't occur where there is room for none.
+    /// tested). The only error is out of memory, which can't occur if there is room for none.
     pub fn new(alloc: A, room: u32) -> Result<Self, AllocError>
         requires { room ≤ max_rows }
         ensures history { IfOk result (λ h. h ≡ record { rows = []; room = room }) }

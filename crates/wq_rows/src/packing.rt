@@ -3,10 +3,10 @@
 //! | Bytes | What they hold |
 //! |---|---|
 //! | 0 | the kind, 1 to 12: Queue, Cancel, Start, Wait, Over, Finish, Ask, Told, WaitAll, OverAll, AskLane, ToldLane |
-//! | 1 | 1 where the answer is yes, else 0; Start, Over, OverAll, Finish, Told and ToldLane always have yes |
+//! | 1 | 1 if the answer is yes, else 0; Start, Over, OverAll, Finish, Told and ToldLane always have yes |
 //! | 2, 3 | the item, or the target of Wait, Over, WaitAll and OverAll; 0 for AskLane and ToldLane |
 //! | 4, 5 | the lane; 0 for Queue, Cancel, Ask and Told |
-//! | 6 | the helper that made the step, 1 to 8, for kinds 3 to 6, 9 and 10; 0 where none did |
+//! | 6 | the helper that made the step, 1 to 8, for kinds 3 to 6, 9 and 10; 0 if none did |
 //! | 7 | 0 |
 //! | 8 to 11 | the number of the row |
 //!
@@ -69,7 +69,7 @@ fn answer_of(byte: u8) -> Option<bool>
     }
 }
 
-/// The step of a helper of a kind and an item, where it may have this answer.
+/// The step of a helper of a kind and an item, if it may have this answer.
 fn help_step_of(kind: u8, item: ItemId, yes: bool) -> Option<HelpStep>
     ensures kind { IfSome result (λ step. help_kind step ≡ kind) }
     ensures item { IfSome result (λ step. deed_item step ≡ item) }
@@ -89,7 +89,7 @@ fn help_step_of(kind: u8, item: ItemId, yes: bool) -> Option<HelpStep>
 }
 
 /// The event of a helper of this number, by its kind, its item and the number of its
-/// lane, where it may have this answer.
+/// lane, if it may have this answer.
 fn help_of(kind: u8, item: ItemId, lane: u16, helper: u8, yes: bool) -> Option<Event>
     requires { 0 < helper }
     ensures kind { IfSome result (λ event. kind_of event ≡ kind) }
@@ -108,7 +108,7 @@ fn help_of(kind: u8, item: ItemId, lane: u16, helper: u8, yes: bool) -> Option<E
     Some(Event::Help(LaneId::new(lane), helper, step))
 }
 
-/// The event of a kind, an item and the number of a lane, which isn't a helper's, where it may have this answer. The
+/// The event of a kind, an item and the number of a lane, which isn't a helper's, if it may have this answer. The
 /// item of an event that has none is 0, and so is its lane.
 fn event_of(kind: u8, item: ItemId, lane: u16, yes: bool) -> Option<Event>
     ensures kind { IfSome result (λ event. kind_of event ≡ kind) }
@@ -139,7 +139,7 @@ fn event_of(kind: u8, item: ItemId, lane: u16, yes: bool) -> Option<Event>
     }
 }
 
-/// The event of a kind, an item, the number of a lane and that of a helper, 0 for none, where it may have this answer.
+/// The event of a kind, an item, the number of a lane and that of a helper, 0 for none, if it may have this answer.
 fn event_by(kind: u8, item: ItemId, lane: u16, helper: u8, yes: bool) -> Option<Event>
     ensures kind { IfSome result (λ event. kind_of event ≡ kind) }
     ensures item { IfSome result (λ event. item_in event ≡ item) }
@@ -157,7 +157,7 @@ fn event_by(kind: u8, item: ItemId, lane: u16, helper: u8, yes: bool) -> Option<
     }
 }
 
-/// Unpacks the row that these bytes hold; none exactly where they hold no row.
+/// Unpacks the row that these bytes hold; none exactly if they hold no row.
 pub fn unpack(bytes: &[u8]) -> Option<Row>
     ensures some { IfSome result (λ row. IsPackedRow bytes.now row) }
     ensures none { IfNone result ((row : RowValue) → ¬ IsPackedRow bytes.now row) }

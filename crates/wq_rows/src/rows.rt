@@ -47,7 +47,7 @@ fn hold_rows(bytes: &[u8]) -> bool
 }
 
 impl<'r> Rows<'r> {
-    /// The rows that these bytes hold; none exactly where they hold no rows: 12 of
+    /// The rows that these bytes hold; none exactly if they hold no rows: 12 of
     /// them are no row, or fewer than 12 are left at the end.
     pub fn of(bytes: &'r [u8]) -> Option<Self>
         ensures some { IfSome result (λ rows. IsStored bytes.now rows) }

@@ -31,10 +31,10 @@ pub enum Act {
     CancelSync(ItemId),
 }
 
-/// Queues an item on its own workqueue: true where it wasn't pending, false where it was.
+/// Queues an item on its own workqueue: true if it wasn't pending, false if it was.
 ///
-/// The error is the first of these that holds: `NoItem` (66); `HistoryFull` (60), where the seat is full; `Closed`
-/// (61); `HistoryFull` (60), where fewer rows are free than it needs: 1 where the item is pending, else 3, and 2 more
+/// The error is the first of these that holds: `NoItem` (66); `HistoryFull` (60), if the seat is full; `Closed`
+/// (61); `HistoryFull` (60), if fewer rows are free than it needs: 1 if the item is pending, else 3, and 2 more
 /// for each flush that it declares. After an error nothing is changed or counted.
 fn queue<N: Naming, A: Allocator, R: Wait>(
     rt: &R,

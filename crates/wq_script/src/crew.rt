@@ -16,7 +16,7 @@ use std::alloc::{AllocError, Allocator};
 use wq_items::{ItemId, ItemTable};
 
 /// Makes this many bodies, each of which makes the flushes that the items of the table declare. None has run anything.
-/// The only error is out of memory (20), and never where no body is wanted.
+/// The only error is out of memory (20), and never if no body is wanted.
 pub fn script_bodies<'t, 'a, A: Allocator + Copy>(
     alloc: A,
     table: &'t ItemTable<'a, A>,

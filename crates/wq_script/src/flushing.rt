@@ -45,7 +45,7 @@ impl<'t, 'a, A: Allocator> Model for ScriptBody<'t, 'a, A> {
 
 impl<'t, 'a, A: Allocator + Copy> ScriptBody<'t, 'a, A> {
     /// Makes the body of the items of a table. None of them has run. The only error is out of memory (20), which can't
-    /// occur where there is no item.
+    /// occur if there is no item.
     pub fn new(alloc: A, table: &'t ItemTable<'a, A>) -> Result<Self, AllocError>
         ensures waits { IfOk result (λ b. b.waits ≡ table.now.waits) }
         ensures width { IfOk result (λ b. length b.runs ≡ length table.now.names) }
@@ -59,7 +59,7 @@ impl<'t, 'a, A: Allocator + Copy> ScriptBody<'t, 'a, A> {
     }
 }
 
-/// Flushes the item of a target, or its whole workqueue, as the target says: true where that had an unfinished entry
+/// Flushes the item of a target, or its whole workqueue, as the target says: true if that had an unfinished entry
 /// when the wait began. The error is that of the flush.
 fn flush_target<N: Naming, S: Allocator, R: Wait>(
     rt: &R,
@@ -124,8 +124,8 @@ impl<'t, 'a, A: Allocator + Copy> Body for ScriptBody<'t, 'a, A> {
     /// workqueues, in order and each as often as it is declared.
     ///
     /// The error is the first refusal of a flush, and its number is the code of the fault:
-    /// `HistoryFull` (60), where the seat is full; `Undeclared` (62) or `TooManyWaits` (63),
-    /// where the runtime isn't of this table; `WrongLane` (64), where another caller drives
+    /// `HistoryFull` (60), if the seat is full; `Undeclared` (62) or `TooManyWaits` (63),
+    /// if the runtime isn't of this table; `WrongLane` (64), if another caller drives
     /// the same rescuer or helper. The flushes before it are made, and those after it aren't.
     fn run<N: Naming, S: Allocator, R: Wait>(
         &mut self,
