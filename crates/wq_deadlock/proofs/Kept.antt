@@ -14,7 +14,6 @@ use Rattle.wq_core.specs.Played.{IsStepOfLane, IsDeclaredStep, HasNoDeclaredStep
 use Rattle.wq_core.proofs.LaneLemmas.{cases_with_lane, lane_at-with_lane_other, same_running}
 use Rattle.wq_core.proofs.Knots.{unfinished-started, unfinished-going_on}
 use Rattle.wq_core.proofs.WaitSteps.{held_back-holder}
-use Rattle.wq_deadlock.specs.Search.{search_from}
 use Rattle.wq_deadlock.specs.Stuck.{Awaits}
 
 -- the step of lane q doesn't finish item i
@@ -165,23 +164,3 @@ HasNoDeclaredStep-other w s q step sound is p other held still = HasNoDeclaredSt
           )
       | inr nothing ↦ held_back-step w s q step sound is nothing f.whole f.target f.mark before
     ]
-
--- after a step of lane q no lane below the one from which the search continues can move, if none below q could
-pub HasNoDeclaredStep-below : (w : Wiring) (s : State) (q : ℕ) (step : Step) → IsSoundState w s → IsDeclaredStep w s q step → ((p : ℕ) → p < q → HasNoDeclaredStep w s p)
-    → (p : ℕ) → p < search_from q step → HasNoDeclaredStep w (effect w s step) p
-HasNoDeclaredStep-below w s q step sound is none = by_step step is
-  where
-    -- nothing is finished
-    stays : (x : Step) → IsDeclaredStep w s q x → ((j : ℕ) → ¬ (x ≡ Finish q j)) → (p : ℕ) → p < q → HasNoDeclaredStep w (effect w s x) p
-    stays x here nothing p lt = HasNoDeclaredStep-other w s q x sound here p (λ same. omega (arith, same)) (λ j made. absurd (nothing j made)) (none p lt)
-
-    by_step : (x : Step) → IsDeclaredStep w s q x → (p : ℕ) → p < search_from q x → HasNoDeclaredStep w (effect w s x) p
-    by_step (Queue i) here p lt = absurd here.of_lane
-    by_step (Cancel i) here p lt = absurd here.of_lane
-    by_step (Start k i) here p lt = stays (Start k i) here (λ j never. cc) p lt
-    by_step (Wait k b) here p lt = stays (Wait k b) here (λ j never. cc) p lt
-    by_step (Over k b) here p lt = stays (Over k b) here (λ j never. cc) p lt
-    by_step (WaitAll k b) here p lt = stays (WaitAll k b) here (λ j never. cc) p lt
-    by_step (OverAll k b) here p lt = stays (OverAll k b) here (λ j never. cc) p lt
-    by_step (Finish k i) here p lt = absurd (omega arith)
-    by_step (Help k c deed) here p lt = absurd here.of_lane

@@ -1,5 +1,5 @@
 -- What is known about stuck lanes while a machine is played: that they can't move, and which item lists them.
-use Rattle.std.proofs.Common.{◌≡◌, ◌≢◌, ℕ, zero, suc, ◌<◌, ◌≤◌, inl, inr, Bool, true, false, List, [], ◌∷◌, ◌++◌, length, get_or, map, set, replicate, Some, None, Option, refl, sym, ap, subst, ◌∙◌, arith}
+use Rattle.std.proofs.Common.{◌≡◌, ◌≢◌, ℕ, zero, suc, ◌+◌, ◌<◌, ◌≤◌, inl, inr, Bool, true, false, List, [], ◌∷◌, ◌++◌, length, get_or, map, set, replicate, Some, None, Option, refl, sym, ap, subst, ◌∙◌, arith, below_more}
 use Rattle.std.specs.Prelude.{Contains, IfSome}
 use Rattle.std.proofs.lemmas.Bool.{cases_eq}
 use Rattle.std.proofs.lemmas.List.{get_or-map, get_or-set_same, get_or-set_other, length-map, length-set, length-replicate, map-set}
@@ -106,6 +106,16 @@ module _ (w : Wiring) (s : State) (stuck : StuckLanes) (q : ℕ) (holder : Optio
             )
         | inr other ↦ (let at = knows.listed p f (known_before p other is) awaits in (at.0, at.1, stays_listed holder within at.0 p at.2))
       ]
+
+-- all lanes below q are known, and then q, too
+pub known-more : (stuck : StuckLanes) (q lane : ℕ) (holder : Option ℕ) → lane ≡ q → q < length stuck.known
+    → ((p : ℕ) → p < q → IsKnown stuck p) → (p : ℕ) → p < q + 1 → IsKnown (with_stuck stuck lane holder) p
+known-more stuck q lane holder at within below =
+    subst (λ (n : ℕ). (p : ℕ) → p < q + 1 → IsKnown (with_stuck stuck n holder) p) (sym at)
+    (below_more (λ p. IsKnown (with_stuck stuck q holder) p) q stays (get_or-set_same stuck.known q true false within))
+  where
+    stays : (p : ℕ) → p < q → IsKnown (with_stuck stuck q holder) p
+    stays p lt = get_or-set_other stuck.known q p true false (λ same. omega (arith, lt, same)) ∙ below p lt
 
 -- ---- a lane makes a step
 

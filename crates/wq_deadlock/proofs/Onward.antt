@@ -1,5 +1,5 @@
 -- Playing step by step: what holds for the steps so far, and for the lanes that were passed over.
-use Rattle.std.proofs.Common.{◌≡◌, ℕ, ◌+◌, ◌*◌, ◌-◌, ◌<◌, ◌≤◌, inl, inr, suc, List, [], ◌∷◌, ◌++◌, length, refl, sym, ap, subst, ◌∙◌, arith, below_more}
+use Rattle.std.proofs.Common.{◌≡◌, ℕ, ◌+◌, ◌*◌, ◌-◌, ◌<◌, ◌≤◌, inl, inr, suc, List, [], ◌∷◌, ◌++◌, length, refl, sym, ap, subst, ◌∙◌, arith}
 use Rattle.std.proofs.lemmas.Bool.{cases_lt}
 use Rattle.std.proofs.Math.Nat.{suc-mul, mul-le-mul_right}
 use Rattle.wq_core.specs.declared.step.Step.{Step}
@@ -14,8 +14,6 @@ use Rattle.wq_core.proofs.DeclaredSteps.{RescuerCanMove-within}
 use Rattle.wq_core.proofs.Plays.{after-append, IsRescuerStep-of_lane}
 use Rattle.wq_core.proofs.Sound.{IsSoundState-effect}
 use Rattle.wq_core.proofs.WorkLemmas.{work_left-rescuer}
-use Rattle.wq_deadlock.specs.Search.{search_from}
-use Rattle.wq_deadlock.proofs.Kept.{HasNoDeclaredStep-below}
 
 -- ---- steps so far
 
@@ -36,49 +34,44 @@ IsPlayedFrom-play w s (step ∷ steps) play none = (play.0, IsPlayedFrom-play w 
 
 -- ---- under way
 
--- a machine was played from `start` to `now` by these steps; it is sound there, and no lane below q can move
-pub record IsPlaying (start now : Machine) (steps : List Step) (q : ℕ) : Type 0 where
+-- a machine was played from `start` to `now` by these steps, and it is sound there
+pub record IsPlaying (start now : Machine) (steps : List Step) : Type 0 where
   pub wiring : now.wiring ≡ start.wiring
   pub play : IsPlayFrom start.wiring start.state steps
   pub state : now.state ≡ after start.wiring start.state steps
   pub sound : IsSoundState now.wiring now.state
-  pub below : (p : ℕ) → p < q → HasNoDeclaredStep now.wiring now.state p
 
-pub IsPlaying-start : (start : Machine) → IsSoundState start.wiring start.state → IsPlaying start start [] 0
-IsPlaying-start start sound = record { wiring = refl; play = tt; state = refl; sound = sound; below = λ p lt. absurd (omega arith) }
+pub IsPlaying-start : (start : Machine) → IsSoundState start.wiring start.state → IsPlaying start start []
+IsPlaying-start start sound = record { wiring = refl; play = tt; state = refl; sound = sound }
 
--- a lane that can't move is passed over
-pub IsPlaying-passed : (start now : Machine) (steps : List Step) (q : ℕ) → IsPlaying start now steps q → HasNoDeclaredStep now.wiring now.state q → IsPlaying start now steps (q + 1)
-IsPlaying-passed start now steps q playing none =
-    record { wiring = playing.wiring; play = playing.play; state = playing.state; sound = playing.sound; below = below_more (λ p. HasNoDeclaredStep now.wiring now.state p) q playing.below none }
-
--- one more step
-pub IsPlaying-move : (start now : Machine) (steps : List Step) (q : ℕ) (step : Step) → IsPlaying start now steps q → IsDeclaredStep now.wiring now.state q step
-    → IsPlaying start (machine_after now step) (steps ++ (step ∷ [])) (search_from q step)
-IsPlaying-move start now steps q step playing is =
+-- one more step, of the lowest lane that can move
+pub IsPlaying-move : (start now : Machine) (steps : List Step) (q : ℕ) (step : Step) → IsPlaying start now steps
+    → ((p : ℕ) → p < q → HasNoDeclaredStep now.wiring now.state p) → IsDeclaredStep now.wiring now.state q step
+    → IsPlaying start (machine_after now step) (steps ++ (step ∷ []))
+IsPlaying-move start now steps q step playing below is =
     let w : Wiring = start.wiring in
     let s : State = after w start.state steps in
     let there : IsDeclaredStep w s q step =
     subst (λ (v : Wiring). IsDeclaredStep v s q step) playing.wiring (subst (λ (t : State). IsDeclaredStep now.wiring t q step) playing.state is) in
     let lowest : (p : ℕ) → p < q → HasNoDeclaredStep w s p =
-    λ p lt. subst (λ (v : Wiring). HasNoDeclaredStep v s p) playing.wiring (subst (λ (t : State). HasNoDeclaredStep now.wiring t p) playing.state (playing.below p lt)) in
+    λ p lt. subst (λ (v : Wiring). HasNoDeclaredStep v s p) playing.wiring (subst (λ (t : State). HasNoDeclaredStep now.wiring t p) playing.state (below p lt)) in
     record {
       wiring = playing.wiring;
       play = IsPlayFrom-more w start.state steps q step playing.play there lowest;
       state =
           ap (λ (t : State). effect now.wiring t step) playing.state ∙ ap (λ (v : Wiring). effect v s step) playing.wiring ∙ sym (after-append w start.state steps (step ∷ []));
       sound = IsSoundState-effect now.wiring now.state step playing.sound is.lawful;
-      below = HasNoDeclaredStep-below now.wiring now.state q step playing.sound is playing.below;
     }
 
--- the end: all lanes were passed over
-pub IsPlayedFrom-playing : (start now : Machine) (steps : List Step) (q : ℕ) → IsPlaying start now steps q → start.wiring.lanes ≤ q
+-- the end: no lane can move
+pub IsPlayedFrom-playing : (start now : Machine) (steps : List Step) (q : ℕ) → IsPlaying start now steps
+    → ((p : ℕ) → p < q → HasNoDeclaredStep now.wiring now.state p) → start.wiring.lanes ≤ q
     → IsPlayedFrom start.wiring start.state steps
-IsPlayedFrom-playing start now steps q playing all = IsPlayedFrom-play start.wiring start.state steps playing.play none
+IsPlayedFrom-playing start now steps q playing still all = IsPlayedFrom-play start.wiring start.state steps playing.play none
   where
     none_now : (p : ℕ) → HasNoDeclaredStep now.wiring now.state p
     none_now p = elim (cases_lt p q) [
-      | inl below ↦ playing.below p below
+      | inl below ↦ still p below
       | inr past ↦ (λ step is.
           let within : p < length now.state.lanes = RescuerCanMove-within now.wiring now.state p (step, is.of_lane, is.lawful, is.forced) in
           let same : now.wiring.lanes ≡ start.wiring.lanes = ap (λ (v : Wiring). v.lanes) playing.wiring in

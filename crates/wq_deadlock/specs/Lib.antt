@@ -10,5 +10,4 @@ pub mod CircleRun
 pub mod Verdict
 pub mod Judging
 pub mod Bounds
-pub mod Search
 pub mod Stuck

@@ -1,5 +1,5 @@
 -- Lanes that are known to be stuck, while a machine is played.
-use Rattle.std.specs.Prelude.{◌≡◌, ℕ, List, [], ◌∷◌, ◌++◌, Bool, true, false, slice_index_or, slice_set, Option, Some}
+use Rattle.std.specs.Prelude.{◌≡◌, ◌<◌, ℕ, List, [], ◌∷◌, ◌++◌, Bool, true, false, slice_index_or, slice_set, Option, Some}
 use Rattle.std.specs.Prelude.{None, Contains}
 use Rattle.wq_core.specs.declared.entry.Waiting.{Waiting}
 use Rattle.wq_core.specs.declared.entry.Running.{Running}
@@ -46,6 +46,10 @@ with_stuck stuck q holder =
 pub record IsReleased (old : StuckLanes) (i : ℕ) (new : StuckLanes) : Type 0 where
   pub known : (q : ℕ) → IsKnown new q → IsKnown old q × (¬ Contains (held_back_by old i) q)
   pub waiting : new.waiting ≡ slice_set old.waiting i []
+
+-- below this lane every lane that was known to be stuck still is
+abbrev pub StayKnownBelow : ℕ → StuckLanes → StuckLanes → Type 0
+StayKnownBelow lowest old new = (q : ℕ) → q < lowest → IsKnown old q → IsKnown new q
 
 -- a step was made: only a finish lets other lanes move
 abbrev pub IsAfter : StuckLanes → Step → StuckLanes → Type 0

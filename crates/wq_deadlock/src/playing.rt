@@ -1,13 +1,12 @@
 //! A machine that is played to its end: again and again the lowest lane that can move moves, and flushes as declared.
 //!
-//! It is "Played" in the specs of `wq_core`. A start, a wait or the end of a wait makes no lower lane movable, since it
-//! finishes nothing. So the search for the lowest lane goes on from the lane that moved, and begins again at lane 0
-//! only after a finish. A lane that was found to be stuck is skipped until an item that holds back its wait is
-//! finished. Where it waits for a whole workqueue, that is the item of the last entry that is waited for; a workqueue
-//! finishes its entries in order, so the wait is over then. So each lane is asked at most twice for each of its own
-//! steps, and once more. The rest of the search skips stuck lanes after each finish.
+//! It is "Played" in the specs of `wq_core`. A lane that was found to be stuck is skipped until an item that holds back
+//! its wait is finished. If it waits for a whole workqueue, that is the item of the last entry that is waited for; a
+//! workqueue finishes its entries in order, so the wait is over then. All lanes below the one that moves are known to be
+//! stuck. So the search for the lowest lane goes on from the lane that moved, or, after a finish, from the lowest lane
+//! that the finish released. Each lane is asked at most twice for each of its own steps, and once more.
 
-ghost use Rattle.std.specs.Prelude.{◌≡◌, ◌<◌, ℕ, length, IfOk, IfSome, OnOk, [], ◌∷◌, ◌++◌};
+ghost use Rattle.std.specs.Prelude.{◌≡◌, ◌<◌, ◌≤◌, ℕ, length, IfOk, IfSome, OnOk, [], ◌∷◌, ◌++◌};
 ghost use Rattle.wq_core.specs.declared.entry.Waiting.{Waiting};
 ghost use Rattle.wq_core.specs.declared.step.Step.TheVariants.{Finish};
 ghost use Rattle.wq_core.specs.Wiring.{items};
@@ -15,31 +14,13 @@ ghost use Rattle.wq_core.specs.Held.{machine_after};
 ghost use Rattle.wq_core.specs.Played.{IsPlayedFrom};
 ghost use Rattle.wq_core.specs.Rules.{Lawful};
 ghost use Rattle.wq_core.specs.Runs.{IsRescuerStep};
-ghost use Rattle.wq_deadlock.specs.Search.{search_from};
-ghost use Rattle.wq_deadlock.specs.Stuck.{Awaits, IsHeldBackBy, IsAfter};
+ghost use Rattle.wq_deadlock.specs.Stuck.{Awaits, IsHeldBackBy, IsAfter, StayKnownBelow};
 
 use crate::stuck::Stuck;
 use std::alloc::{AllocError, Allocator};
 use wq_core::{Core, Step};
 use wq_groups::LaneId;
 use wq_items::ItemId;
-
-/// The lane from which the search goes on after a step of lane `q`.
-fn search_from(q: u16, step: Step) -> u16
-    ensures { result ≡ search_from q step }
-{
-    match step {
-        Step::Queue(_)
-        | Step::Cancel(_)
-        | Step::Start(..)
-        | Step::Wait(..)
-        | Step::Over(..)
-        | Step::WaitAll(..)
-        | Step::OverAll(..)
-        | Step::Help(..) => q,
-        Step::Finish(..) => 0,
-    }
-}
 
 /// Has the machine make a step of a rescuer, which it can make, and notes the step.
 fn make<A: Allocator + Copy>(
@@ -68,11 +49,14 @@ fn holder<A: Allocator>(core: &Core<A>, q: LaneId) -> Option<ItemId>
     core.holder(flush.whole, flush.target, flush.mark)
 }
 
-/// Has lanes that are known to be stuck asked again after a step that may let them move.
-fn release_after<A: Allocator>(stuck: &mut Stuck<'_, A>, step: &Step)
-    requires { (q i : ℕ) → step.now ≡ Finish q i → i < length stuck.old.waiting }
+/// Has lanes that are known to be stuck asked again after a step of lane `q` that may let them move. Gives the lowest of
+/// them and `q`.
+fn release_after<A: Allocator>(stuck: &mut Stuck<'_, A>, q: LaneId, step: &Step) -> u16
+    requires { (p i : ℕ) → step.now ≡ Finish p i → i < length stuck.old.waiting }
     ensures after { IsAfter stuck.old step.now stuck.new }
     ensures len { length stuck.new.known ≡ length stuck.old.known }
+    ensures from { result ≤ q }
+    ensures stay { StayKnownBelow result stuck.old stuck.new }
 {
     match *step {
         Step::Queue(_)
@@ -82,8 +66,8 @@ fn release_after<A: Allocator>(stuck: &mut Stuck<'_, A>, step: &Step)
         | Step::Over(..)
         | Step::WaitAll(..)
         | Step::OverAll(..)
-        | Step::Help(..) => {}
-        Step::Finish(_, item) => stuck.release(item),
+        | Step::Help(..) => q.get(),
+        Step::Finish(_, item) => stuck.release(item, q),
     }
 }
 
@@ -104,8 +88,7 @@ pub(crate) fn play<A: Allocator + Copy>(
             q += 1;
         } else if let Some(step) = core.declared(lane) {
             make(core, &mut steps, &step)?;
-            release_after(&mut stuck, &step);
-            q = search_from(q, step);
+            q = release_after(&mut stuck, lane, &step);
         } else {
             stuck.note(lane, holder(core, lane))?;
             q += 1;

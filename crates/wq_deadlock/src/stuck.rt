@@ -6,9 +6,9 @@
 //! items, and `release` in the number of lanes that are released. Memory is taken once for all lanes and once for all
 //! items; then only where one item is found to hold back more than eight lanes.
 
-ghost use Rattle.std.specs.Prelude.{◌≡◌, ◌<◌, ◌↔◌, ℕ, length, map, replicate, slice_index_or, true, false, []};
+ghost use Rattle.std.specs.Prelude.{◌≡◌, ◌<◌, ◌≤◌, ◌↔◌, ℕ, length, map, replicate, slice_index_or, true, false, []};
 ghost use Rattle.std.specs.Prelude.{Contains, IfOk, OnOk, IfSome, IsTrue};
-ghost use Rattle.wq_deadlock.specs.Stuck.{IsKnown, IsReleased, with_stuck};
+ghost use Rattle.wq_deadlock.specs.Stuck.{IsKnown, IsReleased, StayKnownBelow, with_stuck};
 
 use smallvec::SmallVec;
 use std::alloc::{AllocError, Allocator};
@@ -48,17 +48,23 @@ fn empty_lists<A: Allocator>(alloc: &A, items: u16) -> Result<Vec<Waiting<'_, A>
     Ok(lists)
 }
 
-/// Forgets that any of these lanes was known to be stuck.
-fn forget<A: Allocator>(known: &mut Vec<bool, A>, lanes: &[u16])
+/// Forgets that any of these lanes was known to be stuck. Gives the lowest of them and `from`.
+fn forget<A: Allocator>(known: &mut Vec<bool, A>, lanes: &[u16], from: u16) -> u16
     ensures known { (q : ℕ) → slice_index_or known.new.items q false ≡ true
         → (slice_index_or known.old.items q false ≡ true) × (¬ Contains lanes.now q) }
     ensures len { length known.new.items ≡ length known.old.items }
+    ensures from { result ≤ from }
+    ensures stay { (q : ℕ) → q < result → slice_index_or known.old.items q false ≡ true
+        → slice_index_or known.new.items q false ≡ true }
 {
+    let mut lowest = from;
     for q in lanes {
+        lowest = lowest.min(*q);
         if let Some(known) = known.get_mut(usize::from(*q)) {
             *known = false;
         }
     }
+    lowest
 }
 
 impl<'a, A: Allocator> Stuck<'a, A> {
@@ -94,14 +100,18 @@ impl<'a, A: Allocator> Stuck<'a, A> {
         Ok(())
     }
 
-    /// Notes that an item is finished: the lanes whose wait it was found to hold back are asked again.
-    pub(crate) fn release(&mut self, item: ItemId)
+    /// Notes that an item is finished: the lanes whose wait it was found to hold back are asked again. Gives the lowest
+    /// of them and `from`.
+    pub(crate) fn release(&mut self, item: ItemId, from: LaneId) -> u16
         requires { item < length self.old.waiting }
         ensures released { IsReleased self.old item self.new }
         ensures len { length self.new.known ≡ length self.old.known }
+        ensures from { result ≤ from }
+        ensures stay { StayKnownBelow result self.old self.new }
     {
         let place = usize::from(item.get());
-        forget(&mut self.known, self.waiting[place].as_slice());
+        let lowest = forget(&mut self.known, self.waiting[place].as_slice(), from.get());
         self.waiting[place].clear();
+        lowest
     }
 }
