@@ -88,7 +88,7 @@ impl Disk {
     }
 
     /// Ends the requests that the server has answered, which are all that it
-    /// received. True where the connection turns out to be lost.
+    /// received. True if the connection turns out to be lost.
     pub(crate) fn end_requests(&mut self) -> bool {
         for stage in self.stages.iter_mut() {
             if *stage == RequestStage::Sent {

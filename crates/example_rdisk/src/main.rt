@@ -59,7 +59,7 @@ fn put_disk<R: Wait + Print>(rt: &R, rdisk: &Rdisk, faults: u64) -> Result<()> {
     Ok(())
 }
 
-/// Prints what the closed book counts of an item, where the order of the threads doesn't change it.
+/// Prints what the closed book counts of an item, if the order of the threads doesn't change it.
 fn put_item(
     rt: &impl Print,
     name: &str,

@@ -34,7 +34,7 @@ pub enum Saying {
     OfFailed,
 }
 
-/// A declaration and a certificate, what is asked of them, and what is said; nothing where nothing is wrong.
+/// A declaration and a certificate, what is asked of them, and what is said; nothing if nothing is wrong.
 pub struct Said {
     pub name: &'static str,
     pub saying: Saying,
@@ -394,7 +394,7 @@ fn run_texts<A: Allocator + Copy>(alloc: A, case: &Said) -> Result<Texts<A>, All
     Ok(Texts::new(first, second, third))
 }
 
-/// Asks what is said. Nothing where nothing is.
+/// Asks what is said. Nothing if nothing is.
 pub fn say<A: Allocator + Copy>(alloc: A, case: &Said) -> Result<Option<Vec<u8, A>>, AllocError> {
     let text = case.declaration.as_bytes();
     let declaration = Source { file: "d", text };

@@ -160,7 +160,7 @@ const SAFE: &[(&str, u16, &[u16], &[u16])] = &[
     ),
 ];
 
-/// The ranks of lanes under an assignment; none where it isn't safe, or has other groups.
+/// The ranks of lanes under an assignment; none if it isn't safe, or has other groups.
 fn ranks_under(
     alloc: Global,
     declared: &Declaration<Global>,

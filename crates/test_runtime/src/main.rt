@@ -95,7 +95,7 @@ fn perform<R: Files + Print + AllocGlobal + Threads + Wait + Clock + Sync>(
 }
 
 /// Does what `book`, `check`, `calls`, `crew`, `report` or `script` asks for by the words after it. Returns the status,
-/// or none where the words have none of their forms.
+/// or none if the words have none of their forms.
 fn session<R: Files + Print + Eprint + AllocGlobal + Threads + Wait + Clock + Sync>(
     rt: &R,
     command: &str,
@@ -149,7 +149,7 @@ fn run_load<R: Files + Print + AllocGlobal + Threads + Wait + Clock + Sync>(
 }
 
 /// Does what `stress` or `bench` asks for by the words after it. Returns the status,
-/// or none where the words don't have their form.
+/// or none if the words don't have their form.
 fn loaded<R: Files + Print + Eprint + AllocGlobal + Threads + Wait + Clock + Sync>(
     rt: &R,
     command: &str,
@@ -172,7 +172,7 @@ fn loaded<R: Files + Print + Eprint + AllocGlobal + Threads + Wait + Clock + Syn
 }
 
 /// Does what the words of the command line ask for, of which the first is the program's name. Returns the status, or
-/// none where they have no form of any subcommand.
+/// none if they have no form of any subcommand.
 fn dispatch<R: Files + Print + Eprint + AllocGlobal + Threads + Wait + Clock + Sync>(
     rt: &R,
     words: &[String],

@@ -77,7 +77,7 @@ fn close_twice<N: Naming, A: Allocator + Copy>(
     }
 }
 
-/// Makes a seat of a runtime, makes the calls with it, and closes the runtime. Where there is no memory for the seat,
+/// Makes a seat of a runtime, makes the calls with it, and closes the runtime. If there is no memory for the seat,
 /// the runtime is closed without one.
 pub(crate) fn sit<N: Naming, R: Wait, A: Allocator + Copy>(
     rt: &R,

@@ -67,7 +67,7 @@ fn is_done<N: Naming, R: Wait, A: Allocator + Copy>(
     true
 }
 
-/// Runs all on a runtime of two lanes, and closes it. Where there is no memory for it, both bodies and both callers are
+/// Runs all on a runtime of two lanes, and closes it. If there is no memory for it, both bodies and both callers are
 /// handed back, and the runtime is closed with the seats that were made.
 pub(crate) fn serve<
     N: Naming + Send + Sync,

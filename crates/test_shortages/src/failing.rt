@@ -94,7 +94,7 @@ fn is_one_by_one(ran: &DeviceRun, asked: &Wanted<'_, '_>) -> bool {
         && ran.tells == each(asked.said)
 }
 
-/// What is counted of the reader of a text, where the one of the text at `at`
+/// What is counted of the reader of a text, if the one of the text at `at`
 /// failed: it isn't asked, if it comes later.
 fn read_before(asked: &Wanted<'_, '_>, text: usize, at: usize, successes: u32) -> Counts {
     if text < at {
@@ -309,7 +309,7 @@ fn tried<R: Threads + Wait + Sync>(rt: &R, alloc: Global, asked: &Wanted<'_, '_>
     tallies
 }
 
-/// How many calls there are of all readers, of the writer and of the teller, where each moves one byte. Nothing where
+/// How many calls there are of all readers, of the writer and of the teller, where each moves one byte. Nothing if
 /// the command isn't answered so, or asks for more.
 fn calls<R: Threads + Wait + Sync>(
     rt: &R,

@@ -17,7 +17,7 @@
 //! read with nothing written or said, after a write with what was written before it, and after a tell with the whole
 //! answer and what was said before it.
 //!
-//! Where a run ends in another way a line says `WRONG`, and the status is 1. It takes the time of all runs.
+//! If a run ends in another way a line says `WRONG`, and the status is 1. It takes the time of all runs.
 #![tactic(auto)]
 
 mod asked;

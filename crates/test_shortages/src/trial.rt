@@ -9,7 +9,7 @@ use test_cases::{Refusing, RefusingHeap};
 /// How a run ends.
 #[derive(Clone, Copy, PartialEq, Eq)]
 pub(crate) enum TrialEnd {
-    /// As it does with enough memory. Where requests were refused, it got along without them.
+    /// As it does with enough memory. If requests were refused, it got along without them.
     Answered,
     /// As it does with enough memory, but nothing is said of the answer.
     Unsaid,

@@ -25,7 +25,7 @@ pub enum No {
     /// The number of groups of the chain isn't the number of workqueues (52).
     LengthDiffers,
     /// Arc `at` of the chain, counted from 1, isn't a declared flush, or its item isn't in the group of the target of
-    /// the arc before it; 0 where the group of a chain of one group is missing (51).
+    /// the arc before it; 0 if the group of a chain of one group is missing (51).
     ChainBroken { at: u32 },
     /// The same for the arcs of a circle, where the first arc joins the last (53).
     CircleBroken { at: u32 },

@@ -2,7 +2,7 @@
 //!
 //! For a plan: each declared flush goes to a workqueue with a lower number, so the plan is safe; and a
 //! chain of as many groups as there are workqueues shows that fewer workqueues wait in a circle, and so
-//! deadlock. For a circle: its arcs go round groups, and its run, where there is one, ends in a
+//! deadlock. For a circle: its arcs go round groups, and its run, if there is one, ends in a
 //! deadlock. The rules are those of "The command `check`" in docs/FORMAT.md. A plan takes time in the
 //! number of items and flushes, and for each arc of its chain in the number of flushes that the arc's
 //! item declares, and no memory. A circle takes that for its arcs, and for its run that of `check_run`.
@@ -178,7 +178,7 @@ fn check_certificate<A: Allocator + Copy>(
 /// (none for 0), or from 1 to 4,096 in a circle; and it has fewer than 4,294,967,295 steps. A yes to a
 /// plan implies that it is safe, and that in every assignment to fewer workqueues these wait in a circle,
 /// and some run deadlocks. A yes to a circle implies that both hold for every assignment. The only error
-/// is out of memory (20), which comes only where the arcs of a circle go round and steps follow them.
+/// is out of memory (20), which comes only if the arcs of a circle go round and steps follow them.
 pub fn check_answer<A: Allocator + Copy>(
     alloc: A,
     table: &ItemTable<'_, A>,

@@ -46,14 +46,14 @@ pub fn a_good_circle_goes_round_groups()
         IsCircleAlong d c.arcs }
 {}
 
-/// Where a circle is good, the workqueues of every assignment wait in a circle.
+/// If a circle is good, the workqueues of every assignment wait in a circle.
 pub fn a_good_circle_is_one_in_every_assignment()
     ensures { (d : Declaration) (c : CircleCertificate) (b : Assignment) → IsDeclaration d → IsCircleAsked d c →
         IsGoodCircle d c →
         IsAssignment d.groups b → Circle (LaneWaits (wiring d b)) }
 {}
 
-/// Where a circle is good, every assignment deadlocks.
+/// If a circle is good, every assignment deadlocks.
 pub fn a_good_circle_deadlocks_every_assignment()
     ensures { (d : Declaration) (c : CircleCertificate) (b : Assignment) → IsDeclaration d → IsCircleAsked d c →
         IsGoodCircle d c →

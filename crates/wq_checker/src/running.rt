@@ -118,7 +118,7 @@ fn ends<A: Allocator + Copy>(
 }
 
 /// How a list of fewer than 4,294,967,295 steps ends under an assignment of the groups. The only error is out of memory
-/// (20), which can't occur where there is no lane.
+/// (20), which can't occur if there is no lane.
 pub fn check_run<A: Allocator + Copy>(
     alloc: A,
     table: &ItemTable<'_, A>,

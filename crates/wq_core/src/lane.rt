@@ -148,7 +148,7 @@ fn idle_places<A: Allocator + Copy>(
 
 impl<A: Allocator + Copy> Lane<A> {
     /// An idle lane of this shape, with this many helpers unless it is ordered. The only error is out of memory (20),
-    /// which can't occur where there are no items and no helpers.
+    /// which can't occur if there are no items and no helpers.
     pub fn new(alloc: A, shape: LaneShape, helpers: u8) -> Result<Self, AllocError>
         requires { helpers ≤ max_helpers }
         ensures lane { IfOk result (λ l. l ≡ idle_of_shape helpers shape) }
@@ -272,7 +272,7 @@ impl<A: Allocator> Lane<A> {
         self.running_below(mark).is_some()
     }
 
-    /// The last pending entry with a number below the mark, or one that runs where none has one. None where no
+    /// The last pending entry with a number below the mark, or one that runs if none has one. None if no
     /// unfinished entry has a number below the mark.
     pub(crate) fn last_below(&self, mark: u32) -> Option<Entry>
         requires { IsRising self.now.lane.pending }

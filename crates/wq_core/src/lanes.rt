@@ -46,7 +46,7 @@ fn all_idle<A: Allocator>(lanes: &[Lane<A>]) -> bool
 
 impl<A: Allocator + Copy> Lanes<A> {
     /// Idle lanes of these shapes, each with this many helpers unless it is ordered. The only error is out of memory
-    /// (20), which can't occur where there is no lane.
+    /// (20), which can't occur if there is no lane.
     pub fn new(alloc: A, shapes: &[LaneShape], helpers: u8) -> Result<Self, AllocError>
         requires { helpers ≤ max_helpers }
         ensures lanes { IfOk result (λ lanes. lanes ≡ map (idle_of_shape helpers) shapes.now) }

@@ -38,7 +38,7 @@ pub fn a_step_gives_a_number()
     ensures { (w : Wiring) (s : State) (step : Step) → Lawful w s step → (n : ℕ) × Gives s step n }
 {}
 
-/// Where nothing more is queued, the rescuers and the helpers make at most as many steps as there is work left,
+/// If nothing more is queued, the rescuers and the helpers make at most as many steps as there is work left,
 /// whatever the order, and whatever is cancelled in between.
 pub fn rescuer_steps_are_bounded()
     ensures { (w : Wiring) (steps more : List Step) → IsRun w steps →
@@ -46,7 +46,7 @@ pub fn rescuer_steps_are_bounded()
         count_by is_rescuer_step more ≤ work_left w (end_of w steps) }
 {}
 
-/// Where each lane has a rescuer, and the lanes have numbers that fall along every declared
+/// If each lane has a rescuer, and the lanes have numbers that fall along every declared
 /// flush, from the lane of the item that waits to that of its target, no run ends stuck,
 /// whatever the number of helpers. With bare lanes it is enough that this holds of each
 /// flush of an item whose lane has a rescuer, and that the lane of its target has one, too.
@@ -70,7 +70,7 @@ pub fn a_lane_that_can_move_has_a_declared_step()
         CanMove w (end_of w steps) q → (step : Step) × IsDeclaredStep w (end_of w steps) q step }
 {}
 
-/// Where no run ends stuck: if a run leaves a state in which no step is lawful but
+/// If no run ends stuck: if a run leaves a state in which no step is lawful but
 /// queueings, cancellations, starts of helpers and starts on bare lanes, nothing is
 /// unfinished in that state where each lane has a rescuer, and else nothing on such lanes.
 pub fn at_rest_nothing_is_unfinished()
@@ -104,7 +104,7 @@ pub fn helpers_change_no_run_without_them()
         DeadlocksBy (with_helpers w n) steps ↔ DeadlocksBy (with_helpers w 0) steps }
 {}
 
-/// Where groups wait for one another in a chain, the lanes of every assignment to fewer lanes than the chain has groups
+/// If groups wait for one another in a chain, the lanes of every assignment to fewer lanes than the chain has groups
 /// wait in a circle; and where groups wait in a circle, so do the lanes of every assignment.
 pub fn lanes_come_to_wait_in_a_circle()
     ensures of_a_chain { (d : Declaration) (a : Assignment) (groups : List ℕ) → IsAssignment d.groups a →
@@ -113,20 +113,20 @@ pub fn lanes_come_to_wait_in_a_circle()
     ensures of_a_circle { (d : Declaration) (a : Assignment) → Circle (GroupWaits d) → Circle (LaneWaits (wiring d a)) }
 {}
 
-/// Where items hold one another up, or a bare lane does, the run that queues them
+/// If items hold one another up, or a bare lane does, the run that queues them
 /// before all others and is then played to its end deadlocks.
 pub fn a_knot_deadlocks()
     ensures { (w : Wiring) (knot : List ℕ) (steps : List Step) → IsWiring w → IsKnot w knot →
         IsPlayedFrom w (end_of w (queue_order w knot)) steps → DeadlocksBy w (queue_order w knot ++ steps) }
 {}
 
-/// Lanes that wait in a circle deadlock, where each has a rescuer.
+/// Lanes that wait in a circle deadlock, if each has a rescuer.
 pub fn lanes_that_wait_in_a_circle_deadlock()
     ensures all_rescued { (w : Wiring) → IsWiring w → w.bare ≡ [] → Circle (LaneWaits w) → Deadlocks w }
     ensures rescued { (w : Wiring) → IsWiring w → Circle (RescuedWaits w) → Deadlocks w }
 {}
 
-/// Where an item on a lane that has a rescuer waits for an item on a bare lane, there is a deadlock: queue the item
+/// If an item on a lane that has a rescuer waits for an item on a bare lane, there is a deadlock: queue the item
 /// that waits before all others, and play what is queued to its end.
 pub fn a_wait_for_a_bare_lane_deadlocks()
     ensures run { (w : Wiring) (i j : ℕ) (steps : List Step) → IsWiring w → ItemWaits w.waits i j →
@@ -137,7 +137,7 @@ pub fn a_wait_for_a_bare_lane_deadlocks()
         (¬ HasRescuer w (lane_of w j)) → Deadlocks w }
 {}
 
-/// Where as many groups as there are lanes wait for one another in a chain, an
+/// If as many groups as there are lanes wait for one another in a chain, an
 /// assignment whose lanes fall along all waits of groups is least.
 pub fn a_chain_as_long_shows_the_least()
     ensures { (d : Declaration) (a : Assignment) (groups : List ℕ) → IsDeclaration d → IsAssignment d.groups a →
@@ -145,7 +145,7 @@ pub fn a_chain_as_long_shows_the_least()
         IsChain (GroupWaits d) groups → All (λ g. g < d.groups) groups → length groups ≡ a.lanes → IsLeast d a }
 {}
 
-/// Where groups wait in a circle, every assignment deadlocks.
+/// If groups wait in a circle, every assignment deadlocks.
 pub fn groups_that_wait_in_a_circle_deadlock()
     ensures { (d : Declaration) (a : Assignment) → IsDeclaration d → IsAssignment d.groups a →
         Circle (GroupWaits d) → Deadlocks (wiring d a) }

@@ -61,7 +61,7 @@ impl<A: Allocator + Copy> Core<A> {
     /// Makes the machine of a declaration and an assignment, without helpers, before anything is queued: of a table,
     /// the groups of its items, and the lane of each group.
     ///
-    /// The only error is out of memory (20), which can't occur where there is no
+    /// The only error is out of memory (20), which can't occur if there is no
     /// lane; any other machine holds lanes in memory.
     pub fn new(
         alloc: A,
@@ -80,7 +80,7 @@ impl<A: Allocator + Copy> Core<A> {
     /// Makes the machine in which each lane has this many helpers, at most 8, unless
     /// it holds a group of two or more items.
     ///
-    /// The only error is out of memory (20), which can't occur where there is no lane.
+    /// The only error is out of memory (20), which can't occur if there is no lane.
     pub fn with_helpers(
         alloc: A,
         table: &ItemTable<'_, A>,
@@ -100,7 +100,7 @@ impl<A: Allocator + Copy> Core<A> {
 
     /// Makes the machine of a declaration and its workqueues, without helpers, before anything is queued.
     ///
-    /// The only error is out of memory (20), which can't occur where there is no workqueue.
+    /// The only error is out of memory (20), which can't occur if there is no workqueue.
     pub fn on_workqueues(
         alloc: A,
         table: &ItemTable<'_, A>,
@@ -178,7 +178,7 @@ impl<A: Allocator> Core<A> {
         self.helpers
     }
 
-    /// How many helpers a lane has; none where it holds a group of two or more items, or there is no such lane.
+    /// How many helpers a lane has; none if it holds a group of two or more items, or there is no such lane.
     pub fn helpers_of(&self, q: LaneId) -> u8
         ensures helpers { result ≡ helpers_of self.now.wiring q }
         ensures few { result ≤ max_helpers }
@@ -209,7 +209,7 @@ impl<A: Allocator> Core<A> {
             && context.number <= self.helpers_of(context.lane)
     }
 
-    /// A lane, where there is such a lane.
+    /// A lane, if there is such a lane.
     pub(crate) fn lane(&self, q: LaneId) -> &Lane<A>
         requires { q < self.now.wiring.lanes }
         ensures lane { result.now.lane ≡ lane_at self.now.state q }
@@ -218,7 +218,7 @@ impl<A: Allocator> Core<A> {
         self.lanes.lane(q)
     }
 
-    /// What the rescuer of a lane runs, with the waits that it has made and what it waits for; nothing where it runs
+    /// What the rescuer of a lane runs, with the waits that it has made and what it waits for; nothing if it runs
     /// nothing, or where there is no such lane.
     pub fn running_on(&self, q: LaneId) -> Option<Running>
         ensures running { result ≡ (lane_at self.now.state q).running }
@@ -231,7 +231,7 @@ impl<A: Allocator> Core<A> {
         }
     }
 
-    /// What a context runs, with the waits that it has made and what it waits for; nothing where it runs nothing, or
+    /// What a context runs, with the waits that it has made and what it waits for; nothing if it runs nothing, or
     /// where there is no such context.
     pub fn running_in(&self, context: Context) -> Option<Running>
         ensures running { result ≡ run_by (lane_at self.now.state context.lane) context.number }
@@ -244,7 +244,7 @@ impl<A: Allocator> Core<A> {
         }
     }
 
-    /// The entry that a context of a lane starts next, the first pending one whose item isn't running; none where there
+    /// The entry that a context of a lane starts next, the first pending one whose item isn't running; none if there
     /// is no such entry, or no such lane.
     pub fn next_on(&self, q: LaneId) -> Option<Entry>
         ensures next { result ≡ next_of (lane_at self.now.state q) }
@@ -257,7 +257,7 @@ impl<A: Allocator> Core<A> {
         }
     }
 
-    /// The first pending entry of a lane; none where nothing is pending on it, or there is no such lane.
+    /// The first pending entry of a lane; none if nothing is pending on it, or there is no such lane.
     pub fn first_on(&self, q: LaneId) -> Option<Entry>
         ensures first { result ≡ slice_get (lane_at self.now.state q).pending 0 }
         ensures machine { IsMachine self.now }
@@ -278,7 +278,7 @@ impl<A: Allocator> Core<A> {
         LaneId::new(self.lane_of_item[usize::from(item.get())])
     }
 
-    /// The pending entry of an item, where there is one.
+    /// The pending entry of an item, if there is one.
     fn pending_entry(&self, item: ItemId) -> Option<Entry>
         ensures some { IfSome result (λ e. IsPendingOn (lane_at self.now.state (lane_of self.now.wiring item)) e
             × (e.item ≡ item)) }
@@ -635,7 +635,7 @@ impl<A: Allocator> Core<A> {
         self.make(helper, deed)
     }
 
-    /// The number that a step would give; none where it wouldn't be made, because it
+    /// The number that a step would give; none if it wouldn't be made, because it
     /// isn't lawful (30) or the numbers are used up (31).
     #[inline(always)]
     pub fn peek(&self, step: &Step) -> Option<u32>
@@ -661,7 +661,7 @@ impl<A: Allocator> Core<A> {
     /// Makes a step, and gives the number of the entry that is queued, removed,
     /// started or finished, or the mark of the wait that begins or is over.
     ///
-    /// The error is `NotLawful` (30) exactly where the step isn't lawful, or `NumbersUsedUp` (31) exactly where a
+    /// The error is `NotLawful` (30) exactly if the step isn't lawful, or `NumbersUsedUp` (31) exactly if a
     /// lawful queueing would get the number 4,294,967,295. After an error nothing is changed.
     #[inline(always)]
     pub fn step(&mut self, step: Step) -> Result<u32, StepError>

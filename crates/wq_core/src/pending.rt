@@ -9,7 +9,7 @@ use std::alloc::{AllocError, Allocator};
 use std::marker::Model;
 use wq_items::ItemId;
 
-/// The numbers of the items' pending entries; none where no entry of the item is pending.
+/// The numbers of the items' pending entries; none if no entry of the item is pending.
 #[derive(Drop)]
 pub(crate) struct PendingNumbers<A: Allocator> {
     numbers: Vec<Option<u32>, A>,
@@ -25,7 +25,7 @@ impl<A: Allocator> Model for PendingNumbers<A> {
 
 impl<A: Allocator> PendingNumbers<A> {
     /// Numbers for this many items, none of which has a pending entry. The only error is out of memory (20), which
-    /// can't occur where there is no item.
+    /// can't occur if there is no item.
     pub(crate) fn new(alloc: A, items: u16) -> Result<Self, AllocError>
         ensures numbers { IfOk result (λ p. p ≡ replicate items None) }
         ensures memory { OnErr result (0 < items) }
@@ -35,7 +35,7 @@ impl<A: Allocator> PendingNumbers<A> {
         Ok(PendingNumbers { numbers })
     }
 
-    /// The number of an item's pending entry; none where no entry is pending, or there is no such item.
+    /// The number of an item's pending entry; none if no entry is pending, or there is no such item.
     pub(crate) fn of(&self, item: ItemId) -> Option<u32>
         ensures { result ≡ slice_index_or self.now item None }
     {

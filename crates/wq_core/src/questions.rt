@@ -87,7 +87,7 @@ impl<A: Allocator> Core<A> {
 
     /// An item that holds back a wait for an item or for its whole lane, with this mark: an unfinished entry of it has
     /// a number below the mark, and is waited for. It is the item that is waited for, or that of the last such entry
-    /// that is pending on its lane, or of one that runs there. None only where nothing holds the wait back.
+    /// that is pending on its lane, or of one that runs there. None only if nothing holds the wait back.
     pub fn holder(&self, whole: bool, target: ItemId, mark: u32) -> Option<ItemId>
         requires { target < items self.now.wiring }
         ensures some { IfSome result (λ i. IsHolder self.now.wiring self.now.state whole target mark i) }
@@ -106,7 +106,7 @@ impl<A: Allocator> Core<A> {
     }
 
     /// The lowest lane that can make a step: a start of its rescuer, if it has one, or a wait, the end of a wait or a
-    /// finish of any of its contexts. None only where no lane can.
+    /// finish of any of its contexts. None only if no lane can.
     pub fn enabled(&self) -> Option<LaneId>
         ensures some { IfSome result (λ q. CanMove self.now.wiring self.now.state q
             × ((p : ℕ) → p < q → ¬ CanMove self.now.wiring self.now.state p)) }
@@ -142,7 +142,7 @@ impl<A: Allocator> Core<A> {
         Some(Step::Start(q, next.item))
     }
 
-    /// The step of a rescuer that runs something. Where it waits, that is the end of the wait, if the wait is over.
+    /// The step of a rescuer that runs something. If it waits, that is the end of the wait, if the wait is over.
     /// Otherwise it is the next wait, or, after the last one, the finish.
     fn declared_running(&self, q: LaneId, running: Running) -> Option<Step>
         requires machine { IsMachine self.now }
@@ -166,7 +166,7 @@ impl<A: Allocator> Core<A> {
     }
 
     /// The step that the rescuer of a lane can make where what it runs flushes as declared: each execution waits for
-    /// the targets of its item in their order, and finishes after the last one. None only where it can make no such
+    /// the targets of its item in their order, and finishes after the last one. None only if it can make no such
     /// step, for example where there is no such lane.
     pub fn declared(&self, q: LaneId) -> Option<Step>
         ensures some { IfSome result (λ step. IsDeclaredStep self.now.wiring self.now.state q step) }

@@ -1,6 +1,6 @@
 //! Flushes that lead to a workqueue without a rescuer.
 //!
-//! Where an item whose workqueue has a rescuer waits for one whose workqueue has none, nothing guarantees that the wait
+//! If an item whose workqueue has a rescuer waits for one whose workqueue has none, nothing guarantees that the wait
 //! is ever over. It takes time and memory in the number of items and flushes.
 
 ghost use Rattle.std.specs.Prelude.{◌≡◌, ◌<◌, length, filter, IfOk, IfErr, OnErr};
@@ -57,7 +57,7 @@ fn bare_among<A: Allocator + Copy>(
 /// The flushes that lead from a workqueue that has a rescuer to one that has none, in order of place; and what holds of
 /// each declaration with workqueues.
 ///
-/// The only error is out of memory (20), which can't occur where there is no workqueue.
+/// The only error is out of memory (20), which can't occur if there is no workqueue.
 pub fn bare_waits<A: Allocator + Copy>(
     alloc: A,
     assigned: &Assigned<'_, '_, A>,

@@ -1,6 +1,6 @@
 //! The run that shows a circle of groups: that of the assignment in which each group has a lane of its own.
 //!
-//! Where groups wait in a circle, no assignment is safe, not even the one with as many lanes as there are groups. It
+//! If groups wait in a circle, no assignment is safe, not even the one with as many lanes as there are groups. It
 //! takes as long as a verdict on that assignment.
 
 ghost use Rattle.std.specs.Prelude.{◌≡◌, ◌<◌, length, IfOk, OnErr};
@@ -31,7 +31,7 @@ fn lanes_in_turn<A: Allocator + Copy>(alloc: A, count: u16) -> Result<Vec<LaneId
 
 /// The assignment in which group g has lane g.
 ///
-/// The only error is out of memory (20), which can't occur where there is no group.
+/// The only error is out of memory (20), which can't occur if there is no group.
 pub fn own_lanes<A: Allocator + Copy>(
     alloc: A,
     groups: &Groups<A>,
@@ -43,10 +43,10 @@ pub fn own_lanes<A: Allocator + Copy>(
     Ok(Assignment::new(groups.len(), lanes).unwrap())
 }
 
-/// The run by which the assignment deadlocks in which group g has lane g. It is `None` exactly where that assignment is
+/// The run by which the assignment deadlocks in which group g has lane g. It is `None` exactly if that assignment is
 /// safe, and so where the groups wait in no circle. The groups are those of this table.
 ///
-/// The only error is out of memory (20), which can't occur where there is no group.
+/// The only error is out of memory (20), which can't occur if there is no group.
 pub fn circle_run<A: Allocator + Copy>(
     alloc: A,
     table: &ItemTable<'_, A>,

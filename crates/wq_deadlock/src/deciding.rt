@@ -54,7 +54,7 @@ fn run_of_circle<A: Allocator + Copy>(
 /// table, and the assignment has a lane for each of them.
 ///
 /// `Safe` has a rank for each lane, and ranks fall along every declared flush. `Deadlock` has the run of the circle in
-/// which the lanes wait, which ends stuck. The only error is out of memory (20), which can't occur where there is no
+/// which the lanes wait, which ends stuck. The only error is out of memory (20), which can't occur if there is no
 /// lane; any other verdict is a list that takes memory.
 pub fn verdict<A: Allocator + Copy>(
     alloc: A,

@@ -15,7 +15,7 @@ ghost use Rattle.wq_core.specs.Played.{IsPlayedFrom};
 ghost use Rattle.wq_deadlock.specs.Bounds.{IsNamed};
 ghost use Rattle.wq_deadlock.specs.CircleRun.{IsCircleRun};
 
-/// Where group g has lane g, the lanes wait as the groups do, arc by arc.
+/// If group g has lane g, the lanes wait as the groups do, arc by arc.
 pub fn own_lanes_wait_as_groups_do()
     ensures { (d : Declaration) → IsDeclaration d → lane_graph d (own_lanes d.groups) ≡ group_graph d }
 {}

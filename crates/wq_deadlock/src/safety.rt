@@ -1,9 +1,9 @@
 //! Whether an assignment, or workqueues of which some have no rescuer, are safe: no run of them ends stuck.
 //!
 //! The rule is that of Documentation/core-api/workqueue.rst, "Guidelines": work items that are used
-//! during reclaim and depend on one another belong on separate workqueues with WQ_MEM_RECLAIM. Where the
+//! during reclaim and depend on one another belong on separate workqueues with WQ_MEM_RECLAIM. If the
 //! workqueues have ranks that fall along every declared flush, a chain of workqueues can always move at
-//! its end. Where they wait in a circle, some run ends stuck. This is asked once, when a runtime is
+//! its end. If they wait in a circle, some run ends stuck. This is asked once, when a runtime is
 //! made. No run and no machine is made for it. The wait graph of the workqueues takes time in the number
 //! of items, workqueues and flushes, and its ranks take time in that of workqueues and flushes.
 
@@ -27,7 +27,7 @@ use wq_levels::{Ranked, rank};
 /// Whether an assignment of a table's items is safe. The groups are those of this
 /// table, and the assignment has a workqueue for each of them.
 ///
-/// The only error is out of memory (20), which can't occur where there is no workqueue.
+/// The only error is out of memory (20), which can't occur if there is no workqueue.
 pub fn is_safe<A: Allocator + Copy>(
     alloc: A,
     table: &ItemTable<'_, A>,
@@ -72,7 +72,7 @@ fn rescued_are_safe<A: Allocator + Copy>(
 
 /// Whether the workqueues of declared groups are safe.
 ///
-/// The only error is out of memory (20), which can't occur where there is no workqueue.
+/// The only error is out of memory (20), which can't occur if there is no workqueue.
 pub fn are_safe<A: Allocator + Copy>(
     alloc: A,
     assigned: &Assigned<'_, '_, A>,

@@ -1,7 +1,7 @@
 //! Whether workqueues are safe, of which some may have no rescuer.
 //!
 //! Nobody can rely on a workqueue without a rescuer. So an item whose workqueue has one may never
-//! finish where it waits for an item whose workqueue has none. Where no item does that, what is
+//! finish where it waits for an item whose workqueue has none. If no item does that, what is
 //! on those without a rescuer counts no more, and the others are judged by their graph. It takes
 //! the time of two wait graphs and their ranks, and, where it isn't safe, that of the run.
 
@@ -22,7 +22,7 @@ use wq_levels::{Ranked, rank};
 
 /// The wait graph of the lanes that have a rescuer; and what holds of each declaration with workqueues.
 ///
-/// The only error is out of memory (20), which can't occur where there is no lane.
+/// The only error is out of memory (20), which can't occur if there is no lane.
 pub fn rescued_graph<A: Allocator + Copy>(
     alloc: A,
     assigned: &Assigned<'_, '_, A>,
@@ -87,7 +87,7 @@ fn judge_rescued<A: Allocator + Copy>(
 /// `Deadlock` has a run that ends stuck. The items that are queued first hold up all that wait for them: where a flush
 /// leads from a workqueue that has a rescuer to one that has none, that is the item of the first such flush, and
 /// otherwise those are the items of the circle in which the workqueues wait that have a rescuer. The only error is out
-/// of memory (20), which can't occur where there is no workqueue.
+/// of memory (20), which can't occur if there is no workqueue.
 pub fn judge<A: Allocator + Copy>(
     alloc: A,
     assigned: &Assigned<'_, '_, A>,

@@ -12,7 +12,7 @@ keyword_of word =
     else (if bytes_eq word (codes "flushwq") then Some FlushWq
     else (if bytes_eq word (codes "ordered") then Some Ordered else None)))
 
--- words cut after the first: it as a keyword, if it is one, and the others; nothing where there are none
+-- words cut after the first: it as a keyword, if it is one, and the others; nothing if there are none
 abbrev pub keyword_cut : List WordView → Option (Option Keyword × List WordView)
 keyword_cut [] = None
 keyword_cut (first ∷ others) = Some (keyword_of first.bytes, others)

@@ -68,7 +68,7 @@ fn cut_other<'a>(line: &Line<'a>) -> Option<(Option<Keyword>, Words<'a>)>
 }
 
 /// The first word of a line as a keyword, if it is one, and the words after it;
-/// nothing where the line has no word before its comment.
+/// nothing if the line has no word before its comment.
 #[inline(always)]
 pub fn cut_keyword<'a>(line: &Line<'a>) -> Option<(Option<Keyword>, Words<'a>)>
     ensures { result ≡ keyword_cut (words_of line.now) }

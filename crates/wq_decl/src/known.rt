@@ -25,7 +25,7 @@ fn read_known_after<'a>(keyword: Option<Keyword>, mut words: Words<'a>) -> Optio
     }
 }
 
-/// What a line says, if it has no fault: nothing where there is no word before its comment, or else a directive.
+/// What a line says, if it has no fault: nothing if there is no word before its comment, or else a directive.
 pub(crate) fn read_known_line<'a>(line: &Line<'a>) -> Option<Directive<'a>>
     requires { IsOk (reading line.now) }
     ensures { reading line.now ≡ Ok result }

@@ -17,7 +17,7 @@ pub fn first_fault_is_the_lowest()
     ensures some { (lines : List LineView) (e : DeclError) → (first_fault lines ≡ Some e) ↔ IsLowestDeclFault lines e }
 {}
 
-/// A line has no fault exactly where it breaks no row of the table of refusals. Otherwise its fault is that of the
+/// A line has no fault exactly if it breaks no row of the table of refusals. Otherwise its fault is that of the
 /// first row that it breaks: 3, 4, 5, 12 and 6, in this order.
 pub fn the_first_row_of_a_line_decides()
     ensures none { (line : LineView) → IsOk (reading line) ↔ ((e : DeclError) → ¬ BreaksRow line e) }

@@ -47,7 +47,7 @@ fn next_ordered_line<'a>(lines: &mut Lines<'a>) -> Option<(u32, Words<'a>)>
 #[derive(Drop)]
 pub struct OrderedLines<'a> {
     lines: Lines<'a>,
-    /// How many are left, where that is known.
+    /// How many are left, if that is known.
     left: Option<u32>,
 }
 

@@ -166,7 +166,7 @@ fn read_after<'a>(
     }
 }
 
-/// What the words of a line say: nothing where there are none, or else a directive or their first fault.
+/// What the words of a line say: nothing if there are none, or else a directive or their first fault.
 fn read_words<'a>(line: &Line<'a>) -> Result<Option<Directive<'a>>, DeclError>
     ensures { result ≡ words_reading line.now.no (words_of line.now) }
 {
@@ -176,9 +176,9 @@ fn read_words<'a>(line: &Line<'a>) -> Result<Option<Directive<'a>>, DeclError>
     }
 }
 
-/// What a line says: nothing where there is no word before its comment, or else a directive or its first fault.
+/// What a line says: nothing if there is no word before its comment, or else a directive or its first fault.
 ///
-/// Words that have no fault hold no bad byte. So the bytes of a line are judged only where there is a fault.
+/// Words that have no fault hold no bad byte. So the bytes of a line are judged only if there is a fault.
 pub(crate) fn read_line<'a>(line: &Line<'a>) -> Result<Option<Directive<'a>>, DeclError>
     ensures { result ≡ reading line.now }
 {

@@ -57,7 +57,7 @@ impl<A: Allocator + Copy> WaitGraph<A> {
 
     /// The wait graph of the groups of a table's items. The groups are those of this table.
     ///
-    /// The only error is out of memory (20), which can't occur where there is no group.
+    /// The only error is out of memory (20), which can't occur if there is no group.
     pub fn of_groups(
         alloc: A,
         table: &ItemTable<'_, A>,
@@ -73,7 +73,7 @@ impl<A: Allocator + Copy> WaitGraph<A> {
     /// The wait graph of the lanes of an assignment. The groups are those of this table, and the assignment has a lane
     /// for each of them. A lane that serves no group has no arc.
     ///
-    /// The only error is out of memory (20), which can't occur where there is no lane.
+    /// The only error is out of memory (20), which can't occur if there is no lane.
     pub fn of_lanes(
         alloc: A,
         table: &ItemTable<'_, A>,
@@ -93,7 +93,7 @@ impl<A: Allocator + Copy> WaitGraph<A> {
     /// The same graph without the vertices of which this says so: no arc leaves one or leads to one. They keep their
     /// numbers. A vertex past the end of the list stays.
     ///
-    /// The only error is out of memory (20), which can't occur where there is no vertex.
+    /// The only error is out of memory (20), which can't occur if there is no vertex.
     pub fn without(self, alloc: A, left_out: &[bool]) -> Result<Self, AllocError>
         ensures graph { IfOk result (λ g. g ≡ without left_out.now self) }
         ensures memory { IfErr result (λ _. 0 < length self) }

@@ -28,21 +28,21 @@ pub fn arcs_are_the_only_ones()
         AreArcsFrom waits vertex_of v arcs → AreArcsFrom waits vertex_of v others → arcs ≡ others }
 {}
 
-/// A group waits for another group exactly where an arc leaves the one for the other.
+/// A group waits for another group exactly if an arc leaves the one for the other.
 pub fn groups_wait_along_arcs()
     ensures { (d : Declaration) (g h : ℕ) →
         IsDeclaration d → (GroupWaits d g h ↔ HasArc (group_graph d) g h) }
 {}
 
-/// A lane waits for a lane, by an item of the one that declares a flush of an item of the other, exactly where an arc
+/// A lane waits for a lane, by an item of the one that declares a flush of an item of the other, exactly if an arc
 /// leaves the one for the other.
 pub fn lanes_wait_along_arcs()
     ensures { (d : Declaration) (a : Assignment) (p q : ℕ) → IsDeclaration d → IsAssignment d.groups a →
         (VertexWaits d.waits (item_lanes a d.group_of) p q ↔ HasArc (lane_graph d a) p q) }
 {}
 
-/// Of a graph without some of its vertices: an arc leaves a vertex for another exactly where it did before and both
-/// stay; and what holds of every wait graph holds of it. Where no vertex is left out, it is the same graph.
+/// Of a graph without some of its vertices: an arc leaves a vertex for another exactly if it did before and both
+/// stay; and what holds of every wait graph holds of it. If no vertex is left out, it is the same graph.
 pub fn a_graph_without_vertices()
     ensures arcs { (out : List Bool) (graph : List (List WaitArc)) (v w : ℕ) → HasArc (without out graph) v w
         ↔ ((is_left_out out v ≡ false) × (is_left_out out w ≡ false) × HasArc graph v w) }

@@ -88,7 +88,7 @@ impl<A: Allocator> Assignment<A> {
 impl<A: Allocator + Copy> Assignment<A> {
     /// The number of each group's lane, in turn.
     ///
-    /// The only error is out of memory (20), which can't occur where there is no group.
+    /// The only error is out of memory (20), which can't occur if there is no group.
     pub fn lanes_of_groups(&self, alloc: A) -> Result<Vec<u16, A>, AllocError>
         ensures lanes { IfOk result (λ lanes. lanes.items ≡ self.now.lane_of_group) }
         ensures memory { OnErr result (0 < length self.now.lane_of_group) }
@@ -102,7 +102,7 @@ impl<A: Allocator + Copy> Assignment<A> {
 
     /// The number of each item's lane, in turn: that of its group. Each of the groups has a lane.
     ///
-    /// The only error is out of memory (20), which can't occur where there is no item.
+    /// The only error is out of memory (20), which can't occur if there is no item.
     pub fn item_lanes(&self, alloc: A, groups: &Groups<A>) -> Result<Vec<u16, A>, AllocError>
         requires { length self.now.lane_of_group ≡ groups.now.groups }
         ensures lanes { IfOk result (λ lanes. lanes.items ≡ item_lanes self.now groups.now.group_of) }

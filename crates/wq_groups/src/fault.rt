@@ -31,7 +31,7 @@ impl GroupError {
         }
     }
 
-    /// The line of the fault, from 1, or 0 where no line is meant.
+    /// The line of the fault, from 1, or 0 if no line is meant.
     pub fn line(self) -> u32
         ensures { result ≡ (group_refusal self).line }
     {

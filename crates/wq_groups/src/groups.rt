@@ -49,7 +49,7 @@ impl<A: Allocator + Copy> Groups<A> {
     /// table. The table was read from this view.
     ///
     /// The error is `GroupedTwice` (11), with the lowest `ordered` line that has a name twice, or one that is on an
-    /// earlier `ordered` line; or `OutOfMemory` (20), where a growth was refused. Nothing grows before all lines are
+    /// earlier `ordered` line; or `OutOfMemory` (20), if a growth was refused. Nothing grows before all lines are
     /// judged, nor where there is no item.
     pub fn read(alloc: A, view: &DeclView<'_>, table: &ItemTable<'_, A>) -> Result<Self, GroupError>
         requires { table_of view.now ≡ Ok table.now }

@@ -31,7 +31,7 @@ pub fn partition_is_the_only_one()
         p ≡ q }
 {}
 
-/// There is no fault exactly where all names on `ordered` lines differ. Otherwise
+/// There is no fault exactly if all names on `ordered` lines differ. Otherwise
 /// the fault is that of the first line with which they don't.
 pub fn faults_without_groups()
     ensures none { (ds : List (ℕ × Directive)) →

@@ -30,7 +30,7 @@ impl<A: Allocator> Model for Members<A> {
 impl<A: Allocator + Copy> Members<A> {
     /// Makes the lists of so many groups, where these are the groups of the items.
     ///
-    /// The only error is out of memory, which can't occur where there is no group.
+    /// The only error is out of memory, which can't occur if there is no group.
     pub(crate) fn new(alloc: A, group_of: &[u16], groups: u16) -> Result<Self, AllocError>
         requires within { All (λ g. g < groups) group_of.now }
         requires few { length group_of.now ≤ 4096 }

@@ -1,6 +1,6 @@
 //! Reading the `ordered` lines: for each item, the first-declared item of its group.
 //!
-//! The rules are those of "Items and groups" in docs/FORMAT.md. Where there is no `ordered` line, each item has a group
+//! The rules are those of "Items and groups" in docs/FORMAT.md. If there is no `ordered` line, each item has a group
 //! of its own, and the lines aren't scanned. This takes time in the number of items. Otherwise each name of an
 //! `ordered` line is looked up once. This takes time in the length of the text. The notes about the items are on the
 //! stack, so no memory is taken before all lines are judged.

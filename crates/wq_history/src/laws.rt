@@ -98,8 +98,8 @@ pub fn no_more_are_told_than_asked()
         count_by (λ (row : Row). is_told row.event) rows ≤ count_by (λ (row : Row). is_ask row.event && row.yes) rows }
 {}
 
-/// Whom an event wakes, and whom the closing of a book wakes, is enough: each who sleeps for a condition that becomes
-/// true, and one context for each entry more that it may start.
+/// Every event, and the closing of a book, wakes enough sleepers: all that wait for a condition that becomes true, and
+/// one context for each entry more that may be started.
 pub fn an_event_wakes_enough()
     ensures event { (old new : BookView) (event : Event) (said : Bool) (n : ℕ) (wake : Wake) → IsBook old →
         old.wiring.helpers ≤ max_helpers → Appends old new event said n → WakesBy new event said wake →

@@ -26,7 +26,7 @@ names_of names = map (λ (n : Name). n.bytes.now) names
 abbrev pub keys_of : ℕ → List Name → List ℕ
 keys_of most names = map (λ (n : Name). bit_and n.hash most) names
 
--- `end` is the place after the last one of key k before the place `bound`, or 0 where there is none
+-- `end` is the place after the last one of key k before the place `bound`, or 0 if there is none
 pub record EndsAfterLast (keys : List ℕ) (k bound end : ℕ) : Type 0 where
   pub within : end ≤ bound
   pub last : (p : ℕ) → p < bound → slice_index keys p ≡ k → p < end

@@ -92,8 +92,8 @@ fn words_unjudged<'a>(line: &Line<'a>) -> Option<Option<Directive<'a>>>
     }
 }
 
-/// What a line says, if its words are enough and names: nothing where no word stands before its comment, else a
-/// directive. There is no answer where it has a fault, whatever its words are.
+/// What a line says, if its words are enough and names: nothing if no word stands before its comment, else a
+/// directive. There is no answer if it has a fault, whatever its words are.
 fn line_unjudged<'a>(line: &Line<'a>) -> Option<Option<Directive<'a>>>
     ensures { Foretells result (reading line.now) }
 {
@@ -132,7 +132,7 @@ impl<'a, A: Allocator + Copy> Parts<'a, A> {
         }
     }
 
-    /// Adds what a line declares, if its directive is whole. Where there is no
+    /// Adds what a line declares, if its directive is whole. If there is no
     /// answer, the parts are of no use any more.
     fn take(&mut self, directive: Directive<'a>) -> Option<()>
         requires { IsTable self.old }
@@ -210,7 +210,7 @@ impl<'a, A: Allocator + Copy> Parts<'a, A> {
         Some(())
     }
 
-    /// The table of the parts, and the items that were noted. There is no answer where memory ran out.
+    /// The table of the parts, and the items that were noted. There is no answer if memory ran out.
     fn finish(self, alloc: A) -> Option<(ItemTable<'a, A>, Vec<ItemId, A>)>
         requires { IsTable self }
         ensures table { IfSome result (λ r. r.0 ≡ self.entry) }
@@ -303,7 +303,7 @@ impl<'a> Orders<'a> {
 /// The items that the `ordered` lines name are handed out, too, in turn: a guess for each name that
 /// `Groups::read_guessed` looks up. Nothing is promised of them.
 ///
-/// There is no answer where some line has a fault, of the grammar or of the items; or where a growth was refused, at a
+/// There is no answer if some line has a fault, of the grammar or of the items; or if a growth was refused, at a
 /// line that declares an item or a flush.
 pub fn read_at_once<'a, A: Allocator + Copy>(
     alloc: A,

@@ -20,7 +20,7 @@ pub fn circle_has_no_rank<R: Relation>()
         All (λ v. (r : ℕ) → ¬ IsRank R.waits v r) (circle.first ∷ circle.others) }
 {}
 
-/// Where each vertex below n has a rank, there is no circle of them.
+/// If each vertex below n has a rank, there is no circle of them.
 pub fn ranks_rule_out_circles<R: Relation>()
     ensures { (n : ℕ) →
         ((v : ℕ) → v < n → (r : ℕ) × IsRank R.waits v r) → ¬ HasCircle R.waits n }

@@ -45,7 +45,7 @@ impl ItemError {
         }
     }
 
-    /// The line of the fault, from 1, or 0 where no line is meant.
+    /// The line of the fault, from 1, or 0 if no line is meant.
     pub fn line(self) -> u32
         ensures { result ≡ (item_refusal self).line }
     {

@@ -93,7 +93,7 @@ impl<A: Allocator + Copy> Flushes<A> {
         }
     }
 
-    /// The targets, item by item. The only error is out of memory, which can't occur where there is no item.
+    /// The targets, item by item. The only error is out of memory, which can't occur if there is no item.
     pub(crate) fn by_item(self, alloc: A) -> Result<Waits<A>, AllocError>
         requires { flush_count self < 4294967296 }
         ensures waits { IfOk result (λ waits. waits ≡ self) }

@@ -35,7 +35,7 @@ impl<'a, A: Allocator> Model for Named<'a, A> {
     ghost invariant = { λ n. AreFound n.hasher n.names.items n.places.lasts.items n.places.befores.items };
 }
 
-/// Places by key. Each is one more than it is, and 0 where there is none.
+/// Places by key. Each is one more than it is, and 0 if there is none.
 #[derive(Drop)]
 struct Places<A: Allocator> {
     /// For each key the last place.
@@ -87,7 +87,7 @@ impl<A: Allocator + Copy> Places<A> {
 impl<'a, A: Allocator + Copy> Named<'a, A> {
     /// These names, which bring hashes of this hasher.
     ///
-    /// The only error is out of memory, which can't occur where there is no name.
+    /// The only error is out of memory, which can't occur if there is no name.
     pub(crate) fn new(alloc: A, hasher: Seeded, names: &[Name<'a>]) -> Result<Self, AllocError>
         requires few { length names.now ≤ 4096 }
         requires hashed { AreHashed hasher names.now }

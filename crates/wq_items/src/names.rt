@@ -67,7 +67,7 @@ impl<'a, A: Allocator + Copy> Names<'a, A> {
         Ok(added)
     }
 
-    /// Makes room for eight times as many names where there is none for another, so that few growths move them all. If
+    /// Makes room for eight times as many names if there is none for another, so that few growths move them all. If
     /// this memory is refused, the next name that is added asks for less.
     fn make_room(&mut self)
         ensures { self.new ≡ self.old }
@@ -79,7 +79,7 @@ impl<'a, A: Allocator + Copy> Names<'a, A> {
     }
 
     /// The names with their numbers, without the map. The only error is out of
-    /// memory, which can't occur where there is no name.
+    /// memory, which can't occur if there is no name.
     pub(crate) fn finish(self, alloc: A) -> Result<Named<'a, A>, AllocError>
         requires few { length self ≤ 4096 }
         requires distinct { AllPairs (λ (a b : List ℕ). a ≢ b) self }

@@ -95,7 +95,7 @@ fn count_known<'a, A: Allocator + Copy>(names: &Names<'a, A>, words: Words<'a>) 
     Some(count)
 }
 
-/// Adds targets of one item, at the places from `place` on, and returns the place after them. It returns nothing where
+/// Adds targets of one item, at the places from `place` on, and returns the place after them. It returns nothing if
 /// a name is unknown, where there are too many flushes, or where memory ran out; `refusal` says which it is.
 #[inline(always)]
 pub(crate) fn push_targets<'a, A: Allocator + Copy>(
@@ -400,7 +400,7 @@ impl<'a, A: Allocator + Copy> ItemTable<'a, A> {
     /// declared by an earlier `item` line, like each name on a `flush` line.
     ///
     /// The error is the first fault, of the lowest line that has one: `ItemTwice` (7), `TooManyItems` (9),
-    /// `UnknownItem` (8) or `TooManyFlushes` (10), in this order in a line; or `OutOfMemory` (20), where a growth was
+    /// `UnknownItem` (8) or `TooManyFlushes` (10), in this order in a line; or `OutOfMemory` (20), if a growth was
     /// refused before it, at a line that declares an item or a flush.
     pub fn read(alloc: A, view: &DeclView<'a>) -> Result<Self, ItemError>
         ensures table { IfOk result (λ t. table_of view.now ≡ Ok t) }

@@ -49,7 +49,7 @@ fn items_flushing<A: Allocator + Copy>(
 impl<A: Allocator + Copy> Waits<A> {
     /// Makes the targets of this many items, where these are the flushes in order of place.
     ///
-    /// The only error is out of memory, which can't occur where there is no item.
+    /// The only error is out of memory, which can't occur if there is no item.
     pub(crate) fn new(alloc: A, flushes: &[Flush], items: u16) -> Result<Self, AllocError>
         requires within { All (λ (f : Flush). f.item < items) flushes.now }
         requires few { length flushes.now < 4294967296 }

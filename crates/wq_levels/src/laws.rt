@@ -28,7 +28,7 @@ pub fn the_ranks_are_the_only_ones()
 {}
 
 /// The rank of a vertex is one above the highest of those that its arcs lead to, or
-/// 0 where it has no arc. It is below the number of vertices.
+/// 0 if it has no arc. It is below the number of vertices.
 pub fn ranks_fall_along_arcs()
     ensures fall { (graph : List (List WaitArc)) (ranks : List ℕ) (v w : ℕ) → IsGraph graph → AreRanks graph ranks →
         v < length graph → HasArc graph v w → slice_index ranks w < slice_index ranks v }
@@ -55,7 +55,7 @@ pub fn a_walked_circle_is_a_circle()
         IsGraph graph → IsWalkedCircle graph circle → HasCircle (HasArc graph) (length graph) }
 {}
 
-/// Where vertices wait in a circle, whichever it is, the walk runs into one.
+/// If vertices wait in a circle, whichever it is, the walk runs into one.
 pub fn the_walk_finds_a_circle()
     ensures { (graph : List (List WaitArc)) → IsGraph graph → HasCircle (HasArc graph) (length graph) →
         (circle : List WaitArc) × IsWalkedCircle graph circle }

@@ -2,7 +2,7 @@
 //!
 //! A vertex is removed once all of its arcs have gone, and then the arcs that lead to it go. So each vertex comes after
 //! those that it waits for (A. B. Kahn, "Topological sorting of large networks", Communications of the ACM 5, 1962).
-//! Where all are removed, their ranks are found: the workqueues of "Plan texts" in docs/FORMAT.md. Otherwise some
+//! If all are removed, their ranks are found: the workqueues of "Plan texts" in docs/FORMAT.md. Otherwise some
 //! remain, and the walk from the lowest-numbered of them finds the circle of "Circle texts". It takes time and memory
 //! in the number of vertices and arcs.
 

@@ -56,7 +56,7 @@ pub fn read_text<R: Read, A: Allocator + Copy>(
     Ok(text)
 }
 
-/// Makes room for a long text where exactly the first chunk is full, so that few growths move it. If this memory is
+/// Makes room for a long text if exactly the first chunk is full, so that few growths move it. If this memory is
 /// refused, the text asks for less as it grows.
 fn make_room<A: Allocator>(text: &mut Vec<u8, A>)
     ensures { text.new.items ≡ text.old.items }

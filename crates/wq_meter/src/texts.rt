@@ -8,7 +8,7 @@ use std::alloc::Allocator;
 use std::marker::Model;
 
 /// How many bytes each text of a command may have. A command has a first text, and a
-/// second or a third only where there is a limit for it.
+/// second or a third only if there is a limit for it.
 #[derive(Clone, Copy, Debug, PartialEq, Eq)]
 pub struct Limits {
     pub first: u32,

@@ -397,7 +397,7 @@ fn homes_to_be<A: Allocator + Copy>(
 }
 
 /// Puts these groups together, in this order, with those that come from the same lane of the old workqueues: at the
-/// vertex that `homes` has for the lane. The first that comes where there is none makes its own the home. The answer
+/// vertex that `homes` has for the lane. The first that comes if there is none makes its own the home. The answer
 /// says of each group whether it is at the home of its lane.
 pub(crate) fn put_together<A: Allocator + Copy>(
     alloc: A,

@@ -27,14 +27,14 @@ pub fn who_needs_a_rescuer_has_one()
         IsRescued new (lane_in new g) ⊎ Deadlocks (wiring_of d new) }
 {}
 
-/// Where groups that need a rescuer wait in a circle, whatever may be compared deadlocks.
+/// If groups that need a rescuer wait in a circle, whatever may be compared deadlocks.
 pub fn a_circle_of_needed_groups_cannot_be_repaired()
     ensures { (d : Declaration) (old new : Workqueues) (names : List ℕ) → IsDeclaration d →
         IsAssignment d.groups old.assignment → IsToBeCompared d old names new → Circle (NeededWaits d old) →
         Deadlocks (wiring_of d new) }
 {}
 
-/// Where the start deadlocks, whatever may be compared does: an item on a lane that has a rescuer waits for one on a
+/// If the start deadlocks, whatever may be compared does: an item on a lane that has a rescuer waits for one on a
 /// lane that has none, or the lanes wait in a circle.
 pub fn names_are_too_few_where_the_start_deadlocks()
     ensures leads_to_bare { (d : Declaration) (old start new : Workqueues) (names : List ℕ) (g h : ℕ) →
@@ -47,7 +47,7 @@ pub fn names_are_too_few_where_the_start_deadlocks()
         HangsRound d start → Deadlocks (wiring_of d new) }
 {}
 
-/// Where each group that moved has to leave or was tried in vain, and each lane that is given a rescuer needs it, what
+/// If each group that moved has to leave or was tried in vain, and each lane that is given a rescuer needs it, what
 /// has fewer changes deadlocks, if it gives a rescuer to all that need one.
 pub fn no_change_can_be_left_out()
     ensures { (d : Declaration) (old new fewer : Workqueues) (names : List ℕ) (needed : List Bool) → IsDeclaration d →
@@ -63,7 +63,7 @@ pub fn falling_numbers_of_needed_groups_are_safe()
         IsAssignment d.groups new.assignment → FallsAlongWaits d new needed number → IsSafe (wiring_of d new) }
 {}
 
-/// Where numbers fall along each arc, two vertices become one, and neither leads to the other, there are numbers that
+/// If numbers fall along each arc, two vertices become one, and neither leads to the other, there are numbers that
 /// fall along each arc again. `beyond` says to which vertices the two lead. It holds for any relation.
 pub fn joining_vertices_that_lead_to_neither_makes_no_circle<R: Relation>()
     ensures { (number : ℕ → ℕ) (bound u v : ℕ) (beyond : ℕ → Bool) →

@@ -1,21 +1,22 @@
 //! Vertices that become one, part by part, and which of some lead to one another.
 //!
-//! Those that are one wait for all for whom one of them waits. Who leads to a part is told along all waits, in an order
-//! in which each part comes before those to which it leads, as in A. B. Kahn, "Topological sorting of large networks"
-//! (Communications of the ACM 5, 1962), for 256 vertices at a time, a bit for each. It takes time in the number of
-//! vertices and waits, times that of vertices asked about by 256; memory in the number of vertices and waits.
+//! A merged part waits for everything that any of its members waits for. Which vertices lead to a part is found along
+//! all waits, for 256 vertices at a time, with a bit for each. The parts are gone through in a topological order, as in
+//! A. B. Kahn, "Topological sorting of large networks" (Communications of the ACM 5, 1962).
+//!
+//! With v vertices, w waits and n vertices asked about this takes time in (v + w) * (n / 256 + 1), and memory in v + w.
 
 use crate::bits::{Numbers, empty_sets};
 use crate::vertex_lists::VertexLists;
 use std::alloc::{AllocError, Allocator};
 
-/// So many words tell who leads to a part.
+/// How many words a row has.
 const WORDS: usize = 4;
 
-/// So many are told at a time: there is a bit for each.
+/// How many vertices a row is of: there is a bit for each.
 const AT_A_TIME: usize = 64 * WORDS;
 
-/// Who of some vertices leads to a part, or is in it.
+/// Of some vertices those that lead to a part, or are in it: a bit for each.
 type Row = [u64; WORDS];
 
 /// Which vertices have become one.
@@ -26,7 +27,7 @@ pub(crate) struct Parts<A: Allocator> {
 }
 
 impl<A: Allocator + Copy> Parts<A> {
-    /// Each of so many vertices is a part.
+    /// Of this many vertices each is a part of its own.
     pub(crate) fn new(alloc: A, vertices: usize) -> Result<Self, AllocError> {
         let mut part_of = Vec::with_capacity(alloc, vertices)?;
         let mut vertex: u16 = 0;
@@ -50,7 +51,7 @@ impl<A: Allocator + Copy> Parts<A> {
         }
     }
 
-    /// These vertices become one. Each was a part alone.
+    /// Makes these vertices one part. Each was a part of its own.
     pub(crate) fn unite(&mut self, vertices: &[u16]) {
         let Some(first) = vertices.first() else {
             return;
@@ -62,8 +63,8 @@ impl<A: Allocator + Copy> Parts<A> {
         }
     }
 
-    /// For each vertex a height, which those of a part share. It falls along all waits. `targets` has for each part
-    /// those for which it waits.
+    /// For each vertex a height that falls along all waits, the same for the vertices of a part. `targets` has for each
+    /// part those for which it waits.
     pub(crate) fn heights(
         &self,
         alloc: A,
@@ -144,7 +145,7 @@ impl<A: Allocator + Copy> Parts<A> {
     }
 }
 
-/// The parts for which nobody waits.
+/// The parts for which no other part waits.
 fn none_waits_for<A: Allocator + Copy>(
     alloc: A,
     counts: &[u32],
@@ -192,7 +193,7 @@ fn row_of(rows: &[Row], part: u16) -> Row {
     }
 }
 
-/// All who are in another row come to a row.
+/// ORs another row into a row.
 fn add_row(row: &mut Row, other: &Row) {
     for (word, more) in row.iter_mut().zip(other.iter()) {
         *word |= *more;

@@ -1,7 +1,7 @@
 //! Repairs: from workqueues that deadlock to such that don't.
 //!
 //! The groups that need a rescuer are found, and wait in no circle, or nothing helps. If each of them that may move has
-//! a lane for itself and there is still a deadlock, too few may move. Otherwise they are put back one by one where that
+//! a lane for itself and there is still a deadlock, too few may move. Otherwise they are put back one by one if that
 //! makes no circle; those that can't be put back are kept together as far as possible, and go to lanes of their rank.
 
 ghost use Rattle.std.specs.Prelude.{◌≡◌, ◌↔◌, ◌<◌, ◌≤◌, ℕ, Bool, List, length, map, not, slice_index, IfOk, OnErr};
@@ -394,7 +394,7 @@ fn repair_deadlocked<A: Allocator + Copy>(
 /// `Safe` says that nothing has to be done. `Repaired` has workqueues that are safe: what has only some of their
 /// changes deadlocks. A change is a group on another workqueue, or a rescuer for a workqueue that had none and on which
 /// a group stays. `TooFewNames` and `Circle` say that whatever is changed deadlocks, if only these may move, and
-/// whatever may move. The only error is out of memory (20), which can't occur where there is no workqueue.
+/// whatever may move. The only error is out of memory (20), which can't occur if there is no workqueue.
 pub fn repair<A: Allocator + Copy>(
     alloc: A,
     assigned: &Assigned<'_, '_, A>,

@@ -55,7 +55,7 @@ impl From<Fault> for CommandFault {
     }
 }
 
-/// Why `run` has no answer, where the text isn't refused.
+/// Why `run` has no answer, if the text isn't refused.
 #[derive(Clone, Copy, Debug, PartialEq, Eq)]
 pub enum RunStop {
     /// Memory ran out.
@@ -78,7 +78,7 @@ impl From<AllocError> for RunStop {
 impl From<RunWhy> for RunStop {
     ghost from_gives = { λ why stop. stop ≡ stop_of_run why };
 
-    /// Why there is no answer where not everything was run. Each rescuer and each helper is given a body, and there are
+    /// Why there is no answer if not everything was run. Each rescuer and each helper is given a body, and there are
     /// seats for those of 256 workqueues and for two callers, so `BodiesDiffer` and `TooManySeats` never occur.
     fn from(why: RunWhy) -> RunStop {
         match why {

@@ -25,7 +25,7 @@ pub fn a_refusal_is_printed_as_by_plan()
     ensures { (helpers : ℕ) (text out : List ℕ) → Answers text Refused out → RunsPlan helpers text Refused out }
 {}
 
-/// A plan is run exactly where a text declares items whose plan a runtime can have: at most 256 workqueues.
+/// A plan is run exactly if a text declares items whose plan a runtime can have: at most 256 workqueues.
 pub fn what_is_runnable_is_run()
     ensures run { (helpers : ℕ) (text : List ℕ) (end : End) (out : List ℕ) → IsRunnable text →
         RunsPlan helpers text end out → end ≡ Good }

@@ -187,7 +187,7 @@ fn respond<
 /// Of the declaration at most 1,048,577 bytes are read, in at most as many calls. The errors are `Fault::Read`, where
 /// the read failed, `Fault::Memory`, where memory for the text ran out, `Fault::Write`, where a write of the answer
 /// failed or took no byte, and the reason why there is no answer. After `Fault::Write` a prefix of the answer is
-/// written, and after the others nothing. Something is said only after the whole answer is written. Where memory for it
+/// written, and after the others nothing. Something is said only after the whole answer is written. If memory for it
 /// runs out, nothing is said, and where a write of it fails, no more. Neither changes the answer or the end. It isn't
 /// promised that the calls of the threads ever return.
 ///
@@ -249,7 +249,7 @@ pub fn carry_out_run<
 }
 
 /// Reads a declaration to its end, runs its plan, and writes how often each item was queued, cancelled and finished.
-/// Where there is no plan, it writes the text of the circle in which the groups wait, with a run that shows it; where
+/// If there is no plan, it writes the text of the circle in which the groups wait, with a run that shows it; where
 /// the text is refused, the refusal.
 ///
 /// The plan has a rescuer thread for each workqueue, and this many helper threads, at most 8, for each that isn't

@@ -55,7 +55,7 @@ fn refuse_runtime<A: Allocator + Copy>(
 }
 
 /// Runs a plan in the runtime of this name, which has this many helpers, or refuses
-/// it where a runtime can't have this many workqueues.
+/// it if a runtime can't have this many workqueues.
 fn run_named<N: Naming + Send + Sync, A: Allocator + Copy + Send + Sync, R: Threads + Wait + Sync>(
     rt: &R,
     alloc: A,
@@ -86,7 +86,7 @@ fn run_named<N: Naming + Send + Sync, A: Allocator + Copy + Send + Sync, R: Thre
     }
 }
 
-/// Runs a plan, or refuses it where a runtime can't have this many workqueues.
+/// Runs a plan, or refuses it if a runtime can't have this many workqueues.
 fn run_plan<A: Allocator + Copy + Send + Sync, R: Threads + Wait + Sync>(
     rt: &R,
     alloc: A,

@@ -1,7 +1,7 @@
 //! A line, word by word: one space between two words, and a line feed after the last.
 //!
 //! This is how each line of "Plan texts", "Circle texts" and "Run texts" in docs/FORMAT.md is printed, and each answer
-//! of the commands. Each call takes time in the length of what it adds, and memory for nothing else. Where memory runs
+//! of the commands. Each call takes time in the length of what it adds, and memory for nothing else. If memory runs
 //! out, a part of it may have been added.
 
 ghost use Rattle.std.specs.Prelude.{◌≡◌, ◌++◌, ◌∷◌, [], OnErr, OnOk, decimal};

@@ -12,7 +12,7 @@ use std::simd::prelude::*;
 /// How many bytes a vector has.
 const LANES: usize = 16;
 
-/// The place of the lowest bit that is set, or 16 where none is.
+/// The place of the lowest bit that is set, or 16 if none is.
 fn first_set(mask: u64) -> usize
     ensures { result ≡ first_set mask }
 {

@@ -119,7 +119,7 @@ fn split_blanks(bytes: &[u8]) -> (&[u8], &[u8])
     bytes.split_at(len)
 }
 
-/// Separates the word at the front of these bytes from what follows it. There is none where the comment or the end
+/// Separates the word at the front of these bytes from what follows it. There is none if the comment or the end
 /// comes at once. The text begins with these bytes.
 fn split_word<'a>(bytes: &'a [u8], text: &[u8]) -> (&'a [u8], &'a [u8])
     requires { bytes.now ≡ take (length bytes.now) text.now }

@@ -114,7 +114,7 @@ tail_spelled (tails.Names given) = names (map (λ s. s.now) given.items)
 tail_spelled (tails.Helpers count) = helpers count
 tail_spelled (tails.Word given) = word (option_map (λ s. s.now) given)
 
--- the names that stand there; none where something else does
+-- the names that stand there; none if something else does
 abbrev pub names_asked : Behind → List Text
 names_asked (names given) = given
 names_asked _ = []
@@ -202,7 +202,7 @@ abbrev pub helpers_in : Option Text → ℕ
 helpers_in None = 0
 helpers_in (Some text) = digits_value 10 (without_leading_plus text)
 
--- the number of helpers where a word was read so: none without a word, and no more than 8
+-- the number of helpers if a word was read so: none without a word, and no more than 8
 abbrev pub few_read : {E : Type 0} → Result (Option ℕ) E → Option ℕ
 few_read (Ok None) = Some 0
 few_read (Ok (Some n)) = if nat_lt 8 n then None else Some n

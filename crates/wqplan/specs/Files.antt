@@ -31,7 +31,7 @@ abbrev pub HoldsIf : (Text → List ℕ → Type 0) → Option ℕ → Text → 
 HoldsIf Holds None path text = text ≡ []
 HoldsIf Holds (Some limit) path text = Holds path text
 
--- the files at these paths have these texts, as far as a command with these limits has them. Where no file is named,
+-- the files at these paths have these texts, as far as a command with these limits has them. If no file is named,
 -- the first text is that of standard input
 abbrev pub HaveTexts : (Text → List ℕ → Type 0) → (List ℕ → Type 0) → Limits → Files Text → Given → Type 0
 HaveTexts Holds Input limits Unnamed texts = Input texts.first

@@ -33,7 +33,7 @@ abbrev pub exit_status_of : Unwritten → Result End CommandFault → ℕ
 exit_status_of why (Err (Common Write)) = unwritten_status why
 exit_status_of why outcome = status_of outcome
 
--- what stops a command whose answer is held in memory, where that can't take the answer
+-- what stops a command whose answer is held in memory, if that can't take the answer
 abbrev pub unheld : CommandFault → CommandFault
 unheld (Common Write) = Common Memory
 unheld fault = fault

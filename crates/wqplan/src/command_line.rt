@@ -104,7 +104,7 @@ pub(crate) enum Tail<'a> {
 }
 
 impl<'a> Tail<'a> {
-    /// The names of the items that are meant; none where there are none.
+    /// The names of the items that are meant; none if there are none.
     pub(crate) fn names(&self) -> &[&'a str]
         ensures { map (λ n. n.now) result.now ≡ names_asked (tail_spelled self.now) }
     {
@@ -114,7 +114,7 @@ impl<'a> Tail<'a> {
         }
     }
 
-    /// How many helpers there are; none where there is no number.
+    /// How many helpers there are; none if there is no number.
     pub(crate) fn helpers(&self) -> u8
         ensures { result ≡ helpers_asked (tail_spelled self.now) }
     {
@@ -351,7 +351,7 @@ fn names_given<'a>(alloc: Global, given: &ArgMatches<'a>) -> Result<Vec<&'a str>
     }
 }
 
-/// The number of helpers that was read, if it is 8 at most; 0 where there was no word for it.
+/// The number of helpers that was read, if it is 8 at most; 0 if there was no word for it.
 fn few_read(read: Result<Option<u8>, ParseIntError>) -> Option<u8>
     ensures { result ≡ few_read read }
 {
@@ -418,7 +418,7 @@ fn request_given<'a>(
     Ok(Some(Request { verb, files, tail }))
 }
 
-/// The request of the command that a parse has entered. There is none where that is `help`.
+/// The request of the command that a parse has entered. There is none if that is `help`.
 fn entered<'a>(alloc: Global, matches: &ArgMatches<'a>) -> Result<Option<Request<'a>>, AllocError>
     ensures asked { IfOk result (λ found. IfSome found (λ request.
         AsksFor (subcommand_rows_of matches.now) (spelled request))) }

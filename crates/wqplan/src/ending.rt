@@ -1,7 +1,7 @@
 //! How the process ends: its exit status, and what it prints where a run has no answer.
 //!
 //! The statuses are those of docs/FORMAT.md: 0 to 2 as `End` has them, 2 for a wrong command line too, 3 for a fault,
-//! and 141 where nobody reads standard output any more. A line that can't be written to standard error is lost, but the
+//! and 141 if nobody reads standard output any more. A line that can't be written to standard error is lost, but the
 //! status says the same.
 
 ghost use Rattle.std.specs.Prelude.{◌≡◌, ◌≢◌, ◌⊎◌, OnOk, OnErr};
@@ -20,7 +20,7 @@ use wq_commands::End;
 use wq_meter::Fault;
 use wq_run::CommandFault;
 
-/// The status where help or the version was printed.
+/// The status if help or the version was printed.
 const SHOWN: u8 = 0;
 
 /// The status of a wrong command line.
@@ -29,7 +29,7 @@ const MISUSED: u8 = 2;
 /// The status of a fault.
 const FAULTED: u8 = 3;
 
-/// The status where nobody reads standard output any more: what a shell says of a program that SIGPIPE ended.
+/// The status if nobody reads standard output any more: what a shell says of a program that SIGPIPE ended.
 const UNREAD: u8 = 141;
 
 /// Prints which fault stopped the run. The status is 3.
@@ -40,7 +40,7 @@ fn faulted(rt: &impl Eprint, fault: CommandFault) -> u8
     FAULTED
 }
 
-/// The status where standard output couldn't be written for this reason. Where nobody reads it any more, nothing is
+/// The status if standard output couldn't be written for this reason. If nobody reads it any more, nothing is
 /// said.
 fn unwritten<R: Eprint + AllocGlobal>(rt: &R, why: Unwritten) -> u8
     ensures { result ≡ unwritten_status why }
@@ -54,7 +54,7 @@ fn unwritten<R: Eprint + AllocGlobal>(rt: &R, why: Unwritten) -> u8
     }
 }
 
-/// The status of a command that ran. Where standard output couldn't be written, this is the reason.
+/// The status of a command that ran. If standard output couldn't be written, this is the reason.
 pub(crate) fn answered<R: Eprint + AllocGlobal>(
     rt: &R,
     outcome: Result<End, CommandFault>,
@@ -74,7 +74,7 @@ pub(crate) fn answered<R: Eprint + AllocGlobal>(
     }
 }
 
-/// The status where the words name standard input twice.
+/// The status if the words name standard input twice.
 pub(crate) fn repeated(rt: &impl Eprint) -> u8
     ensures { result ≡ 2 }
 {
@@ -82,7 +82,7 @@ pub(crate) fn repeated(rt: &impl Eprint) -> u8
     MISUSED
 }
 
-/// The status where the words of the command line couldn't be read.
+/// The status if the words of the command line couldn't be read.
 pub(crate) fn unread(rt: &impl Eprint, error: &io::Error) -> u8
     ensures memory { error_kind error.now ≡ NoMemory → result ≡ 3 }
     ensures mistake { error_kind error.now ≢ NoMemory → result ≡ 2 }
@@ -119,7 +119,7 @@ fn say_mistake<R: Eprint + AllocGlobal>(rt: &R, error: &Error) {
     };
 }
 
-/// The status where the words ask for no command. Help or the version is printed, or else the mistake.
+/// The status if the words ask for no command. Help or the version is printed, or else the mistake.
 pub(crate) fn unasked<R: Print + Eprint + AllocGlobal>(rt: &R, error: &Error) -> u8
     ensures memory { kind_of error.now ≡ ErrorKind.OutOfMemory → result ≡ 3 }
     ensures shown { (kind_of error.now ≡ ErrorKind.DisplayHelp) ⊎ (kind_of error.now ≡ ErrorKind.DisplayVersion)

@@ -3,7 +3,7 @@
 //!
 //! A seed is drawn, and the files of a command are opened in the order of its arguments, before any of them is read.
 //! Then `carry_out` reads them, writes the answer, and says what there is to be said of it; for `run`, `carry_out_run`
-//! does. Where no file is named, what is read is standard input. Each function that is given a seed asks that it was
+//! does. If no file is named, what is read is standard input. Each function that is given a seed asks that it was
 //! drawn. The running time is that of the command.
 
 ghost use Rattle.std.specs.Prelude.{◌≡◌, ◌≢◌, ◌≤◌, ◌+◌, ℕ, List, Result, Err, IfErr, IfOk, IfSome, None, OnErr, Some};
@@ -43,7 +43,7 @@ use wq_repair_command::RepairCommand;
 use wq_run::{CommandFault, RunCommand, carry_out_run, end_of_run};
 use wq_voice::FileNames;
 
-/// Opens files in their order. Nothing where one can't be opened.
+/// Opens files in their order. Nothing if one can't be opened.
 fn open<'a, O: World<'a>>(world: &O, files: &Files<&'a str>) -> Option<Files<O::File>>
     ensures opened { IfSome result (λ opened. AreOpened (O.opens world.now) (paths files.now) opened) }
     ensures unopened { result ≡ None → Any (λ path. O.opens world.now path None) (listed (paths files.now)) }
@@ -173,7 +173,7 @@ fn end_of_explain(ended: Result<Explained, Fault>) -> Result<End, CommandFault>
 }
 
 /// Carries out a command on the files at these paths, which are opened before any of them is read, or on standard
-/// input. Where a file can't be opened, it is `fault read`.
+/// input. If a file can't be opened, it is `fault read`.
 fn carry_out_files<
     'a,
     O: World<'a>,
@@ -255,7 +255,7 @@ fn first_if<T: Drop>(files: Files<T>) -> Option<T>
     }
 }
 
-/// Carries out `run` on the first of these files, or on standard input. Where one can't be opened, it is `fault read`.
+/// Carries out `run` on the first of these files, or on standard input. If one can't be opened, it is `fault read`.
 fn run<'a, O: World<'a>, R: Threads + Wait + Sync, I: Read, W: Write, E: Write>(
     world: &O,
     rt: &R,
@@ -438,7 +438,7 @@ fn carry_out_seeded<'a, O: World<'a>, R: Threads + Wait + Sync, I: Read, W: Writ
 }
 
 /// Carries out the command that is asked for. `explain` needs no seed. For all others one is drawn before anything is
-/// opened. Where there is none, it is `fault read`.
+/// opened. If there is none, it is `fault read`.
 fn carry_out_asked<'a, O: World<'a>, R: Threads + Wait + Sync, I: Read, W: Write, E: Write>(
     world: &O,
     rt: &R,
@@ -488,7 +488,7 @@ pub(crate) fn perform<'a, O: World<'a>, R: Threads + Wait + Sync, I: Read, W: Wr
     // run of queueings, cancellations and steps of rescuers and helpers end stuck, and every assignment to fewer
     // workqueues has a run without helpers, with each item queued once and flushing as declared, that ends stuck; or a
     // printed circle of groups is given and every assignment has such a run. Of `check`: its yes is true. Of `circles`:
-    // exactly the flushes on circles, and those to no rescuer, are printed, and `safe` exactly where no run ends stuck.
+    // exactly the flushes on circles, and those to no rescuer, are printed, and `safe` exactly if no run ends stuck.
     // The other commands end as they promise.
     ensures promised { IfOk result (λ end. (out : List ℕ)
         × PromisesAsAsked (Has (O.opens world.now) O.File.Read.remaining) (IsInput (I.remaining input.old.device))

@@ -2,7 +2,7 @@
 //! answer goes.
 //!
 //! `perform` is proved for whatever does this. The files and the seed of a process are the only ones that the program
-//! knows; their few lines are read and tested. Where a file can't be opened, or a read of it fails, standard error
+//! knows; their few lines are read and tested. If a file can't be opened, or a read of it fails, standard error
 //! names it and says why, before the line of the fault. An opening takes the time of one system call, and so do a read
 //! and a seed.
 
@@ -34,17 +34,17 @@ pub(crate) trait World<'a> {
     /// What a file is read by.
     type File: Read + Drop;
 
-    // opening this path gave this reader, or nothing where it can't be opened
+    // opening this path gave this reader, or nothing if it can't be opened
     ghost opens: { Self → List ℕ → Option Self.File → Type 0 };
 
-    // this seed was drawn, or nothing where there is none
+    // this seed was drawn, or nothing if there is none
     ghost seeds: { Self → Option ℕ → Type 0 };
 
-    /// Opens the file at this path. Nothing where it can't be opened.
+    /// Opens the file at this path. Nothing if it can't be opened.
     fn open(&self, path: &'a str) -> Option<Self::File>
         ensures { opens self.now path.now result };
 
-    /// Draws the number with which the names of a declaration are hashed. Nothing where there is none. It is drawn anew
+    /// Draws the number with which the names of a declaration are hashed. Nothing if there is none. It is drawn anew
     /// for each command, so that whoever writes a declaration can't know which names have the same hash.
     fn seed(&self) -> Option<u64>
         ensures { seeds self.now result };
@@ -109,7 +109,7 @@ pub(crate) fn shown_name(path: &str) -> &str
     if path == INPUT { STDIN } else { path }
 }
 
-/// A reader with a name. Where a read fails, standard error has the name, and why it failed.
+/// A reader with a name. If a read fails, standard error has the name, and why it failed.
 #[derive(Drop)]
 pub(crate) struct NamedReader<'a, R, I> {
     rt: &'a R,

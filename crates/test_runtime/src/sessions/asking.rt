@@ -100,7 +100,7 @@ fn help_on_lane(word: &[u8], q: LaneId, h: u8, item: ItemId) -> Option<RuntimeCa
     Some(RuntimeCall::Counted(call))
 }
 
-/// The call of a helper that the words after `help` ask for; none where they have the form of no call.
+/// The call of a helper that the words after `help` ask for; none if they have the form of no call.
 fn read_help(table: &ItemTable<'_, Global>, mut words: Words<'_>) -> Option<RuntimeCall> {
     let word = words.next()?;
     let q = lane_of(words.next()?.bytes())?;
@@ -112,7 +112,7 @@ fn read_help(table: &ItemTable<'_, Global>, mut words: Words<'_>) -> Option<Runt
     }
 }
 
-/// The call that a line asks for by its first word and the words after it; none where it has the form of no call.
+/// The call that a line asks for by its first word and the words after it; none if it has the form of no call.
 pub(crate) fn read_call(
     table: &ItemTable<'_, Global>,
     word: &[u8],

@@ -84,7 +84,7 @@ fn help_wait(word: &[u8], q: LaneId, h: u8, item: ItemId) -> Option<BookCall> {
     }
 }
 
-/// The call of a helper that the words after `help` ask for; none where they have the form of no call.
+/// The call of a helper that the words after `help` ask for; none if they have the form of no call.
 fn read_help(table: &ItemTable<'_, Global>, mut words: Words<'_>) -> Option<BookCall> {
     let word = words.next()?;
     let q = lane_of(words.next()?.bytes())?;
@@ -96,7 +96,7 @@ fn read_help(table: &ItemTable<'_, Global>, mut words: Words<'_>) -> Option<Book
     }
 }
 
-/// The call that a line asks for by its first word and the words after it; none where it has the form of no call.
+/// The call that a line asks for by its first word and the words after it; none if it has the form of no call.
 fn read_call(table: &ItemTable<'_, Global>, word: &[u8], mut words: Words<'_>) -> Option<BookCall> {
     if word == b"help".as_slice() {
         return read_help(table, words);
@@ -192,7 +192,7 @@ struct Desk {
 }
 
 impl Desk {
-    /// Makes a call, and adds the answer. It returns false where the call hands in an ask that isn't there.
+    /// Makes a call, and adds the answer. It returns false if the call hands in an ask that isn't there.
     fn make(
         &mut self,
         table: &ItemTable<'_, Global>,

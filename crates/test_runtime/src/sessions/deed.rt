@@ -78,7 +78,7 @@ fn deed_of(table: &ItemTable<'_, Global>, word: &[u8], what: &[u8]) -> Option<De
     Some(deed)
 }
 
-/// What a line says by its first word and the words after it; none where it doesn't have the form of any.
+/// What a line says by its first word and the words after it; none if it doesn't have the form of any.
 fn read_entry(
     table: &ItemTable<'_, Global>,
     word: &[u8],
@@ -134,7 +134,7 @@ impl Plot {
         Ok(())
     }
 
-    /// Adds a deed. It returns false where nobody has begun.
+    /// Adds a deed. It returns false if nobody has begun.
     fn add(&mut self, deed: Deed) -> Result<bool, AllocError> {
         match self.begun().last_mut() {
             Some(deeds) => {
@@ -182,7 +182,7 @@ fn act_of(deed: Deed) -> Option<Act> {
     }
 }
 
-/// The call that a line asks for; none where it has the form of no call.
+/// The call that a line asks for; none if it has the form of no call.
 fn read_act(table: &ItemTable<'_, Global>, word: &[u8], words: Words<'_>) -> Option<Act> {
     match read_entry(table, word, words) {
         Some(DeedLine::Deed(deed)) => act_of(deed),

@@ -21,7 +21,7 @@ pub(crate) struct Doer<'a> {
     number: usize,
     deeds: &'a [Deed],
     runs: Vec<u32>,
-    /// The code of its last fault; 0 where there was none.
+    /// The code of its last fault; 0 if there was none.
     code: u32,
     /// Whether it has seen all that it looked for.
     has_seen: bool,
@@ -82,7 +82,7 @@ fn do_in_body<N: Naming, A: Allocator, R: Wait>(
     }
 }
 
-/// Does all things in a body, up to the first that is refused. Where it looked for
+/// Does all things in a body, up to the first that is refused. If it looked for
 /// something that it didn't see, this is noted.
 fn do_all_in_body<N: Naming, A: Allocator, R: Wait>(
     rt: &R,

@@ -22,7 +22,7 @@ fn without_blanks(alloc: Global, text: &[u8]) -> Result<Vec<u8>, AllocError> {
     Ok(digits)
 }
 
-/// The bytes that a text of hexadecimal digits stands for; none where it isn't such a text, or is too long.
+/// The bytes that a text of hexadecimal digits stands for; none if it isn't such a text, or is too long.
 fn bytes_of(alloc: Global, text: &[u8]) -> Result<Option<Vec<u8>>, AllocError> {
     let digits = without_blanks(alloc, text)?;
     match hex::decode(alloc, digits) {

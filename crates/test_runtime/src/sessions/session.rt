@@ -99,7 +99,7 @@ impl<N: Naming, R: Wait> Session<'_, N, R> {
         }
     }
 
-    /// Makes a call, and adds the answer and the end of the line. It does nothing where the runtime is closed.
+    /// Makes a call, and adds the answer and the end of the line. It does nothing if the runtime is closed.
     fn make(
         &mut self,
         table: &ItemTable<'_, Global>,
@@ -173,7 +173,7 @@ impl<N: Naming + Send + Sync, R: Threads + Wait + Clock + Sync> Session<'_, N, R
         out.push('\n')
     }
 
-    /// Hears of a call, and makes it. It returns false where the words have the form of none, or where the runtime
+    /// Hears of a call, and makes it. It returns false if the words have the form of none, or if the runtime
     /// can't be closed, since calls sleep.
     fn hear_call(
         &mut self,

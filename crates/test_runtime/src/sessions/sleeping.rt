@@ -1,7 +1,7 @@
 //! Calls that sleep, each in a thread of its own, until a call of this thread wakes them.
 //!
 //! It takes a tenth of a second, in which they fall asleep, and the time of the
-//! calls. Where nobody wakes them, it never ends. No call is made before all
+//! calls. If nobody wakes them, it never ends. No call is made before all
 //! threads are there: so it ends where one can't be made.
 
 use crate::sessions::asking::RuntimeCall;
@@ -95,7 +95,7 @@ impl<N: Naming> Sleeper<N> {
 
 /// Makes calls that sleep, each in a thread of its own; a tenth of a second later
 /// makes the call that wakes them, and adds its answer; and waits until all of them
-/// are answered. Where a thread can't be made, no call is made, and this counts as
+/// are answered. If a thread can't be made, no call is made, and this counts as
 /// out of memory.
 pub(crate) fn wake<N: Naming + Send + Sync, R: Threads + Wait + Clock + Sync>(
     rt: &R,

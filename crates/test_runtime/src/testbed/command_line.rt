@@ -20,8 +20,8 @@ pub fn words<R: Env + AllocGlobal>(rt: &R) -> io::Result<Vec<String>> {
     Ok(words)
 }
 
-/// The words of the command line without the number of helpers at its beginning, and this number; 0 where there is none
-/// there. The first word is the program's name. None where a number is missing or above 255.
+/// The words of the command line without the number of helpers at its beginning, and this number; 0 if there is none
+/// there. The first word is the program's name. None if a number is missing or above 255.
 pub fn without_helpers(words: &[String]) -> Option<(u8, &[String])> {
     match words {
         [_, first, rest @ ..] if first.as_str() == "helpers" => match rest {
