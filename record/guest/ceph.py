@@ -32,6 +32,7 @@ ADDRESS = "10.77.0.1"
 ASKED = 7000
 SECONDS = 240
 NEW_NETWORK = 0x40000000  # CLONE_NEWNET of sched.h
+# (After some seconds in which it is stopped an OSD answers nothing any more until it has its lease again.)
 LIBRARIES = "usr/lib/x86_64-linux-gnu"
 CONF = """\
 [global]
@@ -57,6 +58,7 @@ osd pool default min size = 1
 osd crush chooseleaf type = 0
 osd client watch timeout = 10
 osd fast shutdown = false
+osd pool default read lease ratio = 50
 """
 
 

@@ -43,6 +43,7 @@ class How(Enum):
     BEFORE = "before"
     QUEUED = "queued"
     SOCKET = "socket"
+    SHARED = "shared"
     EARLY = "early"
     THROUGH = "through"
     LOCK = "lock"
@@ -54,7 +55,7 @@ class How(Enum):
 
     @property
     def is_guess(self) -> bool:
-        return self in (How.SOCKET, How.EARLY, How.THROUGH, How.LOCK)
+        return self in (How.SOCKET, How.SHARED, How.EARLY, How.THROUGH, How.LOCK)
 
 
 # What is in the order of these is looked up by them: long records have thousands for one thread, or one work_struct.
@@ -132,6 +133,7 @@ class Causes:
         for runs in self.runs_of_work.values():
             runs.sort(key=START)  # (what ran when the record began is known later)
         self.ever_queued = {one.work for one in history.queueings}
+        self.queued_by_interrupts = {(one.work, one.function) for one in history.queueings if one.is_by_interrupt}
         for wait in self.waits():
             self.explain(wait)
         for call in history.calls:
@@ -227,7 +229,9 @@ class Causes:
                 yield self.fact(wait, How.LOCK, target, last, through)
 
     def behind(self, by: Agent, start: int, end: int, how: How) -> Iterator[tuple[How, Run, Optional[int]]]:
-        """The items without which `by` would not have done at `end` what it did, as far as that began after `start`."""
+        """The items without which `by` would not have done at `end` what it did, as far as that began after `start`.
+        This isn't sure where interrupts queue the same, too, as they do for a connection: there whoever sends queues
+        what also receives."""
         seen: set[int] = set()
         while by.kind is Kind.ITEM and id(by.run) not in seen and not by.run.is_barrier:
             seen.add(id(by.run))
@@ -235,7 +239,8 @@ class Causes:
             one = by.run.queueing
             if one is None or one.time <= start:
                 return
-            by, end, how = one.by, one.time, How.QUEUED
+            is_shared = how is How.SHARED or (one.work, one.function) in self.queued_by_interrupts
+            by, end, how = one.by, one.time, How.SHARED if is_shared else How.QUEUED
         if by.kind is Kind.THREAD:
             yield from self.through(by, start, end)
 
