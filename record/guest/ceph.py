@@ -16,6 +16,7 @@ import ctypes
 import os
 import pathlib
 import shlex
+import shutil
 import signal
 import socketserver
 import subprocess
@@ -102,24 +103,28 @@ class Cluster:
             "CEPH_CONF": str(self.conf),
         }
 
-    def words(self, words: list[str]) -> list[str]:
-        # (that of Debian, for which its modules are made, and not another one on the PATH)
-        return ["/usr/bin/python3", str(self.root / "usr/bin/ceph"), *words[1:]] if words[0] == "ceph" else words
+    def words(self, words: tuple[str, ...]) -> list[str]:
+        # (the Python of Debian, for which its modules are made, and not another one on the PATH)
+        python = ["/usr/bin/python3", str(self.root / "usr/bin/ceph")]
+        words = [*python, *words[1:]] if words[0] == "ceph" else list(words)
+        # (what runs ends with the thread that began it)
+        return ["setpriv", "--pdeathsig", "KILL", *words] if shutil.which("setpriv") else words
 
     def tool(self, *words: str) -> str:
         """What a tool of the cluster says."""
-        ended = subprocess.run(
-            self.words(list(words)), env=self.environment, capture_output=True, text=True, timeout=SECONDS, cwd=self.room
-        )
+        given = {"env": self.environment, "cwd": self.room, "timeout": SECONDS}
+        try:
+            ended = subprocess.run(self.words(words), capture_output=True, text=True, **given)
+        except subprocess.TimeoutExpired as late:
+            raise Failed(f"`{shlex.join(words)}` took more than {SECONDS} s") from late
         if ended.returncode != 0:
             raise Failed(f"`{shlex.join(words)}` failed:\n{ended.stdout}{ended.stderr}")
         return ended.stdout
 
     def begin(self, name: str, *words: str) -> None:
+        given = {"env": self.environment, "cwd": self.room, "stdin": subprocess.DEVNULL}
         with open(self.room / f"{name}.said", "ab") as said:
-            self.running[name] = subprocess.Popen(
-                self.words(list(words)), env=self.environment, stdin=subprocess.DEVNULL, stdout=said, stderr=said, cwd=self.room
-            )
+            self.running[name] = subprocess.Popen(self.words(words), stdout=said, stderr=said, **given)
 
     def start(self, name: str) -> None:
         which = {"mon": ("ceph-mon", "a"), "osd": ("ceph-osd", "0")}[name]
@@ -183,15 +188,15 @@ def cluster(setup: list[str]):
                 line = self.rfile.readline().decode()
                 try:
                     said = made.answer(line)
-                except (Failed, OSError, KeyError, subprocess.TimeoutExpired) as fault:
-                    said = f"cluster: {line.strip()}: {fault}\n"
+                except (Failed, OSError, AttributeError, KeyError, subprocess.TimeoutExpired) as fault:
+                    said = f"cluster: {line.strip()}: {fault!r}\n"
                 self.wfile.write(said.encode())
 
         try:
             made.make()
             for line in setup:
                 made.answer(line)
-            with socketserver.ThreadingTCPServer((ADDRESS, ASKED), Handler) as server:
+            with socketserver.TCPServer((ADDRESS, ASKED), Handler) as server:
                 threading.Thread(target=server.serve_forever, daemon=True).start()
                 yield made
                 server.shutdown()
