@@ -66,7 +66,8 @@ CALLS = {how.value: how for how in (How.FLUSH, How.CANCEL, How.FLUSHWQ, How.DRAI
 @dataclass(eq=False)
 class Fact:
     """An item waited for another one. Without a target it is known by its function or its workqueue alone: no execution
-    of it was seen. `had_started`: the target ran already when the wait began. `through`: the thread between them."""
+    of it was seen. `asleep`: when the sleep began that was ended so. `had_started`: the target ran already by then.
+    `through`: the thread between them."""
 
     run: Run
     how: How
@@ -79,10 +80,11 @@ class Fact:
     ended_in_interrupt: bool = False
     through: Optional[int] = None
     is_never_queued: bool = False
+    asleep: int = 0
 
     @property
     def had_started(self) -> bool:
-        return self.target is not None and self.target.start <= self.time
+        return self.target is not None and self.target.start <= max(self.time, self.asleep)
 
     @property
     def is_exact(self) -> bool:
@@ -92,7 +94,9 @@ class Fact:
 
 @dataclass(eq=False)
 class Wait:
-    """The sleeps of an item at one place, one behind the other: who was woken too early sleeps again."""
+    """The sleeps of an item at one place, one behind the other: who was woken too early sleeps again. It may be several
+    waits as well, which a stack doesn't tell. So who ended the last sleep is surely waited for only if it hadn't started
+    when the first sleep began that it ended."""
 
     sleeps: list[Sleep]
     is_lock: bool
@@ -116,6 +120,9 @@ class Wait:
     @property
     def stack(self) -> tuple[int, ...]:
         return self.sleeps[0].stack
+
+    def first_ended_by(self, by: Agent) -> Sleep:
+        return next(sleep for sleep in self.sleeps if sleep.by and sleep.by.pid == by.pid and sleep.by.run is by.run)
 
 
 class Causes:
@@ -195,7 +202,9 @@ class Causes:
     def fact(self, wait: Wait, how: How, target: Run, sleep: Sleep, through: Optional[int] = None) -> Fact:
         slept = wait.end - wait.start
         is_interrupt = sleep.by is not None and sleep.by.kind is Kind.INTERRUPT
-        return Fact(wait.run, how, wait.start, slept, wait.stack, target, None, sleep.by_stack, is_interrupt, through)
+        fact = Fact(wait.run, how, wait.start, slept, wait.stack, target, None, sleep.by_stack, is_interrupt, through)
+        fact.asleep = wait.first_ended_by(wait.by).start
+        return fact
 
     def of_end(self, wait: Wait) -> Iterator[Fact]:
         last = wait.sleeps[-1]
