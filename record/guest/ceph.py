@@ -1,5 +1,5 @@
-"""A Ceph cluster on this machine, for a guest: a monitor, and one OSD with its store in memory. (What an OSD stores that
-is ended by SIGTERM is still there when it begins again; after SIGKILL nothing is.)
+"""A Ceph cluster on this machine, for a guest: a monitor, and one OSD with its store in memory. (What an OSD stores
+that is ended by SIGTERM is still there when it begins again; after SIGKILL nothing is.)
 
 It is Debian's ceph-mon and ceph-osd, unpacked into the cache and not installed. Cluster and guest have a network
 namespace of their own, so root is needed. The guest finds the monitor at ADDRESS. To port ASKED there it may send a
@@ -94,11 +94,11 @@ class Cluster:
     def __init__(self, room: pathlib.Path, root: pathlib.Path):
         self.room, self.root, self.conf = room, root, room / "conf"
         self.running: dict[str, subprocess.Popen] = {}
-        paths = [root / "usr/bin", root / "usr/sbin"]
+        libraries = LIBRARIES, f"{LIBRARIES}/ceph", "lib/x86_64-linux-gnu"
         self.environment = {
             **os.environ,
-            "PATH": ":".join([*map(str, paths), os.environ["PATH"]]),
-            "LD_LIBRARY_PATH": ":".join(str(root / folder) for folder in (LIBRARIES, f"{LIBRARIES}/ceph", "lib/x86_64-linux-gnu")),
+            "PATH": f"{root}/usr/bin:{root}/usr/sbin:{os.environ['PATH']}",
+            "LD_LIBRARY_PATH": ":".join(f"{root}/{folder}" for folder in libraries),
             "PYTHONPATH": str(root / "usr/lib/python3/dist-packages"),
             "CEPH_CONF": str(self.conf),
         }

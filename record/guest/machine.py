@@ -115,6 +115,7 @@ def boot(wanted: Guest, out: pathlib.Path, kernel: packages.Kernel, probes: str)
         (room / "initrd").write_bytes(judge.archive(files_of(wanted, kernel, probes)))
         clock = ["-icount", f"shift={judge.ICOUNT_SHIFT},sleep=off", "-rtc", "clock=vm"] if wanted.has_own_clock else []
         network = ["-netdev", "user,id=n", "-device", "virtio-net-pci,netdev=n"] if wanted.network else []
+        said = BOOT + ("" if wanted.has_own_clock else judge.WITH_TWO)
         disks = [
             word
             for number, size in enumerate(["1G", *wanted.disks])
@@ -124,7 +125,7 @@ def boot(wanted: Guest, out: pathlib.Path, kernel: packages.Kernel, probes: str)
             *program, "-accel", f"tcg,thread={'single' if wanted.cpus == 1 else 'multi'}", *clock, "-seed", "1",
             "-machine", "pc", "-cpu", "max", "-smp", str(wanted.cpus), "-m", wanted.memory,
             "-nodefaults", "-no-user-config", "-display", "none", "-no-reboot", "-serial", "stdio", *disks, *network,
-            "-kernel", str(kernel.image), "-initrd", str(room / "initrd"), "-append", BOOT + ("" if wanted.has_own_clock else judge.WITH_TWO),
+            "-kernel", str(kernel.image), "-initrd", str(room / "initrd"), "-append", said,
         ]  # fmt: skip
         out.mkdir(parents=True, exist_ok=True)
         console = console_of(words, {**os.environ, **environment}, out / "console")

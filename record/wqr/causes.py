@@ -95,8 +95,8 @@ class Fact:
 @dataclass(eq=False)
 class Wait:
     """The sleeps of an item at one place, one behind the other: who was woken too early sleeps again. It may be several
-    waits as well, which a stack doesn't tell. So who ended the last sleep is surely waited for only if it hadn't started
-    when the first sleep began that it ended."""
+    waits as well, which a stack doesn't tell. So who ended the last sleep is surely waited for only if it hadn't
+    started when the first sleep began that it ended."""
 
     sleeps: list[Sleep]
     is_lock: bool

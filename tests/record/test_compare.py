@@ -127,8 +127,9 @@ def test_a_wait_at_two_places_of_which_one_is_dismissed_is_a_hole():
     comparison = compared(by_two_ways(), text)
     assert classes(comparison) == {"HOLE": ["a_work b_work"]}
     lines = list(comparison.lines())
-    assert [line for line in lines if " < " in line] == [line for line in lines if "wait_there" in line and "1: " in line]
-    assert "      line 3: # no wait: x.c queue_here wait_here(): why not (which isn't about all of these places)" in lines
+    (place,) = [line for line in lines if " < " in line]
+    assert "1: " in place and "wait_there" in place
+    assert any(line.endswith("wait_here(): why not (which isn't about all of these places)") for line in lines)
     text += "# no wait: x.c wait_there wait_here(): why not\n"
     assert classes(compared(by_two_ways(), text)) == {"DISMISSED": ["a_work b_work"]}
 
