@@ -45,6 +45,12 @@ class Guest:
     cpus: int = 1
     memory: str = "768M"
     settings: dict[str, str] = field(default_factory=dict)  # variables of the script
+    network: bool = False  # QEMU's own, eth0, which reaches what this process reaches
+
+    @property
+    def has_own_clock(self) -> bool:
+        """Whether its clock counts instructions. Whom it speaks with has the host's clock."""
+        return self.cpus == 1 and not self.network
 
 
 def kernel_of(series: str) -> packages.Kernel:
@@ -68,6 +74,7 @@ def types_of(kernel: packages.Kernel) -> bytes:
 def files_of(wanted: Guest, kernel: packages.Kernel, probes: str) -> dict[str, tuple[int, bytes]]:
     words = [module.split() for module in wanted.modules]
     names = [*(["virtio_pci"] if kernel.series == "6.1" else []), "virtio_blk"]
+    names += ["virtio_net"] if wanted.network else []
     names += [word[0] for word in words if word[0] != JUDGE]
     parameters = {word[0].replace("-", "_"): " ".join(word[1:]) for word in words}
     modules = [module for group in packages.modules(kernel, names) for module in group]
@@ -106,7 +113,9 @@ def boot(wanted: Guest, out: pathlib.Path, kernel: packages.Kernel, probes: str)
     with tempfile.TemporaryDirectory(prefix="wqrecord.") as folder:
         room = pathlib.Path(folder)
         (room / "initrd").write_bytes(judge.archive(files_of(wanted, kernel, probes)))
-        clock = ["-icount", f"shift={judge.ICOUNT_SHIFT},sleep=off", "-rtc", "clock=vm"] if wanted.cpus == 1 else []
+        clock = ["-icount", f"shift={judge.ICOUNT_SHIFT},sleep=off", "-rtc", "clock=vm"] if wanted.has_own_clock else []
+        network = ["-netdev", "user,id=n", "-device", "virtio-net-pci,netdev=n"] if wanted.network else []
+        said = BOOT + ("" if wanted.has_own_clock else judge.WITH_TWO)
         disks = [
             word
             for number, size in enumerate(["1G", *wanted.disks])
@@ -115,8 +124,8 @@ def boot(wanted: Guest, out: pathlib.Path, kernel: packages.Kernel, probes: str)
         words = [
             *program, "-accel", f"tcg,thread={'single' if wanted.cpus == 1 else 'multi'}", *clock, "-seed", "1",
             "-machine", "pc", "-cpu", "max", "-smp", str(wanted.cpus), "-m", wanted.memory,
-            "-nodefaults", "-no-user-config", "-display", "none", "-no-reboot", "-serial", "stdio", *disks,
-            "-kernel", str(kernel.image), "-initrd", str(room / "initrd"), "-append", BOOT + (judge.WITH_TWO if wanted.cpus > 1 else ""),
+            "-nodefaults", "-no-user-config", "-display", "none", "-no-reboot", "-serial", "stdio", *disks, *network,
+            "-kernel", str(kernel.image), "-initrd", str(room / "initrd"), "-append", said,
         ]  # fmt: skip
         out.mkdir(parents=True, exist_ok=True)
         console = console_of(words, {**os.environ, **environment}, out / "console")

@@ -43,6 +43,7 @@ class How(Enum):
     BEFORE = "before"
     QUEUED = "queued"
     SOCKET = "socket"
+    SHARED = "shared"
     EARLY = "early"
     THROUGH = "through"
     LOCK = "lock"
@@ -54,7 +55,7 @@ class How(Enum):
 
     @property
     def is_guess(self) -> bool:
-        return self in (How.SOCKET, How.EARLY, How.THROUGH, How.LOCK)
+        return self in (How.SOCKET, How.SHARED, How.EARLY, How.THROUGH, How.LOCK)
 
 
 # What is in the order of these is looked up by them: long records have thousands for one thread, or one work_struct.
@@ -65,7 +66,8 @@ CALLS = {how.value: how for how in (How.FLUSH, How.CANCEL, How.FLUSHWQ, How.DRAI
 @dataclass(eq=False)
 class Fact:
     """An item waited for another one. Without a target it is known by its function or its workqueue alone: no execution
-    of it was seen. `had_started`: the target ran already when the wait began. `through`: the thread between them."""
+    of it was seen. `asleep`: when the sleep began that was ended so. `had_started`: the target ran already by then.
+    `through`: the thread between them."""
 
     run: Run
     how: How
@@ -78,10 +80,11 @@ class Fact:
     ended_in_interrupt: bool = False
     through: Optional[int] = None
     is_never_queued: bool = False
+    asleep: int = 0
 
     @property
     def had_started(self) -> bool:
-        return self.target is not None and self.target.start <= self.time
+        return self.target is not None and self.target.start <= max(self.time, self.asleep)
 
     @property
     def is_exact(self) -> bool:
@@ -91,7 +94,9 @@ class Fact:
 
 @dataclass(eq=False)
 class Wait:
-    """The sleeps of an item at one place, one behind the other: who was woken too early sleeps again."""
+    """The sleeps of an item at one place, one behind the other: who was woken too early sleeps again. It may be several
+    waits as well, which a stack doesn't tell. So who ended the last sleep is surely waited for only if it hadn't
+    started when the first sleep began that it ended."""
 
     sleeps: list[Sleep]
     is_lock: bool
@@ -116,6 +121,9 @@ class Wait:
     def stack(self) -> tuple[int, ...]:
         return self.sleeps[0].stack
 
+    def first_ended_by(self, by: Agent) -> Sleep:
+        return next(sleep for sleep in self.sleeps if sleep.by and sleep.by.pid == by.pid and sleep.by.run is by.run)
+
 
 class Causes:
     def __init__(self, history: History) -> None:
@@ -132,6 +140,7 @@ class Causes:
         for runs in self.runs_of_work.values():
             runs.sort(key=START)  # (what ran when the record began is known later)
         self.ever_queued = {one.work for one in history.queueings}
+        self.queued_by_interrupts = {(one.work, one.function) for one in history.queueings if one.is_by_interrupt}
         for wait in self.waits():
             self.explain(wait)
         for call in history.calls:
@@ -193,7 +202,9 @@ class Causes:
     def fact(self, wait: Wait, how: How, target: Run, sleep: Sleep, through: Optional[int] = None) -> Fact:
         slept = wait.end - wait.start
         is_interrupt = sleep.by is not None and sleep.by.kind is Kind.INTERRUPT
-        return Fact(wait.run, how, wait.start, slept, wait.stack, target, None, sleep.by_stack, is_interrupt, through)
+        fact = Fact(wait.run, how, wait.start, slept, wait.stack, target, None, sleep.by_stack, is_interrupt, through)
+        fact.asleep = wait.first_ended_by(wait.by).start
+        return fact
 
     def of_end(self, wait: Wait) -> Iterator[Fact]:
         last = wait.sleeps[-1]
@@ -227,7 +238,9 @@ class Causes:
                 yield self.fact(wait, How.LOCK, target, last, through)
 
     def behind(self, by: Agent, start: int, end: int, how: How) -> Iterator[tuple[How, Run, Optional[int]]]:
-        """The items without which `by` would not have done at `end` what it did, as far as that began after `start`."""
+        """The items without which `by` would not have done at `end` what it did, as far as that began after `start`.
+        This isn't sure where interrupts queue the same, too, as they do for a connection: there whoever sends queues
+        what also receives."""
         seen: set[int] = set()
         while by.kind is Kind.ITEM and id(by.run) not in seen and not by.run.is_barrier:
             seen.add(id(by.run))
@@ -235,7 +248,8 @@ class Causes:
             one = by.run.queueing
             if one is None or one.time <= start:
                 return
-            by, end, how = one.by, one.time, How.QUEUED
+            is_shared = how is How.SHARED or (one.work, one.function) in self.queued_by_interrupts
+            by, end, how = one.by, one.time, How.SHARED if is_shared else How.QUEUED
         if by.kind is Kind.THREAD:
             yield from self.through(by, start, end)
 

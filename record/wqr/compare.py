@@ -9,7 +9,7 @@ from typing import Iterator, Optional
 from csource.declaration import Dismissal
 
 from . import says
-from .causes import Wait
+from .causes import Fact, Wait
 from .declaration import Drawing
 from .declared import SYSTEM, Declared, DeclaredItem, DeclaredWait, dismisses, is_cited_at, is_cited_in, is_on
 from .hang import Open
@@ -62,7 +62,8 @@ class Seen:
     edge: Edge
     frames: list[Frame]
     by: list[tuple[DeclaredWait, Exactness]] = field(default_factory=list)
-    dismissal: Optional[Dismissal] = None
+    dismissal: Optional[Dismissal] = None  # of some place, or of all
+    left: list[Fact] = field(default_factory=list)  # where nothing dismisses it
     is_implied: bool = False
 
 
@@ -132,7 +133,11 @@ class Comparison:
                     self.seen_waits[wait] = min(exactness, self.seen_waits.get(wait, exactness))
                 else:
                     self.perhaps.add(wait)
-        found.dismissal = next(filter(None, (self.dismissal_of(fact.stack) for fact in edge.facts)), None)
+        for fact in edge.facts:
+            dismissal = self.dismissal_of(fact.stack)
+            found.dismissal = found.dismissal or dismissal
+            if not dismissal:
+                found.left.append(fact)
         sources, targets = self.declared.of_item(edge.source), self.declared.of_item(edge.target)
         found.is_implied = any(target in self.reaches[source] for source in sources for target in targets)
         return found
@@ -158,11 +163,11 @@ class Comparison:
     def class_of(self, one: Seen) -> Class:
         if one.by:
             return Class.DECLARED if one.edge.is_sure else Class.PERHAPS
-        if one.dismissal or self.reason(one.edge.target):
+        if not one.left or self.reason(one.edge.target):
             return Class.DISMISSED
         if one.is_implied:
             return Class.IMPLIED
-        return Class.HOLE if one.edge.is_sure else Class.UNSURE
+        return Class.HOLE if any(fact.is_exact for fact in one.left) else Class.UNSURE
 
     def reason(self, item: Item) -> str:
         """Why no wait for an item needs a line, or ""."""
@@ -227,16 +232,18 @@ class Comparison:
             best = sorted(one.by, key=lambda row: (row[1], row[0].number))[:MOST_LINES]
             yield "      " + "; ".join(f"line {wait.number}: {exactness.words}" for wait, exactness in best)
             return
-        yield from self.stack_lines(one.edge)
-        if one.dismissal:
-            yield f"      line {one.dismissal.number}: {one.dismissal}"
-        elif kind is Class.DISMISSED:
-            yield f"      {self.reason(one.edge.target)}"
+        yield from self.stack_lines(one)
+        reason = self.reason(one.edge.target)
+        if reason:
+            yield f"      {reason}"
+        elif one.dismissal:
+            where = "" if kind is Class.DISMISSED else " (which isn't about all of these places)"
+            yield f"      line {one.dismissal.number}: {one.dismissal}{where}"
         elif not self.declared.of_item(one.edge.target):
             yield f"      {one.edge.target.function}, on {one.edge.target.kind}, isn't declared"
 
-    def stack_lines(self, edge: Edge) -> Iterator[str]:
-        for site in self.drawing.sites.ways_of_edge(edge)[:2]:
+    def stack_lines(self, one: Seen) -> Iterator[str]:
+        for site in self.drawing.sites.ways(one.left or one.edge.facts)[:2]:
             yield f"      {site.count}: " + " < ".join(map(str, site.frames[:MOST_FRAMES]))
 
     def item_lines(self) -> Iterator[str]:

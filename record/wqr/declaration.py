@@ -26,6 +26,7 @@ WORDS = {
     How.BEFORE: "done",
     How.QUEUED: "done",
     How.SOCKET: "done",
+    How.SHARED: "done",
     How.EARLY: "done",
     How.THROUGH: "done",
     How.LOCK: "lock",
@@ -101,6 +102,8 @@ class Drawing:
             yield "it queues who ends the wait"
         if how is How.SOCKET:
             yield "it queues who ends the wait, or who only had the socket's lock"
+        if how is How.SHARED:
+            yield "it queues who ends the wait, as interrupts do, too"
         if how is How.EARLY:
             yield "it woke the waiter, which slept again"
         if how is How.BEFORE:

@@ -51,6 +51,11 @@ class Queueing:
     stack: tuple[int, ...]
     armed: Optional["Arming"]
 
+    @property
+    def is_by_interrupt(self) -> bool:
+        """Whether an interrupt queued it, or set the timer for it."""
+        return (self.armed or self).by.kind is Kind.INTERRUPT
+
 
 @dataclass(frozen=True)
 class Arming:

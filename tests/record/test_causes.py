@@ -43,6 +43,32 @@ def test_who_queues_what_wakes_a_reader_of_a_socket_is_not_sure():
     assert made.flushes() == ["# flush? a_work c_work", "flush a_work b_work"]
 
 
+def test_who_queues_what_interrupts_queue_too_is_not_sure():
+    # (as one work_struct sends and receives at a connection: who sends queues what ends waits for an answer)
+    made = Made().queue(PROCESS, C, "c_work", wq=3, timer=True).run(THIRD, C, "c_work")
+    made.queue(PROCESS, A, "a_work").start(WORKER, A, "a_work").sleep(WORKER, A, "a_work")
+    made.queue(PROCESS, D, "d_work").start(OTHER, D, "d_work").queue(OTHER, B, "b_work", wq=2).end(OTHER, D, "d_work")
+    made.start(OTHER, B, "b_work").queue(OTHER, C, "c_work", wq=3).end(OTHER, B, "b_work")
+    made.start(THIRD, C, "c_work").wake(THIRD, WORKER)
+    assert made.flushes() == ["# flush? a_work b_work", "# flush? a_work d_work", "flush a_work c_work"]
+    assert "as interrupts do, too" in made.comment("# flush? a_work b_work")
+
+
+def test_who_ended_the_last_of_several_sleeps_and_had_started_before_it_is_not_sure():
+    # (they may be several waits: for c, and then for what b holds)
+    made = Made().queue(PROCESS, C, "c_work", wq=3).start(THIRD, C, "c_work")
+    made.queue(PROCESS, A, "a_work").start(WORKER, A, "a_work").sleep(WORKER, A, "a_work")
+    made.queue(PROCESS, B, "b_work", wq=2).start(OTHER, B, "b_work").wake(THIRD, WORKER)
+    made.sleep(WORKER, A, "a_work").wake(OTHER, WORKER)
+    assert made.flushes() == ["# flush? a_work b_work", "# flush? a_work c_work"]
+
+
+def test_who_ended_each_of_several_sleeps_is_waited_for():
+    made = a_sleeps().queue(PROCESS, B, "b_work", wq=2).start(OTHER, B, "b_work").wake(OTHER, WORKER)
+    made.sleep(WORKER, A, "a_work").wake(OTHER, WORKER)
+    assert made.flushes() == ["flush a_work b_work"]
+
+
 def test_who_queued_before_the_wait_is_not_waited_for():
     made = Made().queue(PROCESS, B, "b_work", wq=2).start(OTHER, B, "b_work").queue(OTHER, C, "c_work", wq=3)
     made.queue(PROCESS, A, "a_work").start(WORKER, A, "a_work").sleep(WORKER, A, "a_work").end(OTHER, B, "b_work")

@@ -122,6 +122,18 @@ def test_a_dismissal_of_another_call_dismisses_nothing(call):
     assert classes(comparison) == {"HOLE": ["a_work b_work"]}
 
 
+def test_a_wait_at_two_places_of_which_one_is_dismissed_is_a_hole():
+    text = f"{ITEMS}# no wait: x.c queue_here wait_here(): why not\n"
+    comparison = compared(by_two_ways(), text)
+    assert classes(comparison) == {"HOLE": ["a_work b_work"]}
+    lines = list(comparison.lines())
+    (place,) = [line for line in lines if " < " in line]
+    assert "1: " in place and "wait_there" in place
+    assert any(line.endswith("wait_here(): why not (which isn't about all of these places)") for line in lines)
+    text += "# no wait: x.c wait_there wait_here(): why not\n"
+    assert classes(compared(by_two_ways(), text)) == {"DISMISSED": ["a_work b_work"]}
+
+
 def test_a_dismissal_of_an_fsync_holds_for_that_of_each_file_system():
     # (vfs_fsync ends with a call, so it isn't on the stack)
     made = Made().queue(PROCESS, A, "a_work").start(WORKER, A, "a_work")

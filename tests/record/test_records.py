@@ -179,7 +179,7 @@ def test_each_line_is_one_of_a_declaration():
 
 
 def run(*words: object) -> subprocess.CompletedProcess[str]:
-    return subprocess.run([WQRECORD, *map(str, words)], capture_output=True, text=True, timeout=60)
+    return subprocess.run([WQRECORD, *map(str, words)], capture_output=True, text=True, timeout=600)
 
 
 def test_compare_ends_with_0_where_nothing_is_missing():
