@@ -446,6 +446,27 @@ hangs 'srp: the kernel' srp.wq srp.assign
 to_no_rescuer 'srp: the kernel' 2 srp.wq srp.assign wb_workfn reconnect_work
 repairs 'srp: the kernel' srp.wq srp.assign 'rescuer 1'
 
+# libfc: what adds a port waits for a workqueue without a rescuer; and if that had one, for an item there that waits for it.
+counts libfc 6 4 6 4
+answers libfc 'plan 3' wb_workfn event_work stgt_delete_work
+plan_is_least libfc
+hangs 'libfc: the kernel' libfc.wq libfc.assign
+to_no_rescuer 'libfc: the kernel' 2 libfc.wq libfc.assign event_work stgt_delete_work
+rescued libfc
+hangs 'libfc: the kernel, with rescuers' libfc.wq libfc.rescued.assign
+why 'libfc: the kernel, with rescuers' libfc.wq libfc.rescued.assign '`event_work` `vport_delete_work`'
+repairs 'libfc: the kernel' libfc.wq libfc.assign 'rescuer 3,stgt_delete_work 2 3'
+
+# nvme-delete: one controller is deleted behind another one, which waits for a flusher behind that of the former's disk.
+counts nvme-delete 5 3 5 3
+answers nvme-delete 'plan 2' delete_work.first wb_workfn.first
+plan_is_least nvme-delete
+hangs 'nvme-delete: the kernel' nvme-delete.wq nvme-delete.assign
+repairs 'nvme-delete: the kernel, the second one moves' nvme-delete.wq nvme-delete.assign 'delete_work.second 0 3' delete_work.second
+{ cat nvme-delete.wq && printf '%s\n' 'item wb_do_writeback' 'flush delete_work.first wb_do_writeback'; } >nvme-delete.list.wq
+{ cat nvme-delete.assign && echo 'norescuer 3 wb_do_writeback'; } >nvme-delete.list.assign
+to_no_rescuer "nvme-delete: the flusher's list" 1 nvme-delete.list.wq nvme-delete.list.assign delete_work.first wb_do_writeback
+
 # target: an item that waits for itself.
 counts target 4 12 4 3
 answers target 'circle 1' submit_work submit_work
@@ -672,6 +693,10 @@ done <<'end'
 4 nvmet-fc nvmet-fc
 4 ext4 ext4
 4 srp srp
+4 libfc libfc
+6 libfc libfc.rescued
+8 nvme-delete nvme-delete
+4 nvme-delete.list nvme-delete.list
 3 target target
 4 md md
 3 xfs.full xfs
