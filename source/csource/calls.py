@@ -3,7 +3,7 @@
 import collections
 import functools
 from dataclasses import dataclass, field
-from typing import Iterator, NamedTuple
+from typing import Callable, Iterator, NamedTuple
 
 from . import ctext
 from .cells import UNKNOWN, Address, Kept, Member, Variable, functions_of, may_be_same
@@ -43,6 +43,10 @@ class Handing:
     arguments: list[Parts] = field(default_factory=list)
 
 
+# How a call of a name calls what it is handed; the members and makers that it calls by its object.
+HandingName = tuple[str, list[Member], list[str]]
+
+
 class CallGraph:
     """The calls of each function."""
 
@@ -68,8 +72,7 @@ class CallGraph:
         self.add_direct()
         self.add_kept()
         self.holds.settle()
-        self.handing_name = functools.cache(self.find_handing_name)
-        self.handings = self.handing_calls()
+        self.handings = self.handing_calls(functools.cache(self.find_handing_name))
         for _ in range(MOST_ROUNDS):
             added = self.add_handed() + self.add_pointers()
             self.holds.settle()
@@ -116,14 +119,16 @@ class CallGraph:
                         if isinstance(value, Address):
                             self.holds.flow(Kept(maker, value.cell), call.place, call.arguments[1])
 
-    def handing_calls(self) -> list[Handing]:
+    def handing_calls(self, handing_name: Callable[[str], HandingName]) -> list[Handing]:
         """The calls in functions that may call what they are handed, or what their object holds."""
         definitions = self.facts.definitions
-        found = [self.handing(call) for call in self.facts.calls if call.place.id in definitions]
+        found = [
+            self.handing(call, *handing_name(call.name)) for call in self.facts.calls if call.place.id in definitions
+        ]
         return [one for one in found if one.members or one.makers or one.arguments]
 
-    def find_handing_name(self, name: str) -> tuple[str, list[Member], list[str]]:
-        """How a call of this name calls what it is handed; the members and makers that it calls by its object."""
+    def find_handing_name(self, name: str) -> HandingName:
+        """That of a call."""
         idioms = self.idioms
         members = idioms.members + (idioms.stacked if self.stacked else [])
         return (
@@ -132,8 +137,7 @@ class CallGraph:
             [maker for maker, names in idioms.kept if names.fullmatch(name)],
         )
 
-    def handing(self, call: Call) -> Handing:
-        how, members, makers = self.handing_name(call.name)
+    def handing(self, call: Call, how: str, members: list[Member], makers: list[str]) -> Handing:
         found = Handing(call, how, members, makers if call.arguments else [])
         if self.is_outside(call) and not self.idioms.is_later(call.name):
             parts = [self.holds.parts(call.place, words) for words in call.arguments if 0 < len(words) <= 2]

@@ -15,6 +15,7 @@ from . import outputs, program, scan_options
 from .declaration import Declaration
 from .extract import ExtractError, Extractor, default_cache
 from .faults import Fault
+from .kept import program_of
 from .names import from_top
 from .progress import Progress
 from .tables import TableError
@@ -180,7 +181,7 @@ def run_audit(words: argparse.Namespace, extractor: program.ReadsFacts) -> int:
     files = files_of(words.tree, words.files, declaration)
     found = audit.Audit(
         declaration,
-        program.read(words.tree, files, extractor, program.Tables(), words.stacked or declaration.is_stacked),
+        program_of(words.tree, files, extractor, words.stacked or declaration.is_stacked),
         words.each_item,
     )
     extractor.progress.end()
@@ -199,11 +200,11 @@ def run_drift(words: argparse.Namespace, extractor: program.ReadsFacts) -> int:
         if os.path.isabs(name):
             raise Fault(f"{name}: not below {words.old}, so the other tree has no file of this name")
     files = files_of(words.old, names, declaration)
-    tables, stacked = program.Tables(), words.stacked or declaration.is_stacked
-    old = program.read(words.old, files, extractor, tables, stacked)
+    stacked = words.stacked or declaration.is_stacked
+    old = program_of(words.old, files, extractor, stacked)
     # (a file may be gone; one that a name with `*` means may be new)
     later = expanded(words.new, names)
-    new = program.read(words.new, [file for file in later if (words.new / file).is_file()], extractor, tables, stacked)
+    new = program_of(words.new, [file for file in later if (words.new / file).is_file()], extractor, stacked)
     found = drift.Drift(declaration, old, new)
     extractor.progress.end()
     drift_text.Printer(found, sys.stdout).print()
@@ -226,7 +227,8 @@ def run_draft(words: argparse.Namespace, extractor: program.ReadsFacts) -> int:
         why = outputs.refusal(out, [words.tree / file for file in files], words.force)
         if why:
             raise Fault(why)
-    found = draft.Draft(program.read(words.tree, files, extractor, program.Tables(), words.stacked), words.only)
+    # (of the files of a draft it is asked once, as a rule)
+    found = draft.Draft(program_of(words.tree, files, extractor, words.stacked, is_kept=False), words.only)
     extractor.progress.end()
     if found.missing:
         raise Fault(f"{found.missing[0]} is no work function of these files")

@@ -97,6 +97,10 @@ class Facts:
             self.assigned_in[place.id].append((left, right))
         self.take_declared_by_macros()
 
+    def __getstate__(self) -> dict[str, object]:
+        """What is kept of it: who reads it anew says what files call by their text."""
+        return {name: value for name, value in self.__dict__.items() if name != "called_in"}
+
     def find_types(self) -> tuple[Structs, Types]:
         """The structs that the files and their headers define, and of which of them an expression is."""
         structs = Structs(self.tree, self.texts)

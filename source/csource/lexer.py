@@ -9,11 +9,16 @@ from .ctext import Tokens
 COMMENT = re.compile(r'/\*.*?\*/|//(?:[^\n\\]|\\.)*|("(?:\\.|[^"\\\n])*"|\'(?:\\.|[^\'\\\n])*\')', re.S)
 DIRECTIVE = re.compile(r"^[ \t]*#[ \t]*(\w*)((?:[^\n]*\\\n)*[^\n]*)", re.M)
 # (a string may go on in the next line, behind a backslash; so may what is no string)
-TOKEN = re.compile(
-    r'"(?:\\.|\\\n|[^"\\\n])*"|\\\n|\'(?:\\.|[^\'\\\n])*\'|->|\.\.\.|<<=|>>=|[-+*/%&|^!=<>]=|&&|\|\||<<|>>|\+\+|--'
-    r"|[A-Za-z_]\w*|\d[\w.]*|\n|[^\s]"
+STRING, ENDS, OTHERS = (
+    r'"(?:\\.|\\\n|[^"\\\n])*"|',
+    r"\\\n|\n|",
+    r"'(?:\\.|[^'\\\n])*'|->|\.\.\.|<<=|>>=|[-+*/%&|^!=<>]=|&&|\|\||<<|>>|\+\+|--|[A-Za-z_]\w*|\d[\w.]*|[^\s]",
 )
+TOKEN = re.compile(STRING + ENDS + OTHERS)
+# The same without the ends of lines.
+WORD = re.compile(STRING + OTHERS)
 LINE_ENDS = ("\n", "\\\n")
+LINE_END = re.compile(r"\\?\n")
 CLOSES = {"(": ")", "[": "]", "{": "}"}
 OPENS = {")": "(", "]": "[", "}": "{"}
 BRACKETS = frozenset([*CLOSES, *OPENS])
@@ -23,8 +28,8 @@ ALWAYS_FALSE = ("0",)
 
 
 def without_comments(text: str) -> str:
-    """Each comment becomes a blank; lines stay where they are."""
-    return COMMENT.sub(lambda match: match[1] or "\n" * match[0].count("\n") or " ", text)
+    """Each comment becomes a blank; lines stay where they are, and a backslash at the end of one: a macro may go on."""
+    return COMMENT.sub(lambda match: match[1] or "".join(LINE_END.findall(match[0])) or " ", text)
 
 
 @dataclass
@@ -82,20 +87,27 @@ class Source:
     odd: list[int] = field(default_factory=list)
 
     @staticmethod
-    def of(text: str) -> "Source":
+    def of(text: str, has_lines: bool = True) -> "Source":
+        """Without lines each is in line 0, which takes two thirds of the time."""
         found = Source()
-        words = TOKEN.findall(without_directives(without_comments(text)))
+        code = without_directives(without_comments(text))
+        if not has_lines:
+            found.words = WORD.findall(code.replace("\\\n", " "))
+            found.lines = [0] * len(found.words)
+            found.close_brackets()
+            return found
+        words = TOKEN.findall(code)
         ends = [word.count("\n") if "\n" in word else 0 for word in words]
         lines = itertools.accumulate(ends, initial=1)
         are_words = [word not in LINE_ENDS for word in words]
         found.words = list(itertools.compress(words, are_words))
         found.lines = list(itertools.compress(lines, are_words))
-        found.behind = list(range(1, len(found.words) + 1 + SPARE))
-        found.match_brackets()
+        found.close_brackets()
         return found
 
-    def match_brackets(self) -> None:
+    def close_brackets(self) -> None:
         """Where each bracket closes. A brace closes what stands open within its own."""
+        self.behind = list(range(1, len(self.words) + 1 + SPARE))
         waiting: list[int] = []
         for index in [index for index, word in enumerate(self.words) if word in BRACKETS]:
             word = self.words[index]

@@ -24,6 +24,10 @@ class Names:
         self.pattern = re.compile(one_of(names))
         self.known: dict[str, Optional[re.Match[str]]] = {}
 
+    def __getstate__(self) -> dict[str, object]:
+        """A match can't be kept."""
+        return {"pattern": self.pattern, "known": {}}
+
     def fullmatch(self, name: str) -> Optional[re.Match[str]]:
         if name not in self.known:
             self.known[name] = self.pattern.fullmatch(name)

@@ -3,7 +3,6 @@
 import hashlib
 import os
 import pathlib
-import tempfile
 from dataclasses import dataclass, field
 from typing import Callable, Optional
 
@@ -43,6 +42,7 @@ class TokenExtractor:
     progress: Progress
     coccinelle: Extractor
     unsure: list[Unsure] = field(default_factory=list)
+    known_includes: dict[pathlib.Path, Includes] = field(default_factory=dict)
 
     def read(self, tree: pathlib.Path, files: list[str]) -> Facts:
         """The facts of some files."""
@@ -51,11 +51,21 @@ class TokenExtractor:
             self.progress.say(f"reading C: {done} of {len(files)} files")
             lines[file] = self.lines_of(tree, file)
         self.ask_coccinelle(tree, lines)
-        includes = Includes(tree)
+        includes = self.includes(tree)
         headers = includes.all_of(lines)
         facts = TokenFacts(tree, lines, self.types(tree, lines, headers, includes), headers)
-        facts.called_in = lambda file: self.called_in(tree, file)
+        self.give_calls(tree, facts)
         return facts
+
+    def includes(self, tree: pathlib.Path) -> Includes:
+        """Which files of a tree include which."""
+        if tree not in self.known_includes:
+            self.known_includes[tree] = Includes(tree)
+        return self.known_includes[tree]
+
+    def give_calls(self, tree: pathlib.Path, facts: Facts) -> None:
+        """What a file calls by its text alone, facts have from here."""
+        facts.called_in = lambda file: self.called_in(tree, file)
 
     def ask_coccinelle(self, tree: pathlib.Path, lines: dict[str, list[str]]) -> None:
         """Takes Coccinelle's facts of files of which the reader isn't sure."""
@@ -116,8 +126,11 @@ class TokenExtractor:
         except FileNotFoundError:
             pass
         text = make()
-        at.parent.mkdir(parents=True, exist_ok=True)
-        with tempfile.NamedTemporaryFile("w", dir=at.parent, delete=False) as half:
-            half.write(text)
-        os.replace(half.name, at)
+        half = at.with_suffix(f".{os.getpid()}")
+        try:
+            half.write_text(text)
+        except FileNotFoundError:
+            half.parent.mkdir(parents=True, exist_ok=True)
+            half.write_text(text)
+        os.replace(half, at)
         return text

@@ -12,6 +12,8 @@ NOT_BUILT = ("Documentation", "tools", "samples", "scripts", "usr", "LICENSES", 
 EXPORTED = re.compile(r"EXPORT(?:_\w+)?_SYMBOL\w*\(\s*(\w+)")
 MAKES = re.compile(r"(?:alloc|create)_(?:[a-z]+_)*workqueue\s*\(")
 ITEM = re.compile(r"(?:INIT|DECLARE)_(?:DELAYED_|DEFERRABLE_|RCU_)?WORK")
+# Only tables of registers: a third of all bytes of Linux 6.1.
+REGISTERS = "asic_reg"
 # (short, for `grep` then is several times as fast)
 LOOKED_FOR = r"_SYMBOL|workqueue ?\(|_WORK\("
 
@@ -23,7 +25,7 @@ def top_folders(tree: pathlib.Path) -> list[str]:
 
 def grep(tree: pathlib.Path, *words: str) -> list[str]:
     """The lines that `grep -r` prints of the C files of a tree, in the order of their files."""
-    command = ["grep", "-r", "--include=*.[ch]", *words, *top_folders(tree)]
+    command = ["grep", "-r", "--include=*.[ch]", f"--exclude-dir={REGISTERS}", *words, *top_folders(tree)]
     found = subprocess.run(
         command, cwd=tree, stdout=subprocess.PIPE, stderr=subprocess.DEVNULL, env={**os.environ, "LC_ALL": "C"}
     )

@@ -144,6 +144,20 @@ def test_a_string_over_two_lines():
     assert source.words[:3] == ["a", "=", '"one \\\ntwo"'] and source.lines[source.words.index("b")] == 3
 
 
+def test_a_comment_of_several_lines_in_a_macro():
+    """The macro goes on behind it."""
+    source = Source.of("#define F(x) {\\\n\t/* one\t\\\n\t * two */\t\\\n\tg(x)\nint a;\n")
+    assert source.words == ["int", "a", ";"] and source.lines == [5, 5, 5] and source.odd == []
+
+
+def test_without_lines():
+    """The words are the same, and so is what each bracket holds."""
+    text = (C_FILES / "read.c").read_text()
+    source, without = Source.of(text), Source.of(text, has_lines=False)
+    assert (without.words, without.behind, without.closed_by) == (source.words, source.behind, source.closed_by)
+    assert set(without.lines) == {0}
+
+
 def test_branches_of_directives():
     """Both branches count where both are whole; after one that isn't, none."""
     whole = Source.of("#ifdef A\nf();\n#else\ng();\n#endif\n")
