@@ -4,14 +4,11 @@
 # had, the status is 1, and standard error says so.
 set -u
 folders='block drivers/block drivers/md drivers/net/ethernet/amd/xgbe drivers/nvme drivers/scsi/qla2xxx drivers/target fs/iomap fs/nfs fs/xfs include mm net/ceph net/sunrpc'
-<<<<<<< HEAD
-files='Makefile crypto/api.c drivers/scsi/bnx2fc/bnx2fc_fcoe.c drivers/scsi/libfc/fc_lport.c drivers/scsi/libfc/fc_rport.c
-    drivers/scsi/qedf/qedf_main.c drivers/scsi/scsi_transport_fc.c drivers/scsi/scsi_transport_srp.c drivers/vhost/scsi.c fs/direct-io.c fs/ext4/balloc.c fs/ext4/inode.c
-    fs/ext4/mballoc.c fs/ext4/page-io.c fs/ext4/super.c fs/ext4/xattr.c fs/fs-writeback.c fs/inode.c fs/super.c fs/sync.c kernel/umh.c kernel/workqueue.c'
-=======
-files='Makefile crypto/api.c drivers/scsi/scsi_transport_srp.c drivers/vhost/scsi.c fs/buffer.c fs/direct-io.c fs/ext4/balloc.c
-    fs/ext4/ext4_jbd2.h fs/ext4/extents.c fs/ext4/inode.c fs/ext4/mballoc.c fs/ext4/page-io.c fs/ext4/super.c fs/ext4/xattr.c fs/fs-writeback.c fs/inode.c fs/super.c fs/sync.c kernel/umh.c kernel/workqueue.c'
->>>>>>> 0fc2ea9842decf84f4bb8c2b03d0fd5be12b9c6c
+files='Makefile crypto/api.c drivers/scsi/bnx2fc/bnx2fc_fcoe.c drivers/scsi/libfc/fc_lport.c
+    drivers/scsi/libfc/fc_rport.c drivers/scsi/qedf/qedf_main.c drivers/scsi/scsi_transport_fc.c
+    drivers/scsi/scsi_transport_srp.c drivers/vhost/scsi.c fs/buffer.c fs/direct-io.c fs/ext4/balloc.c
+    fs/ext4/ext4_jbd2.h fs/ext4/extents.c fs/ext4/inode.c fs/ext4/mballoc.c fs/ext4/page-io.c fs/ext4/super.c
+    fs/ext4/xattr.c fs/fs-writeback.c fs/inode.c fs/super.c fs/sync.c kernel/umh.c kernel/workqueue.c'
 
 if [ -n "${LINUX_6_1-}" ]; then
     [ -f "$LINUX_6_1/Makefile" ] && echo "$LINUX_6_1" && exit 0
