@@ -1,5 +1,6 @@
 -- Playing step by step: what holds for the steps so far, and for the lanes that were passed over.
-use Rattle.std.proofs.Common.{◌≡◌, ℕ, ◌+◌, ◌*◌, ◌-◌, ◌<◌, ◌≤◌, inl, inr, suc, List, [], ◌∷◌, ◌++◌, length, refl, sym, ap, subst, ◌∙◌, arith}
+use Rattle.std.proofs.Common.{◌≡◌, ℕ, ◌+◌, ◌*◌, ◌-◌, ◌<◌, ◌≤◌, inl, inr, suc, List, [], ◌∷◌, ◌++◌, length, refl, sym,
+    ap, subst, ◌∙◌, arith}
 use Rattle.std.proofs.lemmas.Bool.{cases_lt}
 use Rattle.std.proofs.Math.Nat.{suc-mul, mul-le-mul_right}
 use Rattle.wq_core.specs.declared.step.Step.{Step}
@@ -20,15 +21,19 @@ use Rattle.wq_core.proofs.WorkLemmas.{work_left-rescuer}
 -- each step is that of the lowest lane that can make one; more may follow
 abbrev pub IsPlayFrom : Wiring → State → List Step → Type 0
 IsPlayFrom w s [] = Unit {0}
-IsPlayFrom w s (step ∷ steps) = ((q : ℕ) × IsDeclaredStep w s q step × ((p : ℕ) → p < q → HasNoDeclaredStep w s p)) × IsPlayFrom w (effect w s step) steps
+IsPlayFrom w s (step ∷ steps) = ((q : ℕ) × IsDeclaredStep w s q step × ((p : ℕ) → p < q → HasNoDeclaredStep w s p)) ×
+    IsPlayFrom w (effect w s step) steps
 
-IsPlayFrom-more : (w : Wiring) (s : State) (steps : List Step) (q : ℕ) (step : Step) → IsPlayFrom w s steps → IsDeclaredStep w (after w s steps) q step
+IsPlayFrom-more : (w : Wiring) (s : State) (steps : List Step) (q : ℕ) (step : Step) → IsPlayFrom w s steps →
+    IsDeclaredStep w (after w s steps) q step
     → ((p : ℕ) → p < q → HasNoDeclaredStep w (after w s steps) p) → IsPlayFrom w s (steps ++ (step ∷ []))
 IsPlayFrom-more w s [] q step play is lowest = ((q, is, lowest), tt)
-IsPlayFrom-more w s (first ∷ steps) q step play is lowest = (play.0, IsPlayFrom-more w (effect w s first) steps q step play.1 is lowest)
+IsPlayFrom-more w s (first ∷ steps) q step play is lowest = (play.0, IsPlayFrom-more w (effect w s first) steps q step
+    play.1 is lowest)
 
 -- if no lane can move any more, all is played
-IsPlayedFrom-play : (w : Wiring) (s : State) (steps : List Step) → IsPlayFrom w s steps → ((q : ℕ) → HasNoDeclaredStep w (after w s steps) q) → IsPlayedFrom w s steps
+IsPlayedFrom-play : (w : Wiring) (s : State) (steps : List Step) → IsPlayFrom w s steps →
+    ((q : ℕ) → HasNoDeclaredStep w (after w s steps) q) → IsPlayedFrom w s steps
 IsPlayedFrom-play w s [] play none = none
 IsPlayedFrom-play w s (step ∷ steps) play none = (play.0, IsPlayedFrom-play w (effect w s step) steps play.1 none)
 
@@ -52,14 +57,17 @@ IsPlaying-move start now steps q step playing below is =
     let w : Wiring = start.wiring in
     let s : State = after w start.state steps in
     let there : IsDeclaredStep w s q step =
-    subst (λ (v : Wiring). IsDeclaredStep v s q step) playing.wiring (subst (λ (t : State). IsDeclaredStep now.wiring t q step) playing.state is) in
+    subst (λ (v : Wiring). IsDeclaredStep v s q step) playing.wiring
+        (subst (λ (t : State). IsDeclaredStep now.wiring t q step) playing.state is) in
     let lowest : (p : ℕ) → p < q → HasNoDeclaredStep w s p =
-    λ p lt. subst (λ (v : Wiring). HasNoDeclaredStep v s p) playing.wiring (subst (λ (t : State). HasNoDeclaredStep now.wiring t p) playing.state (below p lt)) in
+    λ p lt. subst (λ (v : Wiring). HasNoDeclaredStep v s p) playing.wiring
+        (subst (λ (t : State). HasNoDeclaredStep now.wiring t p) playing.state (below p lt)) in
     record {
       wiring = playing.wiring;
       play = IsPlayFrom-more w start.state steps q step playing.play there lowest;
       state =
-          ap (λ (t : State). effect now.wiring t step) playing.state ∙ ap (λ (v : Wiring). effect v s step) playing.wiring ∙ sym (after-append w start.state steps (step ∷ []));
+          ap (λ (t : State). effect now.wiring t step) playing.state ∙ ap (λ (v : Wiring). effect v s step)
+              playing.wiring ∙ sym (after-append w start.state steps (step ∷ []));
       sound = IsSoundState-effect now.wiring now.state step playing.sound is.lawful;
     }
 
@@ -67,13 +75,15 @@ IsPlaying-move start now steps q step playing below is =
 pub IsPlayedFrom-playing : (start now : Machine) (steps : List Step) (q : ℕ) → IsPlaying start now steps
     → ((p : ℕ) → p < q → HasNoDeclaredStep now.wiring now.state p) → start.wiring.lanes ≤ q
     → IsPlayedFrom start.wiring start.state steps
-IsPlayedFrom-playing start now steps q playing still all = IsPlayedFrom-play start.wiring start.state steps playing.play none
+IsPlayedFrom-playing start now steps q playing still all = IsPlayedFrom-play start.wiring start.state steps playing.play
+    none
   where
     none_now : (p : ℕ) → HasNoDeclaredStep now.wiring now.state p
     none_now p = elim (cases_lt p q) [
       | inl below ↦ still p below
       | inr past ↦ (λ step is.
-          let within : p < length now.state.lanes = RescuerCanMove-within now.wiring now.state p (step, is.of_lane, is.lawful, is.forced) in
+          let within : p < length now.state.lanes = RescuerCanMove-within now.wiring now.state p
+              (step, is.of_lane, is.lawful, is.forced) in
           let same : now.wiring.lanes ≡ start.wiring.lanes = ap (λ (v : Wiring). v.lanes) playing.wiring in
           absurd (omega (arith, within, playing.sound.one_each, same))
           )
@@ -93,7 +103,8 @@ play_left m lanes q = work_left m.wiring m.state * (lanes + 1) + (lanes - q)
 less_by_work : (lanes old new q p : ℕ) → new < old → new * (lanes + 1) + (lanes - p) < old * (lanes + 1) + (lanes - q)
 less_by_work lanes old new q p less =
     let one_more : suc new * (lanes + 1) ≡ new * (lanes + 1) + (lanes + 1) = suc-mul new (lanes + 1) in
-    let most : suc new * (lanes + 1) ≤ old * (lanes + 1) = mul-le-mul_right {m = suc new} {n = old} (lanes + 1) (omega arith) in
+    let most : suc new * (lanes + 1) ≤ old * (lanes + 1) = mul-le-mul_right {m = suc new} {n = old} (lanes + 1)
+        (omega arith) in
     omega (arith, one_more, most)
 
 pub play_left-move : (m : Machine) (lanes q p : ℕ) (step : Step) → IsMachine m → IsDeclaredStep m.wiring m.state q step
