@@ -2,9 +2,9 @@
 //!
 //! It is "Played" in the specs of `wq_core`. A lane that was found to be stuck is skipped until an item that holds back
 //! its wait is finished. If it waits for a whole workqueue, that is the item of the last entry that is waited for; a
-//! workqueue finishes its entries in order, so the wait is over then. All lanes below the one that moves are known to be
-//! stuck. So the search for the lowest lane goes on from the lane that moved, or, after a finish, from the lowest lane
-//! that the finish released. Each lane is asked at most twice for each of its own steps, and once more.
+//! workqueue finishes its entries in order, so the wait is over then. All lanes below the one that moves are known to
+//! be stuck. So the search for the lowest lane goes on from the lane that moved, or, after a finish, from the lowest
+//! lane that the finish released. Each lane is asked at most twice for each of its own steps, and once more.
 
 ghost use Rattle.std.specs.Prelude.{◌≡◌, ◌<◌, ◌≤◌, ℕ, length, IfOk, IfSome, OnOk, [], ◌∷◌, ◌++◌};
 ghost use Rattle.wq_core.specs.declared.entry.Waiting.{Waiting};
@@ -49,8 +49,8 @@ fn holder<A: Allocator>(core: &Core<A>, q: LaneId) -> Option<ItemId>
     core.holder(flush.whole, flush.target, flush.mark)
 }
 
-/// Has lanes that are known to be stuck asked again after a step of lane `q` that may let them move. Gives the lowest of
-/// them and `q`.
+/// Has lanes that are known to be stuck asked again after a step of lane `q` that may let them move. Gives the lowest
+/// of them and `q`.
 fn release_after<A: Allocator>(stuck: &mut Stuck<'_, A>, q: LaneId, step: &Step) -> u16
     requires { (p i : ℕ) → step.now ≡ Finish p i → i < length stuck.old.waiting }
     ensures after { IsAfter stuck.old step.now stuck.new }
