@@ -12,6 +12,7 @@ import sys
 import zlib
 from typing import Optional
 
+from .headers import Includes
 from .program import Program, ReadsFacts, Tables, read
 from .tables import FOLDER
 from .token_extract import TokenExtractor
@@ -37,10 +38,10 @@ class KeptProgram:
         self.tree = tree
         name = hashlib.sha256("\0".join([str(tree), str(tree.resolve()), str(stacked), *files]).encode()).hexdigest()
         self.at = extractor.cache / f"program-{name[:32]}"
-        includes = extractor.includes(tree)
+        self.includes = Includes(tree)
         found = hashlib.sha256(of_this_program())
-        for file in includes.all_of(files):
-            found.update(file.encode() + b"\0" + includes.digest(file))
+        for file in self.includes.all_of(files):
+            found.update(file.encode() + b"\0" + self.includes.digest(file))
         self.sum = found.digest()
 
     def read(self) -> Optional[Program]:
@@ -70,6 +71,7 @@ def program_of(
     kept = KeptProgram(extractor, tree, files, stacked)
     program = kept.read()
     if program is None:
+        extractor.known_includes = kept.includes
         program = read(tree, files, extractor, Tables(), stacked)
         if is_kept and not extractor.unsure:
             kept.write(program)

@@ -42,7 +42,8 @@ class TokenExtractor:
     progress: Progress
     coccinelle: Extractor
     unsure: list[Unsure] = field(default_factory=list)
-    known_includes: dict[pathlib.Path, Includes] = field(default_factory=dict)
+    # what the files of the next `read` include, if somebody has looked already
+    known_includes: Optional[Includes] = None
 
     def read(self, tree: pathlib.Path, files: list[str]) -> Facts:
         """The facts of some files."""
@@ -51,17 +52,11 @@ class TokenExtractor:
             self.progress.say(f"reading C: {done} of {len(files)} files")
             lines[file] = self.lines_of(tree, file)
         self.ask_coccinelle(tree, lines)
-        includes = self.includes(tree)
+        includes, self.known_includes = self.known_includes or Includes(tree), None
         headers = includes.all_of(lines)
         facts = TokenFacts(tree, lines, self.types(tree, lines, headers, includes), headers)
         self.give_calls(tree, facts)
         return facts
-
-    def includes(self, tree: pathlib.Path) -> Includes:
-        """Which files of a tree include which."""
-        if tree not in self.known_includes:
-            self.known_includes[tree] = Includes(tree)
-        return self.known_includes[tree]
 
     def give_calls(self, tree: pathlib.Path, facts: Facts) -> None:
         """What a file calls by its text alone, facts have from here."""
