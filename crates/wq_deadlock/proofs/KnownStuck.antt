@@ -1,26 +1,50 @@
 -- What is known about stuck lanes while a machine is played: that they can't move, and which item lists them.
-use Rattle.std.proofs.Common.{◌≡◌, ◌≢◌, ℕ, zero, suc, ◌+◌, ◌<◌, ◌≤◌, inl, inr, Bool, true, false, List, [], ◌∷◌, ◌++◌,
-    length, get_or, map, set, replicate, Some, None, Option, refl, sym, ap, subst, ◌∙◌, arith, below_more}
+use Rattle.std.proofs.Common.{◌≡◌, ◌≢◌, ℕ, zero, suc, ◌+◌, ◌<◌, inl, inr, Bool, true, false, List, [], ◌∷◌}
+use Rattle.std.proofs.Common.{◌++◌, length, get_or, map, set, replicate, Some, None, Option, refl, sym, ap, subst, ◌∙◌, arith, below_more}
 use Rattle.std.specs.Prelude.{Contains, IfSome}
 use Rattle.std.proofs.lemmas.Bool.{cases_eq}
-use Rattle.std.proofs.lemmas.List.{get_or-map, get_or-set_same, get_or-set_other, length-map, length-set,
-    length-replicate, map-set}
-use Rattle.std.proofs.lemmas.List.Elements.{Contains-push, Contains-push_cases, Contains-append_left}
+use Rattle.std.proofs.lemmas.List.{
+  get_or-map,
+  get_or-set_same,
+  get_or-set_other,
+  length-map,
+  length-set,
+  length-replicate,
+  map-set,
+}
+use Rattle.std.proofs.lemmas.List.Elements.{Contains-push, Contains-append_left}
 use Rattle.wq_core.specs.declared.entry.Waiting.{Waiting}
 use Rattle.wq_core.specs.declared.step.Step.{Step}
-use Rattle.wq_core.specs.declared.step.Step.TheVariants.{Queue, Cancel, Start, Wait, Over, WaitAll, OverAll, Finish,
-    Help}
+use Rattle.wq_core.specs.declared.step.Step.TheVariants.{
+  Queue,
+  Cancel,
+  Start,
+  Wait,
+  Over,
+  WaitAll,
+  OverAll,
+  Finish,
+  Help,
+}
 use Rattle.wq_core.specs.Wiring.{Wiring, items}
 use Rattle.wq_core.specs.State.{Lane, State, Runs}
 use Rattle.wq_core.specs.Rules.{IsHolder, Lawful, over_of, effect}
 use Rattle.wq_core.specs.Held.{IsSoundState}
 use Rattle.wq_core.specs.Played.{IsDeclaredStep, HasNoDeclaredStep}
 use Rattle.wq_core.proofs.DeclaredSteps.{IsDeclaredStep-over}
-use Rattle.wq_core.proofs.LaneLemmas.{Contains-nil}
 use Rattle.wq_core.proofs.Machines.{running-item}
 use Rattle.smallvec.specs.SmallVec.{SmallVec}
-use Rattle.wq_deadlock.specs.Stuck.{StuckLanes, Awaits, IsHeldBackBy, IsKnown, IsAfter, IsReleased, held_back_by,
-    with_waiting, with_stuck}
+use Rattle.wq_deadlock.specs.Stuck.{
+  StuckLanes,
+  Awaits,
+  IsHeldBackBy,
+  IsKnown,
+  IsAfter,
+  IsReleased,
+  held_back_by,
+  with_waiting,
+  with_stuck,
+}
 use Rattle.wq_deadlock.proofs.Kept.{LeavesItem, IsHolder-step, lane_at-other, HasNoDeclaredStep-other}
 
 -- ---- lanes that are forgotten
@@ -79,10 +103,10 @@ module _ (w : Wiring) (s : State) (stuck : StuckLanes) (q : ℕ) (holder : Optio
   stays_listed (Some j) within i p there = elim (cases_eq i j) [
     | inl same ↦ (
         let here : Contains (held_back_by stuck j) p = subst (λ (k : ℕ). Contains (held_back_by stuck k) p) same there
-            in
+        in
         let longer : Contains (get_or (with_waiting stuck.waiting q (Some j)) j []) p = subst
-            (λ (l : List ℕ). Contains l p) (sym (own_list j within))
-            (Contains-append_left (held_back_by stuck j) (q ∷ []) p here) in
+        (λ (l : List ℕ). Contains l p) (sym (own_list j within))
+        (Contains-append_left (held_back_by stuck j) (q ∷ []) p here) in
         subst (λ (k : ℕ). Contains (get_or (with_waiting stuck.waiting q (Some j)) k []) p) (sym same) longer
         )
     | inr other ↦ subst (λ (l : List ℕ). Contains l p) (sym (get_or-set_other stuck.waiting j i
@@ -110,8 +134,12 @@ module _ (w : Wiring) (s : State) (stuck : StuckLanes) (q : ℕ) (holder : Optio
           → (i : ℕ) × IsHolder w s f.whole f.target f.mark i × Contains (get_or (with_waiting stuck.waiting q o) i []) q
       found None fits f awaits done = absurd (none (over_of f.whole q f.target)
           (IsDeclaredStep-over w s q awaits.0 awaits.1 f awaits.2 done))
-      found (Some i) fits f awaits is = (i, is, subst (λ (l : List ℕ). Contains l q) (sym (own_list i fits))
-          (Contains-push (held_back_by stuck i) q))
+      found (Some i) fits f awaits is = (
+        i,
+        is,
+        subst (λ (l : List ℕ). Contains l q) (sym (own_list i fits))
+            (Contains-push (held_back_by stuck i) q),
+      )
 
       listed : (p : ℕ) (f : Waiting) → IsKnown (with_stuck stuck q holder) p → Awaits s p f
           → (i : ℕ) × IsHolder w s f.whole f.target f.mark i × Contains (held_back_by (with_stuck stuck q holder) i) p
@@ -147,15 +175,19 @@ module _ (w : Wiring) (s : State) (q : ℕ) (step : Step) (stuck : StuckLanes) (
   KnowsStuck-moved : (new : StuckLanes) → length new.known ≡ length stuck.known → length new.waiting ≡ length
       stuck.waiting → ((p : ℕ) → IsKnown new p → IsKnown stuck p)
       → ((p i : ℕ) → IsKnown new p → Contains (held_back_by stuck i) p → LeavesItem q step i × Contains
-          (held_back_by new i) p) → KnowsStuck w (effect w s step) new
+      (held_back_by new i) p) → KnowsStuck w (effect w s step) new
   KnowsStuck-moved new lanes lists before lists_it = record {
     each_lane = lanes ∙ knows.each_lane;
     each_item = lists ∙ knows.each_item;
     still = λ p known. HasNoDeclaredStep-other w s q step sound is p (moved_other p (before p known))
         (λ j made f awaits. let at = held p f known awaits in (at.0, at.1, at.2)) (knows.still p (before p known));
     listed = λ p f known awaits.
-        let here : Awaits s p f = (awaits.0, subst (λ (l : Lane). Runs l awaits.0)
-            (lane_at-other w s q step is p (moved_other p (before p known))) awaits.1, awaits.2) in
+        let here : Awaits s p f = (
+          awaits.0,
+          subst (λ (l : Lane). Runs l awaits.0)
+              (lane_at-other w s q step is p (moved_other p (before p known))) awaits.1,
+          awaits.2,
+        ) in
         let at = held p f known here in
         (at.0, IsHolder-step w s q step sound is f.whole f.target f.mark at.0 at.2 at.1, at.3);
   }
@@ -177,12 +209,12 @@ module _ (w : Wiring) (s : State) (q : ℕ) (step : Step) (stuck : StuckLanes) (
       length new.known ≡ length stuck.known → KnowsStuck w (effect w s step) new
   KnowsStuck-released i new only released size =
       KnowsStuck-moved new size (ap length released.waiting ∙ length-set stuck.waiting i [])
-          (λ p known. (released.known p known).0)
+      (λ p known. (released.known p known).0)
       (λ p k known there.
       let other : k ≢ i = λ same. (released.known p known).1
-          (subst (λ (n : ℕ). Contains (held_back_by stuck n) p) same there) in
+      (subst (λ (n : ℕ). Contains (held_back_by stuck n) p) same there) in
       let at : get_or new.waiting k [] ≡ held_back_by stuck k = ap (λ (l : List (List ℕ)). get_or l k [])
-          released.waiting ∙ get_or-set_other stuck.waiting i k [] [] other in
+      released.waiting ∙ get_or-set_other stuck.waiting i k [] [] other in
       ((λ j made same. other (same ∙ sym (only j made))), subst (λ (l : List ℕ). Contains l p) (sym at) there))
 
 pub KnowsStuck-step : (w : Wiring) (s : State) (q : ℕ) (step : Step) (stuck new : StuckLanes) → KnowsStuck w s stuck →
@@ -225,41 +257,52 @@ module _ (known : List Bool) (lists : List (SmallVec ℕ)) (now : StuckLanes)
 
   pub noted-view : (q place_q i place : ℕ) (list new : SmallVec ℕ) (holder : Option ℕ) → place_q ≡ q → place ≡ i →
       holder ≡ Some i → IfSome holder (λ j. j < length now.waiting) → list ≡ get_or lists place list
-      → new.items ≡ list.items ++ (q ∷ []) → record { known = set known place_q true; waiting = map
-          (λ (v : SmallVec ℕ). v.items) (set lists place new) } ≡ with_stuck now q holder
+      → new.items ≡ list.items ++ (q ∷ []) → record {
+        known = set known place_q true;
+        waiting = map
+            (λ (v : SmallVec ℕ). v.items) (set lists place new);
+      } ≡ with_stuck now q holder
   noted-view q place_q i place list new holder at_q at is within read pushed =
       let fits : i < length now.waiting = subst (λ (o : Option ℕ). IfSome o (λ j. j < length now.waiting)) is within in
       let inside : place < length lists = omega (arith, fits, at, long, length-map lists (λ (v : SmallVec ℕ). v.items))
-          in
+      in
       let was : list.items ≡ get_or shown place [] = ap (λ (v : SmallVec ℕ). v.items) read ∙ sym
-          (get_or-map (λ (v : SmallVec ℕ). v.items) lists place list [] inside) in
+      (get_or-map (λ (v : SmallVec ℕ). v.items) lists place list [] inside) in
       let grown : map (λ (v : SmallVec ℕ). v.items) (set lists place new) ≡ set shown place
-          (get_or shown place [] ++ (q ∷ [])) =
+      (get_or shown place [] ++ (q ∷ [])) =
       map-set (λ (v : SmallVec ℕ). v.items) lists place new ∙ ap (λ (l : List ℕ). set shown place l)
-          (pushed ∙ ap (λ (l : List ℕ). l ++ (q ∷ [])) was) in
+      (pushed ∙ ap (λ (l : List ℕ). l ++ (q ∷ [])) was) in
       let first : set known place_q true ≡ set known q true = ap (λ n. set known n true) at_q in
       let second : map (λ (v : SmallVec ℕ). v.items) (set lists place new) ≡ with_waiting shown q holder =
       grown ∙ ap (λ n. set shown n (get_or shown n [] ++ (q ∷ []))) at ∙ ap (λ (o : Option ℕ). with_waiting shown q o)
-          (sym is) in
-      let both : record { known = set known place_q true; waiting = map (λ (v : SmallVec ℕ). v.items)
-          (set lists place new) } ≡ with_stuck (record { known = known; waiting = shown }) q holder =
+      (sym is) in
+      let both : record {
+        known = set known place_q true;
+        waiting = map (λ (v : SmallVec ℕ). v.items)
+            (set lists place new);
+      } ≡ with_stuck (record { known = known; waiting = shown }) q holder =
       λ t. record { known = first t; waiting = second t } in
       both ∙ ap (λ (s : StuckLanes). with_stuck s q holder) view
 
   pub released-view : (i place : ℕ) (list new : SmallVec ℕ) (lanes : List ℕ) (left : List Bool) → place ≡ i → i < length
       now.waiting → list ≡ get_or lists place list → lanes ≡ list.items → new.items ≡ []
       → ((q : ℕ) → get_or left q false ≡ true → (get_or known q false ≡ true) × (¬ Contains lanes q)) → IsReleased now i
-          (record { known = left; waiting = map (λ (v : SmallVec ℕ). v.items) (set lists place new) })
+      (record { known = left; waiting = map (λ (v : SmallVec ℕ). v.items) (set lists place new) })
   released-view i place list new lanes left at within read all emptied each =
       let fits : place < length lists = omega (arith, within, at, long, length-map lists (λ (v : SmallVec ℕ). v.items))
-          in
+      in
       let listed : get_or shown i [] ≡ lanes = ap (λ n. get_or shown n []) (sym at) ∙ get_or-map
-          (λ (v : SmallVec ℕ). v.items) lists place list [] fits ∙ ap (λ (v : SmallVec ℕ). v.items) (sym read) ∙ sym all
-          in
+      (λ (v : SmallVec ℕ). v.items) lists place list [] fits ∙ ap (λ (v : SmallVec ℕ). v.items) (sym read) ∙ sym all
+      in
       let waiting : map (λ (v : SmallVec ℕ). v.items) (set lists place new) ≡ set shown i [] = map-set
-          (λ (v : SmallVec ℕ). v.items) lists place new ∙ ap (λ n. set shown n new.items) at ∙ ap
-          (λ (l : List ℕ). set shown i l) emptied in
-      subst (λ (s : StuckLanes). IsReleased s i (record { known = left; waiting = map (λ (v : SmallVec ℕ). v.items)
-          (set lists place new) })) view
-      (record { known = λ q is. let h = each q is in (h.0, subst (λ (l : List ℕ). ¬ Contains l q) (sym listed) h.1);
-          waiting = waiting })
+      (λ (v : SmallVec ℕ). v.items) lists place new ∙ ap (λ n. set shown n new.items) at ∙ ap
+      (λ (l : List ℕ). set shown i l) emptied in
+      subst (λ (s : StuckLanes). IsReleased s i (record {
+        known = left;
+        waiting = map (λ (v : SmallVec ℕ). v.items)
+            (set lists place new);
+      })) view
+      (record {
+        known = λ q is. let h = each q is in (h.0, subst (λ (l : List ℕ). ¬ Contains l q) (sym listed) h.1);
+        waiting = waiting;
+      })

@@ -1,6 +1,27 @@
 -- Playing step by step: what holds for the steps so far, and for the lanes that were passed over.
-use Rattle.std.proofs.Common.{◌≡◌, ℕ, ◌+◌, ◌*◌, ◌-◌, ◌<◌, ◌≤◌, inl, inr, suc, List, [], ◌∷◌, ◌++◌, length, refl, sym,
-    ap, subst, ◌∙◌, arith}
+use Rattle.std.proofs.Common.{
+  ◌≡◌,
+  ℕ,
+  ◌+◌,
+  ◌*◌,
+  ◌-◌,
+  ◌<◌,
+  ◌≤◌,
+  inl,
+  inr,
+  suc,
+  List,
+  [],
+  ◌∷◌,
+  ◌++◌,
+  length,
+  refl,
+  sym,
+  ap,
+  subst,
+  ◌∙◌,
+  arith,
+}
 use Rattle.std.proofs.lemmas.Bool.{cases_lt}
 use Rattle.std.proofs.Math.Nat.{suc-mul, mul-le-mul_right}
 use Rattle.wq_core.specs.declared.step.Step.{Step}
@@ -28,8 +49,11 @@ IsPlayFrom-more : (w : Wiring) (s : State) (steps : List Step) (q : ℕ) (step :
     IsDeclaredStep w (after w s steps) q step
     → ((p : ℕ) → p < q → HasNoDeclaredStep w (after w s steps) p) → IsPlayFrom w s (steps ++ (step ∷ []))
 IsPlayFrom-more w s [] q step play is lowest = ((q, is, lowest), tt)
-IsPlayFrom-more w s (first ∷ steps) q step play is lowest = (play.0, IsPlayFrom-more w (effect w s first) steps q step
-    play.1 is lowest)
+IsPlayFrom-more w s (first ∷ steps) q step play is lowest = (
+  play.0,
+  IsPlayFrom-more w (effect w s first) steps q step
+      play.1 is lowest,
+)
 
 -- if no lane can move any more, all is played
 IsPlayedFrom-play : (w : Wiring) (s : State) (steps : List Step) → IsPlayFrom w s steps →
@@ -58,16 +82,16 @@ IsPlaying-move start now steps q step playing below is =
     let s : State = after w start.state steps in
     let there : IsDeclaredStep w s q step =
     subst (λ (v : Wiring). IsDeclaredStep v s q step) playing.wiring
-        (subst (λ (t : State). IsDeclaredStep now.wiring t q step) playing.state is) in
+    (subst (λ (t : State). IsDeclaredStep now.wiring t q step) playing.state is) in
     let lowest : (p : ℕ) → p < q → HasNoDeclaredStep w s p =
     λ p lt. subst (λ (v : Wiring). HasNoDeclaredStep v s p) playing.wiring
-        (subst (λ (t : State). HasNoDeclaredStep now.wiring t p) playing.state (below p lt)) in
+    (subst (λ (t : State). HasNoDeclaredStep now.wiring t p) playing.state (below p lt)) in
     record {
       wiring = playing.wiring;
       play = IsPlayFrom-more w start.state steps q step playing.play there lowest;
       state =
           ap (λ (t : State). effect now.wiring t step) playing.state ∙ ap (λ (v : Wiring). effect v s step)
-              playing.wiring ∙ sym (after-append w start.state steps (step ∷ []));
+          playing.wiring ∙ sym (after-append w start.state steps (step ∷ []));
       sound = IsSoundState-effect now.wiring now.state step playing.sound is.lawful;
     }
 
@@ -83,7 +107,7 @@ IsPlayedFrom-playing start now steps q playing still all = IsPlayedFrom-play sta
       | inl below ↦ still p below
       | inr past ↦ (λ step is.
           let within : p < length now.state.lanes = RescuerCanMove-within now.wiring now.state p
-              (step, is.of_lane, is.lawful, is.forced) in
+          (step, is.of_lane, is.lawful, is.forced) in
           let same : now.wiring.lanes ≡ start.wiring.lanes = ap (λ (v : Wiring). v.lanes) playing.wiring in
           absurd (omega (arith, within, playing.sound.one_each, same))
           )
@@ -104,7 +128,7 @@ less_by_work : (lanes old new q p : ℕ) → new < old → new * (lanes + 1) + (
 less_by_work lanes old new q p less =
     let one_more : suc new * (lanes + 1) ≡ new * (lanes + 1) + (lanes + 1) = suc-mul new (lanes + 1) in
     let most : suc new * (lanes + 1) ≤ old * (lanes + 1) = mul-le-mul_right {m = suc new} {n = old} (lanes + 1)
-        (omega arith) in
+    (omega arith) in
     omega (arith, one_more, most)
 
 pub play_left-move : (m : Machine) (lanes q p : ℕ) (step : Step) → IsMachine m → IsDeclaredStep m.wiring m.state q step

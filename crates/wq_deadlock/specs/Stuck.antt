@@ -1,6 +1,20 @@
 -- Lanes that are known to be stuck, while a machine is played.
-use Rattle.std.specs.Prelude.{◌≡◌, ◌<◌, ℕ, List, [], ◌∷◌, ◌++◌, Bool, true, false, slice_index_or, slice_set, Option,
-    Some}
+use Rattle.std.specs.Prelude.{
+  ◌≡◌,
+  ◌<◌,
+  ℕ,
+  List,
+  [],
+  ◌∷◌,
+  ◌++◌,
+  Bool,
+  true,
+  false,
+  slice_index_or,
+  slice_set,
+  Option,
+  Some,
+}
 use Rattle.std.specs.Prelude.{None, Contains}
 use Rattle.wq_core.specs.declared.entry.Waiting.{Waiting}
 use Rattle.wq_core.specs.declared.entry.Running.{Running}
