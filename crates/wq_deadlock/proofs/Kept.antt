@@ -1,14 +1,17 @@
 -- Steps: what was unfinished stays so, except for what is finished, and no other lane becomes movable, except for one whose wait
 -- was held back by that.
-use Rattle.std.proofs.Common.{◌≡◌, ◌≢◌, ℕ, zero, suc, ◌⊎◌, inl, inr, Bool, true, false, refl, sym, ap, subst, ◌∙◌, arith}
+use Rattle.std.proofs.Common.{◌≡◌, ◌≢◌, ℕ, zero, suc, ◌⊎◌, inl, inr, Bool, true, false}
+use Rattle.std.proofs.Common.{refl, sym, ap, subst, ◌∙◌, arith}
 use Rattle.wq_core.specs.declared.entry.Entry.{Entry}
 use Rattle.wq_core.specs.declared.entry.Waiting.{Waiting}
 use Rattle.wq_core.specs.declared.entry.Running.{Running}
 use Rattle.wq_core.specs.declared.step.Step.{Step}
-use Rattle.wq_core.specs.declared.step.Step.TheVariants.{Queue, Cancel, Start, Wait, Over, WaitAll, OverAll, Finish, Help}
+use Rattle.wq_core.specs.declared.step.Step.TheVariants.{Queue, Cancel, Start, Wait, Over, WaitAll}
+use Rattle.wq_core.specs.declared.step.Step.TheVariants.{OverAll, Finish, Help}
 use Rattle.wq_core.specs.Wiring.{Wiring, lane_of}
 use Rattle.wq_core.specs.State.{Lane, State, lane_at, with_lane, Runs, IsUnfinishedOn}
-use Rattle.wq_core.specs.Rules.{IsHeldBack, IsHolder, MayStartFirst, MayBeOver, waiting_for, going_on, with_started, with_wait, with_over, with_finished, effect}
+use Rattle.wq_core.specs.Rules.{IsHeldBack, IsHolder, MayStartFirst, MayBeOver, waiting_for, going_on, with_started}
+use Rattle.wq_core.specs.Rules.{with_wait, with_over, with_finished, effect}
 use Rattle.wq_core.specs.Held.{IsSoundState}
 use Rattle.wq_core.specs.Played.{IsStepOfLane, IsDeclaredStep, HasNoDeclaredStep}
 use Rattle.wq_core.proofs.LaneLemmas.{cases_with_lane, lane_at-with_lane_other, same_running}
