@@ -2,7 +2,6 @@
 
 import collections
 import pathlib
-import re
 
 import pytest
 
@@ -54,11 +53,10 @@ def test_unread_counts(name, survey):
     assert wanted == {**dict.fromkeys(wanted, 0), **collections.Counter(map(folder, unread))}
 
 
-def test_read_again(name, survey):
-    """In how many rows the second reading was the first reader's."""
-    wanted = re.search(r"or, in (\d+)\s+and (\d+) rows, by the same one, later \(`read again`\)", PAGE)
-    again = [verdict for verdict in survey.verdicts.values() if verdict.word == REAL and "read again" in verdict.why]
-    assert len(again) == int(wanted[1 + FILES.index(name)])
+def test_read_again(survey):
+    """No second reading is the first reader's."""
+    real = [verdict.why for verdict in survey.verdicts.values() if verdict.word == REAL]
+    assert [why for why in real if "read again" in why] == []
 
 
 def test_kinds(survey):
