@@ -367,6 +367,51 @@ def long_rounds():
         yield f"{count} workqueues around, half of the items flush others that don't", declaration(ITEMS, between(count, True)), in_turn(count)
 
 
+# Which flushes are unsure: of each way its name, and of which places, from 0, they are.
+UNSURE = {
+    "all unsure": lambda place: True,
+    "every second unsure": lambda place: place % 2 == 1,
+    "one unsure": lambda place: place == FLUSHES // 2,
+}
+
+
+def made_unsure(text, is_unsure):
+    """A declaration of flushes with one target each, of which those at these places are unsure."""
+    lines, place = text.splitlines(True), 0
+    for at, line in enumerate(lines):
+        if line.startswith("flush"):
+            lines[at] = line.replace(" ", "? ", 1) if is_unsure(place) else line
+            place += 1
+    return "".join(lines)
+
+
+def with_unsure_lines():
+    """Of each a name, the declaration and the assignment, in which some or all flushes are unsure."""
+    both = declaration(ITEMS, across(), words=["flush", "flushwq"])
+    found = [
+        *long_rounds(),
+        ("layers, one workqueue", declaration(ITEMS, layers()), one()),
+        ("layers, 64 workqueues", declaration(ITEMS, layers()), in_turn(64)),
+        ("layers of 64, two workqueues", declaration(ITEMS, in_layers(64)), two()),
+        ("layers of 64 other items, 512 workqueues", declaration(ITEMS, shuffled(in_layers(64))), in_turn(512)),
+        ("a chain, one workqueue", declaration(ITEMS, chain()), one()),
+        ("a chain downwards, one workqueue", declaration(ITEMS, downwards()), one()),
+        ("a circle of all, own workqueues", declaration(ITEMS, circle()), own()),
+        ("random flushes, one workqueue", declaration(ITEMS, falling(1)), one()),
+        ("random flushes with circles, own workqueues", declaration(ITEMS, drawn(2)), own()),
+        ("random flushes on, around, one workqueue", both, one()),
+        ("a dense blob of 3,900, 2,048 workqueues", declaration(ITEMS, blob(3_900)), in_turn(2_048)),
+        ("2,046 workqueues wait for the last of 2,048 items", declaration(ITEMS, waiting()), waiting_workqueues()),
+        ("16,384 waits of both kinds, of 2,046 workqueues for one", waiting_of_both_kinds(), waiting_workqueues()),
+        ("layers, 64 workqueues, every other without a rescuer", declaration(ITEMS, layers()), in_turn_with_bare(64, 2)),
+        ("random flushes, 512 workqueues, every other without a rescuer", declaration(ITEMS, falling(3)), in_turn_with_bare(512, 2)),
+    ]
+    found += [(f"{name}, 2,048 workqueues without a rescuer", text, half_bare()) for name, text in bare_declarations()]
+    for name, text, assignment in found:
+        for which, is_unsure in UNSURE.items():
+            yield f"{name}, {which}", made_unsure(text, is_unsure), assignment
+
+
 def repairs():
     """Of each a name, the declaration, the assignment, and the items that may move, if not all."""
     half = [short(i) for i in range(0, ITEMS, 2)]
@@ -466,6 +511,14 @@ def cases(program, folder, write, most_run=MOST_CERTIFICATE):
         path, queues = write(text), write(assignment)
         for command in "deadlock", "hang", "circles":
             yield command, name, [path, queues]
+    for name, text, assignment in with_unsure_lines():
+        path, queues = write(text), write(assignment)
+        yield "plan", name, [path]
+        for command in "hang", "deadlock", "circles", "dot":
+            yield command, name, [path, queues]
+        run = program.answer("deadlock", folder, path, queues)
+        if run.startswith("unsure"):
+            yield "replay", name, [path, queues, write(run)]
     for name, text, assignment, names in repairs():
         yield "repair", name, [write(text), write(assignment), *names]
     for name, text in texts():

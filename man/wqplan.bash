@@ -79,8 +79,9 @@ _wqplan() {
             codes+=' TextTooLong LineTooLong BadByte UnknownWord MissingName BadName ItemTwice UnknownItem'
             codes+=' TooManyItems TooManyFlushes GroupedTwice ExtraWord BadCertLine NotAllItems GroupSplit'
             codes+=' NumberOutOfRange NotFalling ChainBroken LengthDiffers CircleBroken RunBroken TooManyLanes read'
-            codes+=" memory thread tally write plan wq chain arc circle run yes no 'not lawful' deadlock stuck open"
-            codes+=' safe components norescuer workqueues refused fault item flush flushwq ordered'
+            codes+=" memory thread tally write plan wq chain arc circle run unsure yes no 'not lawful' deadlock stuck"
+            codes+=' open safe components arc? norescuer workqueues refused fault item flush flushwq flush? flushwq?'
+            codes+=' ordered'
             mapfile -t COMPREPLY < <(compgen -W "$codes" -- "$word")
             # The blank of `not lawful` belongs to the word.
             COMPREPLY=("${COMPREPLY[@]// /\\ }")

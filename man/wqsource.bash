@@ -12,7 +12,7 @@ _wqsource() {
     fi
 }
 
-# _wqsource_commands PROGRAM: `audit|drift|draft|scan`, as the first line of its help has it.
+# _wqsource_commands PROGRAM: `audit|drift|draft|ask|scan`, as the first line of its help has it.
 _wqsource_commands() {
     "$1" --help 2>/dev/null | sed -nE 's/^usage: wqsource .*[] ]([a-z]+(\|[a-z]+)+) .*/\1/p' | tr '|' '\n'
 }

@@ -20,6 +20,7 @@ if "HYPOTHESIS_STORAGE_DIRECTORY" not in os.environ:
 def pytest_addoption(parser):
     parser.addoption("--write", action="store_true", help="writes diagnoses that differ anew, as the program has them: look at each")
     parser.addoption("--seed", default="1", help="of the random cases of the model; the same seed makes the same ones")
+    parser.addoption("--sure", action="store_true", help="leaves out the cases of the model that have unsure lines")
     parser.addoption("--cases", type=int, help="how many random cases of each command the model has")
 
 

@@ -3,6 +3,7 @@
 import contextlib
 import os
 import pathlib
+import re
 
 import cases
 import comments
@@ -69,6 +70,27 @@ def plan_of(declaration):
     return answer if answer.startswith(b"plan ") else None
 
 
+UNSURE = re.compile(rb"(flush(?:wq)?)\?([ \t])")
+
+
+def reading(declaration, answer):
+    """The text of the declaration whose items a kernel executes: the one in which each unsure line is so, if the
+    assignment is safe whatever is so; else the one that keeps those alone by which `deadlock` says that it hangs.
+    """
+    is_safe, left = answer == b"safe\n", [b" ".join(line.split()) for line in answer.splitlines()]
+    lines = []
+    for line in declaration.split(b"\n"):
+        words = b" ".join(line.partition(b"#")[0].split())
+        if UNSURE.match(words):
+            if is_safe or words in left:
+                left = left if is_safe else left[: left.index(words)] + left[left.index(words) + 1 :]
+                line = UNSURE.sub(rb"\1\2", line, count=1)
+            else:
+                line = b""
+        lines.append(line)
+    return b"\n".join(lines)
+
+
 class Asked:
     """A declaration and an assignment, what `wqplan deadlock` says of them, and the cases by which a kernel is asked
     the same.
@@ -78,6 +100,8 @@ class Asked:
         self.name, self.choose = name, choose
         self.texts = [text if isinstance(text, bytes) else pathlib.Path(text).read_bytes() for text in texts]
         answer = ask("deadlock", *texts)
+        self.texts[0] = reading(self.texts[0], answer)
+        answer = answer[re.search(rb"^(?:safe|run )", answer, re.M).start() :]
         self.declaration = model.read_declaration(self.texts[0])
         self.assignment = model.read_assignment(self.texts[1], self.declaration)
         self.is_safe = answer == b"safe\n"

@@ -5,7 +5,7 @@ from typing import Optional
 
 from .backstop import missed_calls
 from .calls import Edge
-from .cited import Cited
+from .cited import FLUSHES, Cited
 from .fits import Fits
 from .declaration import Declaration, DismissedItem, Dismissal, Spared
 from .places import FunctionId
@@ -32,6 +32,11 @@ class Neighbour:
     sites: int
 
 
+def says_so(lines: list[list[str]], name: str, targets: tuple[str, ...]) -> bool:
+    """Whether one of these flush lines is this item's, and, if there are targets, has one of these."""
+    return any(words[1:2] == [name] and (not targets or set(targets) & set(words[2:])) for words in lines)
+
+
 class Audit:
     """The declaration beside the files, and what is left to decide."""
 
@@ -56,8 +61,8 @@ class Audit:
         self.sites = self.find()
         self.cited_sites = [found for found in self.sites if self.cited.is_cited(found.site)]
         others = [found for found in self.sites if not self.cited.is_cited(found.site)]
-        self.dismissed = [found for found in others if self.dismisses(found.site.key)]
-        open_sites = [found for found in others if not self.cited.dismissal_of(found.site.key)]
+        self.dismissed = [found for found in others if self.dismisses(found.site.key) or self.is_spared(found)]
+        open_sites = [found for found in others if found not in self.dismissed]
         self.settled = [found for found in open_sites if self.is_settled(found)]
         self.of_network = [found for found in open_sites if self.program.tables.waits.is_network(found.site.key.call)]
         self.left = [found for found in open_sites if found not in self.settled and found not in self.of_network]
@@ -66,6 +71,7 @@ class Audit:
             for missed in missed_calls(self.program.facts, self.program.tables.waits)
             if not self.dismisses(missed.key)
         ]
+        self.note_spared()
         self.for_others = [(found, names) for found in self.cited_sites if (names := self.undecided_items(found))]
 
     def is_settled(self, found: Found) -> bool:
@@ -157,6 +163,7 @@ class Audit:
             or self.stale_items
             or self.stale_closed
             or self.stale_spared
+            or self.cited.unsure()
             or self.each_item and self.for_others
             or self.misplaced
             or any(one.is_fault for one in self.contradictions)
@@ -236,10 +243,24 @@ class Audit:
         return [name for name in others if not self.spares(name, found.site.key)]
 
     def spares(self, name: str, key: Key) -> bool:
-        """Whether a line says that this item doesn't wait there. The line is noted as one that is needed."""
-        found = [one for one in self.declaration.spared if name in one.items and self.cited.matches(one.key, key)]
-        self.used_spared.update(found)
-        return bool(found)
+        """Whether a line says that this item doesn't wait there at all."""
+        return any(
+            name in one.items and not one.targets and self.cited.matches(one.key, key) for one in self.declaration.spared
+        )
+
+    def is_spared(self, found: Found) -> bool:
+        """Whether lines say of each item that reaches a site that it doesn't wait there."""
+        return all(self.spares(name, found.site.key) for name in found.ways)
+
+    def note_spared(self) -> None:
+        """A line that spares an item is needed if the item reaches the site, and no flush line says that it waits there."""
+        for found in self.sites if self.declaration.spared else ():
+            lines = [words for words in self.cited.citing_lines(found.site) if words[:1] in FLUSHES]
+            for one in self.declaration.spared:
+                if self.cited.matches(one.key, found.site.key):
+                    names = [name for name in one.items if name in found.ways]
+                    if any(not says_so(lines, name, one.targets) for name in names):
+                        self.used_spared.add(one)
 
     # What is beside it
 

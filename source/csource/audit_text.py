@@ -78,8 +78,8 @@ class Printer:
             self.say(f"{path}:{dismissal.number}: dismisses {dismissal.key}, which isn't in reach")
         for spared in audit.stale_spared:
             self.say(
-                f"{path}:{spared.number}: {spared.key} is no site that other items' lines cite and "
-                f"{' '.join(spared.items)} reaches without one"
+                f"{path}:{spared.number}: {spared.key} is no site that {' '.join(spared.items)} reaches, and that no line "
+                f"says it waits at"
             )
         for closed in audit.stale_closed:
             self.say(f"{path}:{closed.number}: {closed.function} isn't called in reach, or isn't in the files")
@@ -234,6 +234,10 @@ class Printer:
         audit = self.audit
         for number, text, sites in audit.many():
             self.say(f"{audit.declaration.path}:{number}: takes out {says.counted(sites, 'site')}: {text}")
+        unsure = audit.cited.unsure()
+        if unsure:
+            are = "line is" if len(unsure) == 1 else "lines are"
+            self.say(f"unsure: {len(unsure)} {are}, from {audit.declaration.path}:{unsure[0]} on; `wqsource ask` asks about them")
         if audit.cited.threads:
             self.say(f"threads: {', '.join(audit.cited.threads)}")
         settled = f"{says.counted(len(audit.settled), 'cancel')} for nothing more, " if audit.settled else ""

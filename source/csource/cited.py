@@ -13,7 +13,9 @@ from .program import Program
 from .sites import Key, Site
 
 
-FLUSHES = (["flush"], ["flushwq"])
+# The first words of lines on which an item waits, and of those of which it isn't decided whether they are so.
+UNSURE = (["flush?"], ["flushwq?"])
+FLUSHES = (["flush"], ["flushwq"], *UNSURE)
 
 
 def fits(pattern: str, name: str) -> bool:
@@ -145,25 +147,28 @@ class Cited:
         """Whether a comment names one of its lines."""
         return any((site.key.file, line) in self.places for line in site.lines)
 
+    def citing_lines(self, site: Site) -> list[list[str]]:
+        """The words of the lines that cite a site: none of a comment of its own."""
+        return [
+            self.words(found.citation.number)
+            for found in self.located
+            if found.citation.decides
+            and found.file == site.key.file
+            and any(found.citation.line <= line <= found.citation.last for line in site.lines)
+        ]
+
     def deciding_lines(self, site: Site) -> Optional[list[list[str]]]:
         """The words of the flush lines that cite a site; None where another comment cites it, which is for any item."""
-        lines = []
-        for found in self.located:
-            citation = found.citation
-            if (
-                citation.decides
-                and found.file == site.key.file
-                and any(citation.line <= line <= citation.last for line in site.lines)
-            ):
-                words = self.words(citation.number)
-                if words[:1] not in FLUSHES:
-                    return None
-                lines.append(words)
-        return lines
+        lines = self.citing_lines(site)
+        return None if any(words[:1] not in FLUSHES for words in lines) else lines
 
     def words(self, number: int) -> list[str]:
         """The words of a line of the declaration, without its comment."""
         return self.declaration.lines[number - 1].partition("#")[0].split()
+
+    def unsure(self) -> list[int]:
+        """The lines of which it isn't decided whether they are so."""
+        return [number for number in range(1, len(self.declaration.lines) + 1) if self.words(number)[:1] in UNSURE]
 
     def targets(self, name: str) -> set[str]:
         """What an item waits for by its lines."""

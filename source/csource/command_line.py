@@ -21,7 +21,7 @@ from .progress import Progress
 from .tables import TableError
 from .token_extract import TokenExtractor
 
-DONE, LEFT, USAGE, FAULT = 0, 1, 2, 3
+DONE, LEFT, USAGE, FAULT, DEPENDS = 0, 1, 2, 3, 4
 # The tree, where none is named.
 HERE = pathlib.Path(".")
 # What a shell says of a program that SIGPIPE ended.
@@ -32,7 +32,8 @@ Reads C sources beside a declaration of wqplan.
 
   audit   which places may wait in reach of the declared items, and are neither cited nor dismissed in the declaration
   drift   what has changed between two trees: the lines that the declaration cites, waits in reach, workqueues
-  draft   a first declaration of some files, for a reader to decide
+  draft   a first declaration of some files, in which each wait is an unsure line
+  ask     the unsure lines that decide whether the workqueues hang, one after another; it writes the answers down
   scan    the workqueues with a rescuer of a whole kernel, and which of them can hang
 
 It lists places that may wait, along calls that it could resolve in the files that it was given. It never says that
@@ -41,7 +42,7 @@ these are all. Nothing here is proved. README.md beside it has the comments that
 ENDS = """\
 Status: 0 nothing is left to decide or to look at, 1 something is, 2 the command line is wrong, 3 a fault: a file that
 can't be read or mustn't be written, a name that means no file, a declaration without items, or Coccinelle is missing,
-141 nobody reads standard output any more."""
+4 `ask` ends and it depends still, 141 nobody reads standard output any more. For `ask` 0 is safe, and 1 hangs for sure."""
 
 
 def parser() -> argparse.ArgumentParser:
@@ -68,7 +69,7 @@ def parser() -> argparse.ArgumentParser:
     words = argparse.ArgumentParser(
         prog="wqsource", description=ABOUT, epilog=ENDS, formatter_class=argparse.RawDescriptionHelpFormatter
     )
-    verbs = words.add_subparsers(dest="verb", required=True, metavar="audit|drift|draft|scan")
+    verbs = words.add_subparsers(dest="verb", required=True, metavar="audit|drift|draft|ask|scan")
     files: dict[str, Any] = dict(
         nargs="*",
         metavar="FILE",
@@ -110,10 +111,20 @@ def parser() -> argparse.ArgumentParser:
         "--assign", metavar="OUT", help="write the workqueues that the files make into OUT, as an assignment"
     )
     three.add_argument(
+        "--unknown",
+        action="store_true",
+        help="a site of which no target is known is an unsure wait for an item `unknown`, without a rescuer, and no `?` line",
+    )
+    three.add_argument(
         "--force", action="store_true", help="overwrite OUT though it is no former draft, or was changed by hand"
     )
     scan_options.add_module_option(three)
     three.add_argument("files", **drafted)
+    four = verbs.add_parser("ask", parents=[shared], epilog=ENDS, help="the unsure lines on which it depends")
+    four.add_argument("declaration", metavar="DECL")
+    four.add_argument("assignment", metavar="ASSIGN")
+    four.add_argument("--tree", type=pathlib.Path, default=HERE, metavar="DIR")
+    four.add_argument("files", **files)
     scan_options.add_parser(verbs, shared, ENDS)
     return words
 
@@ -232,15 +243,33 @@ def run_draft(words: argparse.Namespace, extractor: program.ReadsFacts) -> int:
     extractor.progress.end()
     if found.missing:
         raise Fault(f"{found.missing[0]} is no work function of these files")
-    draft_text.Printer(found, sys.stdout).print()
+    draft_text.Printer(found, sys.stdout, words.unknown).print()
     if out:
         text = io.StringIO()
-        draft_text.print_assignment(found, text)
+        draft_text.print_assignment(found, text, words.unknown)
         outputs.replace(out, outputs.with_sum(text.getvalue()))
     return DONE
 
 
-VERBS = {"audit": run_audit, "drift": run_drift, "draft": run_draft}
+def run_ask(words: argparse.Namespace, extractor: program.ReadsFacts) -> int:
+    from . import ask, ask_text
+
+    declaration = declared(words.declaration)
+    wqplan = ask.Wqplan()
+    read = None
+    if words.files or declaration.files:
+        files = files_of(words.tree, words.files, declaration)
+        stacked = words.stacked or declaration.is_stacked
+        read = program.read(words.tree, files, extractor, program.Tables(), stacked)
+    asking = ask.Asking(pathlib.Path(words.declaration), words.assignment, read, wqplan)
+    extractor.progress.end()
+    ask_text.talk(asking, ask_text.terminal(), sys.stdout)
+    if asking.hang is None:
+        return DONE
+    return DEPENDS if asking.hang.unsure else LEFT
+
+
+VERBS = {"audit": run_audit, "drift": run_drift, "draft": run_draft, "ask": run_ask}
 
 
 def main() -> NoReturn:

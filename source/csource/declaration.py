@@ -8,7 +8,7 @@ from typing import Iterator, Optional
 from .sites import Key
 
 NO_WAIT = "no wait:"
-# of some items alone: `no wait of ITEM..:`
+# of some items alone, maybe for some targets alone: `no wait of ITEM..:`, `no wait of ITEM.. for TARGET..:`
 NO_WAIT_OF = re.compile(r"no wait of\s+([^:]*[^:\s])\s*:(.*)")
 NO_ITEM = "no item:"
 NOT_THROUGH = "not through:"
@@ -24,8 +24,8 @@ THREAD = re.compile(r"\s*(?:a\s+)?thread\b[\s,:]*(\w*)")
 DISMISSED_ITEM = re.compile(r"\s*(\S+\.[chS])\s+(\w+)\s*:\s+(\S.*)")
 # These words and no colon behind them, where what follows is that of the form.
 WITHOUT_COLON = re.compile(r"(no wait|not through|no item|files)\s+(?:\*|\S+\.[chS])(?:\s|$)")
-# A flush line that a draft offers, and that nobody has decided.
-SUGGESTED = re.compile(r"#flush(?:wq)? ")
+# A flush line that a draft offers, and the head of a site whose unsure lines stand below: neither decides anything.
+SUGGESTED = re.compile(r"#(?:flush(?:wq)?\?? |\?)")
 
 FILE = r"[\w./+-]*\w\.[chS]"
 # FILE:LINE, maybe -LINE, maybe a function
@@ -71,15 +71,26 @@ class Dismissal:
 
 @dataclass(frozen=True)
 class Spared:
-    """`# no wait of ITEM..: FILE FUNCTION CALL(ARGUMENT): WHY`: these items don't wait there, though others do."""
+    """`# no wait of ITEM..: FILE FUNCTION CALL(ARGUMENT): WHY`: these items don't wait there, though others do.
+
+    With `for TARGET..` behind the items they don't wait there for these targets, though maybe for others."""
 
     number: int
     items: tuple[str, ...]
+    targets: tuple[str, ...]
     key: Key
     why: str
 
     def __str__(self) -> str:
-        return f"# no wait of {' '.join(self.items)}: {self.key}: {self.why}"
+        targets = f" for {' '.join(self.targets)}" if self.targets else ""
+        return f"# no wait of {' '.join(self.items)}{targets}: {self.key}: {self.why}"
+
+    @staticmethod
+    def of(number: int, names: str, key: Key, why: str) -> "Spared":
+        """`names` are what stands behind `no wait of`. (An item may be called `for`: then it is the first one.)"""
+        words = re.split(r"[\s,]+", names)
+        at = words.index("for", 1) if "for" in words[1:] else len(words)
+        return Spared(number, tuple(words[:at]), tuple(words[at + 1 :]), key, why)
 
 
 @dataclass(frozen=True)
@@ -182,8 +193,7 @@ class Declaration:
         elif of := NO_WAIT_OF.fullmatch(text):
             match = DISMISSAL.fullmatch(of[2])
             if match:
-                items = tuple(re.split(r"[\s,]+", of[1]))
-                self.spared.append(Spared(number, items, Key(*match.groups()[:4]), match[5]))
+                self.spared.append(Spared.of(number, of[1], Key(*match.groups()[:4]), match[5]))
         elif text.startswith(NOT_THROUGH):
             match = CLOSED.fullmatch(text[len(NOT_THROUGH) :])
             if match:

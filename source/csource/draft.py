@@ -1,4 +1,4 @@
-"""`draft`: a first declaration of some files, in which what isn't known is left to a reader."""
+"""`draft`: a first declaration of some files, in which nothing is sure, and what isn't known is left to a reader."""
 
 import re
 from dataclasses import dataclass, field
@@ -15,6 +15,15 @@ from .records import Call
 from .sites import TARGETED, Key, Site
 
 
+@dataclass(frozen=True)
+class Unsure:
+    """An unsure line: an item may wait for another one, or by flushwq for all of its workqueue."""
+
+    item: FunctionId
+    word: str
+    target: FunctionId
+
+
 @dataclass
 class Line:
     """A flush whose target is known: one item that the call names, or the only one that can end the wait."""
@@ -25,6 +34,11 @@ class Line:
     also: list[FunctionId]
     site: Site
     path: list[Edge]
+
+    @property
+    def wait(self) -> tuple[FunctionId, Key]:
+        """For whom it waits where: of one item no two lines have the same."""
+        return self.target, self.site.key
 
 
 @dataclass
@@ -85,16 +99,22 @@ class Draft:
 
     def take(self, function: FunctionId) -> None:
         """The sites in reach of an item: each becomes a line, or stays open."""
+        # (it may come to a site by several cancels)
+        waits: set[tuple[FunctionId, Key]] = set()
         for site, path, stages in self.waits_of(function, {function}):
             line = self.line(function, site, path) if is_direct(path) else None
+            if line is not None and line.wait in waits:
+                continue
             doubts = self.doubts_of(line, stages) if line is not None else set()
             if line is not None and not doubts:
                 self.lines.append(line)
+                waits.add(line.wait)
             else:
                 is_network = self.program.tables.waits.is_network(site.key.call)
                 to = self.of_network if is_network else self.open
                 one = to.setdefault(site.key, Open(site, self.program.ends(site)))
-                one.ways.setdefault(function, path)
+                if len(path) < len(one.ways.setdefault(function, path)):
+                    one.ways[function] = path
                 if doubts:
                     one.doubts.setdefault(function, set()).update(doubts)
 
@@ -154,9 +174,24 @@ class Draft:
         found = [one for one in self.open.values() if self.program.tables.waits.is_plain_io(one.site.key.call)]
         return found if len(found) >= MANY else []
 
+    def candidates(self, one: Open) -> list[Unsure]:
+        """The lines that a site may become: of each item that reaches it, and each that may end it."""
+        items = sorted(one.ways, key=lambda function: (len(one.ways[function]), function))
+        if one.site.kind != "flushwq":
+            return [Unsure(item, "flush", target) for item in items for target in one.targets]
+        firsts = [first for workqueue in sorted(one.site.workqueues) for first in self.first_on(workqueue)]
+        return [Unsure(item, "flushwq", first) for item in items for first in dict.fromkeys(firsts)]
+
+    def first_on(self, workqueue: str) -> list[FunctionId]:
+        """An item of a workqueue, which stands for it: one that is on no other one, if there is one."""
+        on = sorted(self.program.items.items_on({workqueue}), key=list(self.program.items.items).index)
+        return sorted(on, key=lambda function: len(self.program.item(function).workqueues) > 1)[:1]
+
     def close(self) -> list[FunctionId]:
         """The items that the lines name and that weren't asked for."""
         named = {function for line in self.lines for function in (line.target, *line.also)}
+        for one in self.open.values():
+            named |= {unsure.target for unsure in self.candidates(one)}
         return [function for function in self.program.items.items if function in named and function not in self.items]
 
     def all_items(self) -> list[Item]:

@@ -5,9 +5,9 @@ import pathlib
 import re
 from typing import Iterable, TextIO
 
-from . import layers, says
+from . import ask, layers, says
 from .calls import DIRECT, Edge
-from .draft import Draft, Line, Open
+from .draft import Draft, Line, Open, Unsure
 from .items import Item
 from .locks import locks_text
 from .notfollowed import not_followed
@@ -17,11 +17,23 @@ from .sites import Site
 
 MOST_NAMED = 8
 
-HOW_TO_READ = (
-    "A `?` line is to be decided: write the flush that it is, or `# no wait: FILE FUNCTION CALL(ARGUMENT): WHY`, and "
-    "take the `?` line away. Until then wqplan refuses this text. Read each other line against the source, too, and "
-    "take away items that neither run on the reclaim path nor share a workqueue with one that does."
+UNSURE_LINES = (
+    "Nobody has read this. Each wait with a known target is a `flush?` or `flushwq?` line: it may be so. `wqplan hang` "
+    "says which few of them have to be read, and `wqsource ask` asks about these."
 )
+OPEN_LINES = (
+    "A line that begins with `?` is decided before that: write the flush that it is, or `# no wait: FILE FUNCTION "
+    "CALL(ARGUMENT): WHY`, and take the `?` line away. Until then wqplan refuses this text."
+)
+ITEM_LINES = "Take away items that neither run on the reclaim path nor share a workqueue with one that does."
+UNKNOWN_LINES = (
+    "The item `{name}` stands for what ends a wait and isn't known. It is on a workqueue without a rescuer: nothing "
+    "guarantees that it runs."
+)
+# What ends a wait and isn't known, with --unknown.
+UNKNOWN = "unknown"
+# A line of a declaration has so many bytes at most.
+MOST_LINE = 4000
 
 
 def some(names: Iterable[str]) -> str:
@@ -35,6 +47,12 @@ def word_of(site: Site) -> str:
     return "done" if site.kind in ("pool", "poll", "other") else site.kind
 
 
+def unknown_name(draft: Draft) -> str:
+    """The name of the item that stands for what isn't known: no other item's."""
+    names = {item.name for item in draft.all_items()}
+    return next(name for name in (UNKNOWN, *(f"{UNKNOWN}.{n}" for n in range(len(names)))) if name not in names)
+
+
 def kernel_version(tree: pathlib.Path) -> str:
     """As the Makefile at the top of a tree says it; '' where there is none."""
     makefile = tree / "Makefile"
@@ -43,12 +61,15 @@ def kernel_version(tree: pathlib.Path) -> str:
 
 
 class Printer:
-    """Prints a draft."""
+    """Prints a draft. If `unknown`, a site without a candidate is a wait for an item that isn't known."""
 
-    def __init__(self, draft: Draft, to: TextIO) -> None:
+    def __init__(self, draft: Draft, to: TextIO, unknown: bool = False) -> None:
         self.draft = draft
         self.program = draft.program
         self.to = to
+        self.unknown = unknown_name(draft) if unknown else ""
+        self.unsure = 0
+        self.undecided = 0
 
     def name(self, function: FunctionId) -> str:
         return self.program.item(function).name
@@ -72,16 +93,33 @@ class Printer:
     def decide(self, text: str) -> None:
         """A `?` line. What doesn't fit into it follows as comments."""
         self.write(says.wrapped(text, "? ", "#   "))
+        self.undecided += 1
+
+    def head(self, text: str) -> None:
+        """The head of a site whose unsure lines stand below. It decides nothing."""
+        self.write(says.wrapped(text, "#? ", "#?   "))
+
+    def may(self, unsure: Unsure, comment: str) -> None:
+        """An unsure line."""
+        self.line(unsure.word, self.name(unsure.item), self.name(unsure.target), comment)
+
+    def line(self, word: str, item: str, target: str, comment: str) -> None:
+        self.write(f"{word}? {item} {target}  # {comment}"[:MOST_LINE])
+        self.unsure += 1
 
     def print(self) -> None:
         files = self.program.facts.files
         says.head(self.to, f"a draft of {self.program.facts.tree}", len(files))
-        says.note(self.to, HOW_TO_READ)
+        for text in (UNSURE_LINES, UNKNOWN_LINES.format(name=self.unknown) if self.unknown else "", OPEN_LINES, ITEM_LINES):
+            if text:
+                says.note(self.to, text)
         self.print_sources()
         self.write(says.wrapped(" ".join(files), "# files: ", "# files: "))
         self.write()
         for item in self.draft.all_items():
             self.print_item(item)
+        if self.unknown:
+            self.write(f"item {self.unknown}  # {ask.UNKNOWN}")
         self.print_ordered()
         self.print_lines()
         self.print_open()
@@ -94,8 +132,7 @@ class Printer:
         says.note(
             self.to,
             f"{says.counted(len(self.draft.all_items()), 'item')}. "
-            f"{says.counted(len(self.draft.lines), 'line')} whose target is known, "
-            f"{says.counted(len(self.draft.open), 'site')} to decide.",
+            f"{says.counted(self.unsure, 'unsure line')}, {says.counted(self.undecided, 'line')} to decide before.",
         )
 
     def print_sources(self) -> None:
@@ -164,7 +201,11 @@ class Printer:
 
     def print_ordered(self) -> None:
         for workqueue, items in self.draft.ordered():
-            self.decide(f"ordered {' '.join(item.name for item in items)}")
+            text = f"ordered {' '.join(item.name for item in items)}"
+            if self.unknown and all(len(item.workqueues) == 1 for item in items):
+                self.write(text)
+            else:
+                self.decide(text)
             is_so = "is ordered" if self.program.workqueues.is_ordered(workqueue) else "is ordered in 6.1, not in 6.12"
             self.comment(
                 f"{self.program.workqueues.name(workqueue)} {is_so}. Leave the line out if nothing relies on it"
@@ -173,16 +214,15 @@ class Printer:
     # Waits
 
     def print_lines(self) -> None:
-        """The flushes whose target is known: one line for each item and target, with all its places."""
+        """The flushes whose target is known: those of the same items together, each with its place."""
         self.write()
         together: dict[tuple[FunctionId, str, FunctionId], list[Line]] = collections.defaultdict(list)
         for line in self.draft.lines:
             together[line.item, line.word, line.target].append(line)
         for (item, word, target), lines in together.items():
-            for line in lines[1:]:
-                self.write(says.wrapped(self.said(line), "# the same wait: ", "#   "))
-            text = says.wrapped(self.said(lines[0]), f"{word} {self.name(item)} {self.name(target)}  # ", "#   ")
-            self.write(text)
+            for line in lines:
+                self.write(says.wrapped(self.said(line), f"{word}? {self.name(item)} {self.name(target)}  # ", "#   "))
+                self.unsure += 1
 
     def said(self, line: Line) -> str:
         also = f"; also on this workqueue: {self.names(line.also)}" if line.also else ""
@@ -199,14 +239,28 @@ class Printer:
         if not disks:
             return
         self.write()
-        self.decide(f"io {len(disks)} sites of plain I/O, which an interrupt ends if no disk below is a stacked one")
+        text = f"io {len(disks)} sites of plain I/O, which an interrupt ends if no disk below is a stacked one"
+        (self.head if self.unknown else self.decide)(text)
         for one in disks:
             items = sorted(one.ways, key=lambda function: (len(one.ways[function]), function))
             # (a place would cite it, and so decide it)
             text = f"{one.site.key.call}({one.site.key.argument}) in {one.site.key.function}, for {self.names(items)}"
             self.comment(text)
+        if self.unknown:
+            self.print_unknown_disks(disks)
         calls = dict.fromkeys(f"{one.site.key.call}(*)" for one in disks)
         self.write(f"## no wait: * * {' '.join(calls)}: ")
+
+    def print_unknown_disks(self, disks: list[Open]) -> None:
+        """One line for each item that reaches them, with as many places as a line has room for."""
+        for item in dict.fromkeys(function for one in disks for function in sorted(one.ways)):
+            places: list[str] = []
+            for place in [self.site_place(one.site) for one in disks if item in one.ways]:
+                if sum(map(len, places)) + 2 * len(places) + len(place) > MOST_LINE // 2:
+                    self.line("flush", self.name(item), self.unknown, f"done {', '.join(places)}: plain I/O")
+                    places = []
+                places.append(place)
+            self.line("flush", self.name(item), self.unknown, f"done {', '.join(places)}: plain I/O")
 
     def print_network(self) -> None:
         """What softirqs of the network end is no question."""
@@ -227,9 +281,29 @@ class Printer:
         self.print_disks()
 
     def print_one(self, one: Open) -> None:
-        """A site to decide: who reaches it, what may end it, and the lines that it may become."""
+        """A site: who reaches it, what may end it, and the unsure lines that it is; or it is to be decided, if none is known."""
         site = one.site
-        self.decide(f"{site.kind} {self.site_place(site)}: {site.key.call}({site.key.argument})")
+        found = self.draft.candidates(one)
+        text = f"{site.kind} {self.site_place(site)}: {site.key.call}({site.key.argument})"
+        (self.head if found or self.unknown else self.decide)(text)
+        self.print_reach(one)
+        comment = f"{word_of(site)} {self.site_place(site)}"
+        for unsure in found:
+            self.may(unsure, comment)
+        if not found:
+            items = sorted(one.ways, key=lambda function: (len(one.ways[function]), function))
+            word = "flushwq" if site.kind == "flushwq" else "flush"
+            if self.unknown:
+                for item in items:
+                    self.line("flush", self.name(item), self.unknown, comment)
+            else:
+                self.write(f"#{word} {self.name(items[0])} TARGET  # {comment}"[:MOST_LINE])
+        key = site.key._replace(file=self.draft.short(site.key.file))
+        self.write(f"## no wait: {key}: ")
+
+    def print_reach(self, one: Open) -> None:
+        """Comments of a site: who reaches it, why that isn't sure, and what may end it."""
+        site = one.site
         items = sorted(one.ways, key=lambda function: (len(one.ways[function]), function))
         first = f"{self.name(items[0])}{self.way(one.ways[items[0]])}"
         self.comment(f"in reach of {first}" + (f"; and of {self.names(items[1:])}" if items[1:] else ""))
@@ -249,21 +323,14 @@ class Printer:
             )
         if one.ends.others:
             self.comment(f"may be ended by code that no item reaches, from {some(one.ends.others)}")
-        targets = " ".join(map(self.name, one.targets)) or "TARGET"
-        word = "flushwq" if site.kind == "flushwq" else "flush"
-        self.write(
-            f"#{word} {self.name(items[0])} {targets.split()[0] if word == 'flushwq' else targets}  # {word_of(site)} "
-            f"{self.site_place(site)}"[:4000]
-        )
-        key = site.key._replace(file=self.draft.short(site.key.file))
-        self.write(f"## no wait: {key}: ")
 
     def print_without_rescuer(self) -> None:
         """One question for all items that nothing guarantees to run: does the reclaim path wait for one of them?"""
         names = [item.name for item in self.draft.all_items() if self.is_without_rescuer(item)]
         if names:
             self.write()
-            self.decide(f"reclaim {' '.join(names)}")
+            # (beside `safe` wqplan says the same)
+            (self.head if self.unknown else self.decide)(f"reclaim {' '.join(names)}")
             self.comment(
                 "on workqueues without a rescuer: nothing guarantees that these run. If memory reclaim waits until one "
                 "of them has run, declare who waits, as `item writeback  # thread: ..` with its flush"
@@ -329,8 +396,9 @@ class Printer:
             self.comment(f"{one.function.name} ({one.table}): {one.site.key.call} in {one.site.key.function}{more}")
 
 
-def print_assignment(draft: Draft, to: TextIO) -> None:
-    """The workqueues as the files make them, with what their flags mean in comments."""
+def print_assignment(draft: Draft, to: TextIO, unknown: bool = False) -> None:
+    """The workqueues as the files make them, with what their flags mean in comments. If `unknown`, one more without a
+    rescuer, with the item that stands for what isn't known."""
     program = draft.program
     says.note(
         to,
@@ -363,6 +431,8 @@ def print_assignment(draft: Draft, to: TextIO) -> None:
         has_rescuer = program.workqueues.has_rescuer(workqueue)
         word = "norescuer" if has_rescuer is False else "wq"
         print(f"{'? ' if shared or has_rescuer is None else ''}{word} {number} {' '.join(item.name for item in items)}  # {said}", file=to)
+    if unknown:
+        print(f"norescuer {len(on)} {unknown_name(draft)}  # what isn't known: nothing guarantees that it runs", file=to)
     if nowhere:
         print(f"? wq ? {' '.join(item.name for item in nowhere)}  # their workqueue isn't known", file=to)
     empty = [workqueue for workqueue in program.workqueues.made if workqueue not in on]

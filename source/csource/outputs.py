@@ -1,9 +1,13 @@
 """Files that `wqsource` writes: never one that it reads, nor one that somebody else wrote or has changed."""
 
+import contextlib
 import hashlib
+import os
 import pathlib
 import re
-from typing import Optional
+import shutil
+import signal
+from typing import Iterator, Optional
 
 FORMER = "# wqsource: the workqueues of "
 SUM = re.compile(r"^# drafted: ([0-9a-f]{12}), .*\n", re.M)
@@ -54,11 +58,26 @@ def sum_of(text: str) -> str:
 
 
 def replace(path: pathlib.Path, text: str) -> None:
-    """Writes beside the file, and then moves it there. What is no file, as a terminal, is written itself."""
+    """Writes beside the file, and then moves it there. What is no file, as a terminal, is written itself. A link remains
+    one, and a file keeps its mode."""
     data = text.encode("utf-8", "surrogateescape")
     if path.exists() and not path.is_file():
         path.write_bytes(data)
         return
+    path = pathlib.Path(os.path.realpath(path))
     half = path.with_name(f"{path.name}.new")
     half.write_bytes(data)
+    if path.exists():
+        shutil.copymode(path, half)
     half.replace(path)
+
+
+@contextlib.contextmanager
+def uninterrupted() -> Iterator[None]:
+    """^C, and what else ends a program, waits until this is done."""
+    waiting = {signal.SIGINT, signal.SIGTERM, signal.SIGHUP}
+    before = signal.pthread_sigmask(signal.SIG_BLOCK, waiting)
+    try:
+        yield
+    finally:
+        signal.pthread_sigmask(signal.SIG_SETMASK, before)

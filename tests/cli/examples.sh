@@ -17,6 +17,26 @@ work=$(mktemp -d)
 trap 'rm -rf -- "$work"' EXIT
 cp -- "$examples"/*.wq "$examples"/*.assign "$work"
 cd -- "$work" || exit 1
+# Of a declaration with unsure lines NAME.wq has none of them here, and NAME.unsure.wq has all.
+for declaration in $(grep -lE '^flush(wq)?[?] ' -- *.wq); do
+    mv -- "$declaration" "${declaration%.wq}.unsure.wq"
+    grep -vE '^flush(wq)?[?] ' "${declaration%.wq}.unsure.wq" >"$declaration"
+done
+
+# decided NAME PATTERN: of the unsure lines of NAME.unsure.wq those with this pattern as they are when they are sure, without the others.
+decided() {
+    sed -E "/^flush(wq)?[?] .*($2)/s/^(flush(wq)?)[?]/\\1/" "$1.unsure.wq" | grep -vE '^flush(wq)?[?] '
+}
+
+# depends NAME DECL ASSIGN LINE..: counts whether `hang` needs these unsure lines, if any, and `deadlock` the same.
+depends() {
+    local name=$1 declaration=$2 assignment=$3 command
+    shift 3
+    for command in hang deadlock; do
+        run "$command" "$declaration" "$assignment"
+        is "$name: $command" "1: unsure $#${1:+ }$*" "$status: $(sed '/^run/,$d' out | xargs -d '\n')"
+    done
+}
 
 # ends NAME STATUS TEXT: counts whether the last run ended so, with just this text.
 ends() {
@@ -601,7 +621,9 @@ draws xfs 'plan of 6 workqueues, 5 waits in bold: items 13, workqueues 6, arrows
 grep -vE '^[^#]*(xfs_flush_inodes_worker|xfs_log_worker|xlog_discard_endio_work)' xfs.wq >xfs.rescuers.wq
 answers xfs.rescuers 'plan 6' xfs_blockgc_worker iomap_dio_complete_work xfs_end_io xfs_btree_split_worker xlog_cil_push_work \
     xlog_ioend_work
-cat xfs.wq xfs.nospace.wq >xfs.full.wq
+decided xfs 'xfs_(blockgc|inodegc)_worker  *#' >xfs.full.wq
+depends 'xfs: the kernel, unsure lines' xfs.unsure.wq xfs.assign
+depends 'xfs: the kernel, with rescuers, unsure lines' xfs.unsure.wq xfs.rescued.assign 'flushwq? xfs_inodegc_worker xfs_inodegc_worker'
 run plan xfs.full.wq
 begins 'xfs: plan, without a free block' 1 'circle 3'
 run circles xfs.full.wq
@@ -611,7 +633,7 @@ done
 hangs 'xfs: the kernel, without a free block' xfs.full.wq xfs.assign
 hangs 'xfs: the kernel, with rescuers, without a free block' xfs.full.wq xfs.rescued.assign
 # Where a block of metadata can't be written, its end waits for the log.
-cat xfs.wq xfs.shutdown.wq >xfs.down.wq
+decided xfs 'xfs_buf_ioend_work xlog_' >xfs.down.wq
 answers xfs.down 'plan 7' xfs_flush_inodes_worker wb_workfn xfs_end_io xfs_btree_split_worker xfs_buf_ioend_work \
     xlog_cil_push_work xlog_ioend_work
 plan_is_least xfs.down
@@ -665,7 +687,8 @@ repairs 'bcache: the journal among the requests' bcache.wq bcache.onejournal.ass
 repairs 'bcache: the kernel' bcache.wq bcache.assign ''
 draws bcache 'plan of 3 workqueues, 2 waits in bold: items 17, workqueues 3, arrows 30, red 0, bold 2' bcache.wq
 draws 'bcache: the kernel' 'safe: items 17, workqueues 6, arrows 30, red 0, bold 0' bcache.wq bcache.assign
-cat bcache.wq bcache.nobucket.wq >bcache.full.wq
+decided bcache 'bch_data_insert_keys.gc' >bcache.full.wq
+depends 'bcache: the kernel, unsure lines' bcache.unsure.wq bcache.assign 'flush? bch_data_insert_keys.gc bch_data_insert_keys.gc'
 answers bcache.full 'circle 1' bch_data_insert_keys.gc bch_data_insert_keys.gc
 hangs 'bcache: the kernel, without a bucket for the btree' bcache.full.wq bcache.assign
 
@@ -719,11 +742,12 @@ done
 run hang nvme-auth.wq nvme-auth.later.assign
 ends 'nvme-auth: a later kernel: hang' 0 safe
 
-# The tests of want of memory have the largest declaration, byte for byte, and its workqueues, as if each had a rescuer.
+# The tests of want of memory have the largest declaration, byte for byte but for its unsure lines, and its workqueues, as if each had
+# a rescuer.
 # Where a line of that file ends in \, its text goes on in the next one.
 cases=$(sed ':more; /\\$/{N; s/\\\n *//; b more}' "$root/crates/test_cases/src/largest.rt")
 largest=$(basename -- "$(ls -S -- "$examples"/*.wq | head -n 1)" .wq)
-[[ $cases == *"$(<"$examples/$largest.wq")"* ]] && found=yes || found=no
+[[ $cases == *"$(<"$largest.wq")"* ]] && found=yes || found=no
 is "$largest.wq in test_cases" yes "$found"
 rescued "$largest"
 is "$largest.assign in test_cases" "$(sed -n 's/ *#.*//; /^wq/p' "$largest.rescued.assign")" \

@@ -1,8 +1,9 @@
 #!/usr/bin/env bash
 # Runs `wqplan explain` for each number, each fault, each word of an answer and each directive, by number and by name, in upper and
 # lower case, and the example that it prints, whose answer has to be that number, and to standard error its diagnosis, or that fault,
-# or a line that begins with that word, or, of a declaration with that directive, a plan. The figures in an explanation have to be those of docs/FORMAT.md. Also runs it without a word, and with
-# words that have no explanation.
+# or a line that begins with that word, or, of a declaration with that directive, a plan, or if it is one of unsure lines, a hang that
+# needs its line. The figures in an explanation have to be those of docs/FORMAT.md. Also runs it without a word, and with words that
+# have no explanation.
 # Run it once the gate or `rt run` has built the program. The argument, if there is one, names another program.
 set -u
 . "$(dirname "$0")/../lib/script.bash"
@@ -113,7 +114,7 @@ done
 
 # Each word of an answer: a line that its example prints begins with it, and the last command of the example is one of those of its
 # row. `fault` is a line of standard error.
-awk '/^## / { on = $0 == "## The command `explain`" } on' "$format" | sed -nE 's/^\| `([a-z ]+)` \| (.*) \|$/\1:\2/p' >words
+awk '/^## / { on = $0 == "## The command `explain`" } on' "$format" | sed -nE 's/^\| `([a-z? ]+)` \| (.*) \|$/\1:\2/p' >words
 is 'docs/FORMAT.md has all words of answers' "$(grep -c '^word: ' "$tables/words.txt")" "$(wc -l <words)"
 while IFS=: read -r word commands; do
     run explain "$word"
@@ -125,24 +126,29 @@ while IFS=: read -r word commands; do
     mkdir "example $word"
     (cd "example $word" && PATH=$work/bin:$PATH limited bash ../commands) >out 2>err
     [ "$word" != fault ] || tail -n 1 err >out
-    has "explain $word: the example" $'\n'"$word( |"$'\n)' $'\n'"$(cat out)"$'\n'
+    has "explain $word: the example" $'\n'"${word//\?/\\?}( |"$'\n)' $'\n'"$(cat out)"$'\n'
     has "explain $word: the command of the example" '`'"$(sed -n '$s/.*wqplan \([a-z]*\).*/\1/p' commands)"'`|any' "$commands"
 done <words
 
-# Each directive: its example has a line of it, and prints a plan.
-directives=$(sed -nE 's/^- a directive: (.*);$/\1/p' "$format" | grep -oE '`[a-z]+`' | tr -d '`')
+# Each directive: its example has a line of it, and prints a plan, or a hang that needs that line.
+directives=$(sed -nE 's/^- a directive: (.*);$/\1/p' "$format" | grep -oE '`[a-z]+\??`' | tr -d '`')
 is 'docs/FORMAT.md has all directives' "$(grep -c '^directive: ' "$tables/directives.txt")" "$(wc -l <<<"$directives")"
-for name in $directives; do
+while read -r name; do
+    line=${name//\?/\\?}
     run explain "$name"
     is "explain $name" "0: $name directive" "$status: $(head -n 1 out)"
     formed "$name" 'What to do:'
     below 'To see it:' >commands
     same "$name" "${name^^}"
-    has "explain $name: the example has such a line" "('|n)$name a" "$(cat commands)"
+    has "explain $name: the example has such a line" "('|n)$line a" "$(cat commands)"
     mkdir "example $name"
     (cd "example $name" && PATH=$work/bin:$PATH limited bash ../commands) >out 2>err
-    has "explain $name: the example prints a plan" '^0::plan [0-9]+'$'\n' "$?:$(cat err):$(cat out)"
-done
+    ended=$?
+    case $name in
+        *\?) has "explain $name: the example prints a hang" $'^1:unsure 1\n'"$line a" "$ended:$(cat out)" ;;
+        *) has "explain $name: the example prints a plan" '^0::plan [0-9]+'$'\n' "$ended:$(cat err):$(cat out)" ;;
+    esac
+done <<<"$directives"
 
 # All titles: those of the numbers, with their names, those of the faults, those of the words of answers, and those of directives.
 {

@@ -21,6 +21,7 @@ import pytest
 import repairs
 import replays
 import runs
+import unsure
 from commands import TEXTS_OF
 from records import records
 from standard_error import fits
@@ -52,6 +53,12 @@ def rows_by_hand():
         yield from (row("hangs", "hang", [text, assignment], *ends) for assignment, ends in rows)
     for *texts, answer in hangs.LONG:
         yield row("the longest hangs", "hang", texts, answer, is_long=True)
+    for *texts, answers in unsure.HANGS:
+        yield row("unsure lines: hang", "hang", texts, *answers)
+    for *texts, answer in unsure.LONG:
+        yield row("unsure lines: the longest hangs", "hang", texts, answer, is_long=True)
+    for text, assignment, words, answer in unsure.REPAIRS:
+        yield row("unsure lines: repair", "repair", [text, assignment], answer, behind=words.split())
     for *texts, answers in drawings.SEVERAL:
         yield row("drawings of which several are right", "dot", texts, *answers)
     for text, assignment, words, answer in repairs.ROWS:
@@ -72,6 +79,10 @@ def rows_made():
                 yield row("hangs that are replayed", "replay", [text, assignment, run], end)
                 shorter = run_of(run.split(" / ")[1:-1])
                 yield row("hangs without their last step", "replay", [text, assignment, shorter], "open")
+    for *texts, answers in unsure.HANGS:
+        for answer in answers:
+            if answer != "safe":
+                yield row("unsure lines: hangs that are replayed", "replay", [*texts, answer], "deadlock", "stuck")
     for text, answer in runs.RUNS + runs.OTHERS:
         for helpers in runs.HELPERS:
             yield row("plans that are run with helpers", "run", [text], answer, behind=[helpers])
@@ -134,7 +145,7 @@ def rows_that_follow(rows):
         elif word in (b"wq", b"norescuer"):
             yield row("repairs that are safe", "deadlock", [texts[0], answer], "safe")
             yield row("repairs that need no repair", "repair", [texts[0], answer], answer)
-        elif word == b"run" and given.words[0] != "repair":
+        elif word == b"run" and given.words[0] != "repair" or word == b"unsure" and given.words[0] == "deadlock":
             yield row("runs that are printed", "replay", texts + [answer], "deadlock")
 
 

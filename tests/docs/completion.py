@@ -34,8 +34,8 @@ NAMES = re.findall(r"^\| (?:`no )?\d+[^|]*\| ([A-Z][A-Za-z]+) \|", FORMAT, re.M)
 FAULTS = re.findall(r"^\| `fault (\w+)` \|", FORMAT, re.M)
 EXPLAIN = FORMAT.split("## The command `explain`\n")[1].split("\n## ")[0]
 # The blank in one of them is typed with a backslash.
-WORDS = [word.replace(" ", "\\ ") for word in re.findall(r"^\| `([a-z ]+)` \|", EXPLAIN, re.M)]
-DIRECTIVES = re.findall(r"`(\w+)`", re.search(r"^- a directive: (.*);$", EXPLAIN, re.M)[1])
+WORDS = [word.replace(" ", "\\ ") for word in re.findall(r"^\| `([a-z? ]+)` \|", EXPLAIN, re.M)]
+DIRECTIVES = re.findall(r"`([\w?]+)`", re.search(r"^- a directive: (.*);$", EXPLAIN, re.M)[1])
 EXPLAINED = NUMBERS + NAMES + FAULTS + WORDS + DIRECTIVES
 
 

@@ -185,7 +185,7 @@ class Parts:
 
 def constant(record):
     """The name of the constant with an explanation."""
-    return re.sub(r"(?<=[a-z])(?=[A-Z])| ", "_", titled(record)[0]).upper()
+    return re.sub(r"(?<=[a-z])(?=[A-Z])| ", "_", titled(record)[0]).replace("?", "_unsure").upper()
 
 
 def explanation(record):
@@ -292,9 +292,10 @@ def guesses(directives):
 def findings(directives):
     """crates/wq_findings/src/declaration.rt with the directives, and with the form of each."""
     parts = Parts("crates/wq_findings/src/declaration.rt")
-    parts.replace(r'(?<=Hint::Said\("a line begins with ).*(?="\),$)', of_directives(directives)["words"])
+    sure = [row for row in directives if "unsure" not in row]
+    parts.replace(r'(?<=Hint::Said\("a line begins with ).*(?="\),$)', of_directives(sure)["words"])
     for row in directives:
-        parts.replace(rf'(?<= => "){row["directive"]} NAME[^"]*(?=",$)', f'{row["directive"]} {row["names"]}')
+        parts.replace(rf'(?<= => "){re.escape(row["directive"])} NAME[^"]*(?=",$)', f'{row["directive"]} {row["names"]}')
     return parts
 
 

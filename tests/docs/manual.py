@@ -29,6 +29,7 @@ NOT_SHOWN = ["dot"]
 OF_PLANS = "$ wqplan plan decl"
 OF_CIRCLES = "$ (cat decl && echo ordered disk log) >ordered; wqplan plan ordered"
 OF_RUNS = "$ wqplan deadlock decl assign"
+OF_UNSURE = "$ sed 's/^flush /flush? /' decl >unsure; wqplan hang unsure assign"
 OF_COMPONENTS = "$ wqplan circles decl assign"
 OF_REFUSALS = "$ (cat decl && echo flush disk data) >unknown; wqplan plan unknown"
 
@@ -246,7 +247,7 @@ def examples_of_texts(page):
     heads = {
         "DECLARATIONS": "$ cat decl", "ASSIGNMENTS": "$ cat assign",
         "PLANS": OF_PLANS, "CIRCLES": OF_CIRCLES, "RUNS": OF_RUNS,
-        "COMPONENTS": OF_COMPONENTS, "REFUSALS": OF_REFUSALS,
+        "UNSURE LINES": OF_UNSURE, "COMPONENTS": OF_COMPONENTS, "REFUSALS": OF_REFUSALS,
     }
     return [[heads[name], *lines] for name, lines in page.blocks(".EX", ".EE")], set(heads)
 

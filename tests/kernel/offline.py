@@ -22,6 +22,7 @@ for folder in ("kernel/lib", "tests/lib"):
     sys.path.append(str(ROOT / folder))
 import comments  # noqa: E402  (in kernel/lib, as is the next one)
 import guest  # noqa: E402
+import program  # noqa: E402
 import recorded  # noqa: E402  (beside this)
 from programs import counts_of, is_there  # noqa: E402  (in tests/lib)
 
@@ -67,6 +68,18 @@ def try_comments():
     for name, places in (("nvme-auth", {0, 2}), ("md", {0, 1, 2, 3}), ("dm-snapshot", {0, 3})):
         text = (ROOT / f"examples/{name}.wq").read_bytes()
         equal(f"{name}: the flushes that are done", places, comments.done_flushes(text))
+
+
+def try_readings():
+    """Which unsure lines the items of a kernel make."""
+    text = b"item a\nitem b\nflush a b\nflush? b a  # done\nflush?  b a\nflushwq? a b\n"
+    sure = text.replace(b"? ", b" ")
+    equal("a safe one makes all", sure, program.reading(text, b"safe\n"))
+    equal("one that hangs for sure, none", b"item a\nitem b\nflush a b\n\n\n\n", program.reading(text, b"unsure 0\nrun 0\n"))
+    kept = b"item a\nitem b\nflush a b\nflush b a  # done\n\nflushwq a b\n"
+    answer = b"unsure 2\nflush? b a\nflushwq? a b\nrun 1\nqueue a\n"
+    equal("those of the unsure part", kept, program.reading(text, answer))
+    equal("without unsure lines", sure, program.reading(sure, b"run 1\nqueue a\n"))
 
 
 CONSOLE = """[    1.000000] wqjudge: 1 ready
@@ -238,6 +251,7 @@ def main(arguments):
         return 1
     os.environ["WQPLAN"] = os.path.realpath(arguments[0])
     try_comments()
+    try_readings()
     try_console()
     try_removed()
     try_refusals()

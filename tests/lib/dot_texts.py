@@ -99,6 +99,10 @@ EMPTY = rb"""digraph wqplan {
 }
 """
 
+# The circle, three arrows of which are dotted.
+UNSURE = CIRCLE.replace(b"1 in bold", b"1 in bold, 3 not sure").replace(rb"steps.\l", rb"steps.\lDotted: not sure.\l").replace(
+    b'"a" -> "b" [color=red, style=bold]', b'"a" -> "b" [color=red, style="bold,dotted"]').replace(b"penwidth=4", b"penwidth=4, style=dotted")
+
 # How workqueue 1 looks.
 LOOKS_OF_1 = b'    graph [label="", style=filled, color=gray92]; "wq 1" [shape=plaintext, style="", fontsize=14];\n'
 
@@ -116,6 +120,9 @@ GOOD = [
                        [("a", "x", "black", False), ("x", "a", "red", False), ("b", "y", "red", True), ("c", "c", "bold red", False),
                         ("y", "b", "black", False), ("y", "c", "black", False)],
                        [""] * 6, {1, 3, 5}, {0: '"x" & \\', 2: "wq 2 same name", 3: "wq 3 same name", 5: "system_wq"})),
+    (UNSURE, drawn.Drawing("can hang, 4 waits in red, 1 in bold, 3 not sure", [[], [["a"], ["b"]]],
+                         [("a", "b", "red", False), ("b", "b", "red", True), ("b", "a", "red", False), ("b", "a", "bold red", True)],
+                         ["", "", "", "&" * 256], unsure={0, 2, 3})),
     (EMPTY, drawn.Drawing("plan of 0 workqueues", [], [])),
     (EMPTY.replace(b"plan of 0 workqueues", b"safe"), drawn.Drawing("safe", [], [])),
 ]
@@ -145,6 +152,11 @@ BROKEN = [
     (CIRCLE, rb"\lthat", b" that", 2),
     (CIRCLE, rb"can do.\l", b"can do.\n", 2),
     (EMPTY, b"plan of 0 workqueues", b"can hang", 2),
+    (UNSURE, b", 3 not sure", b"", 2),
+    (UNSURE, b", 3 not sure", b", 0 not sure", 2),
+    (UNSURE, rb"Dotted: not sure.\l", b"", 2),
+    (UNSURE, b", 3 not sure", b", 1 not sure", 17),
+    (UNSURE, b"penwidth=4, style=dotted", b"penwidth=4", 17),
     (EMPTY, b"workqueues\"", rb'workqueues\lBold: the chain that needs so many workqueues.\l"', 2),
     (PLAN, b"labelloc=t, ", b"", 2),
     (PLAN, b"rankdir=LR, ", b"rankdir=LR, newrank=true, ", 2),

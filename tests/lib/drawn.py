@@ -16,14 +16,16 @@ WAITS = r", (?:1 wait|(?:[2-9]|[1-9][0-9]+) waits) in "
 WORDS = re.compile(rf"plan of (?:1 workqueue|(?:0|[2-9]|[1-9][0-9]+) workqueues)(?:{WAITS}bold)?"
                    rf"|safe|(?:every assignment can hang{WAITS}red|can hang{WAITS}red(?:, [1-9][0-9]* to no rescuer)?)"
                    r"(?:, [1-9][0-9]* in bold)?")
+NOT_SURE = re.compile("(.*), ([1-9][0-9]*) not sure")
 LEADING = re.compile(", ([0-9]+) to no rescuer")
 SHORTEST = re.compile(", ([0-9]+) in bold")
-BOLD = r"\lBold: the chain that needs so many workqueues.\l"
+BOLD = r"\lBold: the chain that needs so many workqueues."
 RED = r"\lRed: while memory is short, a worker may wait for work\lthat "
 CIRCLED = "only it, or one that waits for it, can do"
 LEADS = "no rescuer does"
 ENOUGH = r"\lBold: enough to hang it, in the fewest steps."
 DASHED = r"\lDashed: no rescuer. While memory is short, nothing\lguarantees that work there runs."
+DOTTED = r"\lDotted: not sure."
 HEAD = [
     rb'digraph wqplan \{',
     rb'  graph \[label="([^"\\]*)((?:\\l[^"\\]*)*)", labelloc=t, labeljust=l, rankdir=LR, nodesep=0\.15, ranksep=1,'
@@ -44,6 +46,8 @@ END = rb'\}'
 
 # How an arrow looks: its colour; and its head: whether it is drawn from its target, and whether it is of a whole workqueue.
 LOOKS = {b"": "black", b" [color=red, style=bold]": "red", b" [color=red, penwidth=4]": "bold red", b" [style=bold]": "bold"}
+UNSURE_LOOKS = {b" [style=dotted]": "black", b' [color=red, style="bold,dotted"]': "red", b" [color=red, penwidth=4, style=dotted]": "bold red",
+                b' [style="bold,dotted"]': "bold"}
 REDS = {"red", "bold red"}
 HEADS = {
     b"": (False, False),
@@ -71,7 +75,7 @@ WORKQUEUE_LOOKS = (rb'    graph \[label="", ' + one_of(FRAMES) + rb'\]; "wq (0|[
 
 # The comment of the line that declares the flush, of 256 bytes at most.
 TOOLTIP = rb'(?: \[edgetooltip="(' + ESCAPE + rb'{1,256})"\])?'
-ARROW = rb'  ' + NAME + rb' -> ' + NAME + one_of(LOOKS) + one_of(HEADS) + TOOLTIP + rb';'
+ARROW = rb'  ' + NAME + rb' -> ' + NAME + one_of([*LOOKS, *UNSURE_LOOKS]) + one_of(HEADS) + TOOLTIP + rb';'
 ESCAPED = re.compile(rb'\\(.)|&amp;')
 
 
@@ -89,6 +93,7 @@ class Drawing:
     comments: list = dataclasses.field(default_factory=list)  # of each arrow, empty if it has none
     bare: set = dataclasses.field(default_factory=set)  # the numbers of the workqueues without a rescuer
     labels: dict = dataclasses.field(default_factory=dict)  # by number, where it isn't just the number: the name, with `wq Q` or not
+    unsure: set = dataclasses.field(default_factory=set)  # the numbers of the arrows that are dotted
 
     def workqueue_of(self):
         """By the name of an item, the number of its workqueue."""
@@ -143,19 +148,21 @@ def red_legend(words):
 
 def legends_of(words):
     """The legends that may follow these words of TITLE, each with whether it speaks of dashed frames."""
+    unsure = NOT_SURE.fullmatch(words)
+    words, dotted = (unsure[1], DOTTED) if unsure else (words, "")
     if words.startswith("plan"):
-        return {BOLD if words.endswith("in bold") else "": False}
-    if words == "safe":
-        return {"": False, rf"{DASHED}\l": True}
-    red = red_legend(words)
-    return {rf"{red}\l": False, rf"{red}{DASHED}\l": True}
+        legends = {BOLD if words.endswith("in bold") else "": False}
+    else:
+        first = "" if words == "safe" else red_legend(words)
+        legends = {first: False, f"{first}{DASHED}": True}
+    return {legend + dotted + r"\l" if legend + dotted else "": is_dashed for legend, is_dashed in legends.items()}
 
 
 def read_head(reader):
     """TITLE, without its legend, and whether this speaks of dashed frames."""
     match = [reader.take(line, "the line of the head that stands here") for line in HEAD][1]
     words, legend = match[1].decode(), match[2].decode()
-    reader.must(WORDS.fullmatch(words), "TITLE has other words", 2)
+    reader.must(WORDS.fullmatch(NOT_SURE.sub(r"\1", words)), "TITLE has other words", 2)
     legends = legends_of(words)
     reader.must(legend in legends, "TITLE has another legend", 2)
     return words, legends[legend]
@@ -230,7 +237,8 @@ def read_arrows(reader, drawing):
     while match := reader.may_take(ARROW):
         one, other = match[1].decode(), match[2].decode()
         reader.must(one in items and other in items, "an end of this arrow is no item")
-        colour, (back, whole) = LOOKS[match[3]], HEADS[match[4]]
+        colour, (back, whole) = (LOOKS | UNSURE_LOOKS)[match[3]], HEADS[match[4]]
+        drawing.unsure.update([len(arrows)] if match[3] in UNSURE_LOOKS else [])
         arrows.append((other, one, colour, whole) if back else (one, other, colour, whole))
         turned.append(back)
         comments.append(unescaped(match[5] or b"").decode())
@@ -307,6 +315,8 @@ def must_fit_title(reader, drawing, is_dashed):
     reader.must(is_dashed == bool(drawing.bare), "the legend speaks of dashed frames, and there is none, or the other way round")
     reader.must(drawing.title.startswith(("safe", "can")) or not drawing.bare and not drawing.labels,
                 "without an assignment a workqueue has a name, or no rescuer")
+    unsure = NOT_SURE.fullmatch(drawing.title)
+    reader.must(len(drawing.unsure) == (int(unsure[2]) if unsure else 0), "TITLE has another number of dotted arrows")
     must_lead(reader, drawing)
     planned = PLANNED.match(drawing.title)
     for colour, arrows in ("red", drawing.red()), ("bold", drawing.coloured("bold")):

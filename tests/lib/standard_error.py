@@ -63,14 +63,26 @@ WAITS = one_of([f"waits_for_{kind}" for kind in KINDS], **ON_QUEUES)
 WAITS_IN_GROUPS = one_of([f"group_waits_for_{kind}" for kind in KINDS], **ON_QUEUES)
 HAS_NONE = form("has_no_rescuer", workqueue=WORKQUEUE)
 WAITS_FOR_NONE = one_of(["waits_for_bare", "waits_for_all_of_bare"], **ON_QUEUES)
-FRONT = form("can_hang")
-FRONT_OF_PLAN = form("can_hang_on_any")
+FRONT = rb"(?:%s|can hang if this is so: )" % form("can_hang")
+FRONT_OF_PLAN = rb"(?:%s|can hang on any workqueues if this is so: )" % form("can_hang_on_any")
+FURTHER_WAIT = rb"%s(?:if this is so: )?" % form("and_further")
+
+# What is said of unsure lines, behind the file of the declaration.
+UNSURE_LINES = rb"(?:1 unsure line|(?:[2-9]|[1-9][0-9]+) unsure lines)"
+SAFE_ANYWAY = rb": note: safe whatever the " + UNSURE_LINES + rb" turns? out to be\n"
+FOR_SURE = rb": note: hangs for sure: no unsure line is needed\n"
+NOT_DECIDED = rb": note: %s of these waits (?:isn't|aren't) decided\. Take a line away if it isn't so, or its `\?` if it is, and ask again\n"
+NO_DIFFERENCE = (
+    rb": note: " + NUMBER + rb" of " + UNSURE_LINES + rb" makes? no difference %s: lines? " + NUMBER + rb"(?:, " + NUMBER + rb")*\n"
+)
+ENOUGH = rb": note: " + NUMBER + rb" workqueues are needed if these are so; without unsure lines (?:1 is|[1-9][0-9]* are) enough:\n"
+LINE_OF_UNSURE = rb"flush(?:wq)?\? [!-~]+ [!-~]+\n"
 
 # What is said beside a repair: WHAT of a change, and the line where names are too few, behind the file of the assignment.
 GROUP = rb"(?:%s|%s)" % (ITEM, form("with_more", item=ITEM, number=NUMBER))
 PLACE = rb"(?:%s|%s|%s)" % (WORKQUEUE, form("a_new_one", workqueue=WORKQUEUE), form("which_is_given", workqueue=WORKQUEUE))
 CHANGE = form("is_given", workqueue=WORKQUEUE) + rb"|" + form("moves", item=GROUP, workqueue=WORKQUEUE, other=PLACE)
-WITHOUT = rb"(?:%s|%s)" % (form("if_it_stayed"), form("without_one"))
+WITHOUT = rb"(?:%s|%s|if it stayed and this is so: |without one, if this is so: )" % (form("if_it_stayed"), form("without_one"))
 TOO_FEW = form("names_are_too_few", file=b"") + rb"\n(?:(?:wq|norescuer) [ -~]+\n)+"
 
 # The item that a NAME behind `repair` was most likely meant to be, behind the line of a NAME that is none.
@@ -93,7 +105,7 @@ def block(file, what):
 
 def circular_wait(file, waits, front=FRONT):
     """The form of what is said of a circular wait."""
-    return rb"%s(?:%s)*" % (block(file, front + waits), block(file, form("and_further") + waits))
+    return rb"%s(?:%s)*" % (block(file, front + waits), block(file, FURTHER_WAIT + waits))
 
 
 def to_no_rescuer(files, front=FRONT):
@@ -106,6 +118,11 @@ def either(files, front=FRONT):
     return rb"(?:%s|%s)" % (circular_wait(files[0], WAITS, front), to_no_rescuer(files, front))
 
 
+def no_difference(files, where):
+    """The form of what may be said of unsure lines that make no difference."""
+    return b"(?:%s)?" % (files[0] + NO_DIFFERENCE % where)
+
+
 def beside_repair(first, files):
     """The form of what is said beside an answer of `repair` that begins so."""
     if first == b"circle":
@@ -113,7 +130,7 @@ def beside_repair(first, files):
     if first == b"run":
         return files[1] + TOO_FEW + either(files)
     changes = rb"(?:%s:%s:%s: (?:%s)\n%s?)*" % (files[1], NUMBER, NUMBER, CHANGE, either(files, WITHOUT))
-    return rb"%s|%s" % (changes, b"".join(files[1] + line for line in NOTES))
+    return rb"%s|(?:%s)?(?:%s)?" % (changes, files[0] + SAFE_ANYWAY, b"".join(files[1] + line for line in NOTES))
 
 
 @functools.cache
@@ -146,15 +163,23 @@ def said_beside(printed, files, command):
     count = len(files)
     if command == "repair":
         return beside_repair(first, files[:2])
-    if first == b"safe" and count == 2:
-        return b"(?:%s)?" % b"".join(files[1] + line for line in NOTES)
+    if first == b"safe":
+        notes = b"(?:%s)?" % b"".join(files[1] + line for line in NOTES) if count == 2 else b""
+        return b"(?:%s)?%s" % (files[0] + SAFE_ANYWAY, notes)
+    if first in (b"plan", b"yes"):
+        return b"(?:%s(?:%s)+)?" % (files[0] + ENOUGH, LINE_OF_UNSURE)
+    if first == b"unsure" and printed.startswith(b"unsure 0\n"):
+        return either(files) + files[0] + FOR_SURE
+    if first == b"unsure":
+        return either(files) + files[0] + NOT_DECIDED % printed.split()[1] + no_difference(files, rb"on these workqueues")
     if first == b"circle" and count == 1 and command != "run":
         return b"(?:%s)%s" % (circular_wait(files[0], WAITS_IN_GROUPS, FRONT_OF_PLAN), b"" if command else b"?")
     if first == b"components" and count == 1:
-        return b"(?:%s){%s}" % (circular_wait(files[0], WAITS_IN_GROUPS), printed.split()[1])
+        none = no_difference(files, rb"to whether there is a plan")
+        return b"(?:%s){%s}%s" % (circular_wait(files[0], WAITS_IN_GROUPS), printed.split()[1], none)
     if first == b"components" and count == 2:
         to_none = to_no_rescuer(files) if b"\nnorescuer " in printed else b""
-        return b"(?:%s){%s}%s" % (circular_wait(files[0], WAITS), printed.split()[1], to_none)
+        return b"(?:%s){%s}%s%s" % (circular_wait(files[0], WAITS), printed.split()[1], to_none, no_difference(files, rb"on these workqueues"))
     if first == b"run" and count == 2 or first in (b"deadlock", b"stuck") and count == 3:
         return either(files)
     return b""

@@ -1,10 +1,11 @@
 # Puts two builds of the program beside each other:
 #
-#     beside.py OLD NEW [SEED] [CASES]
+#     beside.py [--sure] OLD NEW [SEED] [CASES]
 #
 # Both are asked the same: of each command the cases at the limits of docs/FORMAT.md and at each place of small texts, and so many
 # random ones (cases.py). What they print on standard output and on standard error, and their statuses, must be the same. A case that
-# differs is shown. It is for changes that shall change no answer: it knows nothing of what is right.
+# differs is shown. It is for changes that shall change no answer: it knows nothing of what is right. With --sure no case has an
+# unsure line, so OLD may be a program that knows none.
 
 import concurrent.futures
 import os
@@ -41,10 +42,10 @@ def ask_both(old, new, command, number, texts):
         return [programs.ask([program, *asked]) for program in (old, new)]
 
 
-def look_at(old, new, command, seed, count):
+def look_at(old, new, command, seed, count, sure):
     """How many cases of a command there are, and those that differ."""
     with concurrent.futures.ThreadPoolExecutor(WORKERS) as pool:
-        asked = list(enumerate(cases(command, seed, count)))
+        asked = list(enumerate(cases(command, seed, count, sure=sure)))
         answers = pool.map(lambda case: ask_both(old, new, command, *case), asked)
         return len(asked), [(texts, *both) for (_, texts), both in zip(asked, answers) if both[0] != both[1]]
 
@@ -56,14 +57,16 @@ def show(command, texts, *both):
 
 
 def main(arguments):
+    sure = arguments[:1] == ["--sure"]
+    arguments = arguments[sure:]
     found = seed_and_counts(arguments[2:], DEFAULT_SEED, DEFAULT_CASES)
     if len(arguments) < 2 or not found:
-        print("usage: beside.py OLD NEW [SEED] [CASES]", file=sys.stderr)
+        print("usage: beside.py [--sure] OLD NEW [SEED] [CASES]", file=sys.stderr)
         return 2
     (seed, count), (old, new) = found, map(os.path.realpath, arguments[:2])
     total, differing = 0, 0
     for command in COMMANDS:
-        looked_at, differ = look_at(old, new, command, seed, count)
+        looked_at, differ = look_at(old, new, command, seed, count, sure)
         print(f"beside: {command}: {looked_at} cases, {len(differ)} differ", flush=True)
         for case in differ[:MOST_SHOWN]:
             show(command, *case)

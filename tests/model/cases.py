@@ -1,6 +1,7 @@
 """The cases of each command, and the kinds of its answers.
 
-A command has cases at the limits of docs/FORMAT.md and at each place of small texts, and random ones, of which the same seed makes the same.
+A command has cases at the limits of docs/FORMAT.md and at each place of small texts, and random ones, of which the same seed makes the
+same. Of two random ones the second has unsure lines, mostly (make_unsure.py).
 """
 
 import re
@@ -11,6 +12,7 @@ import make_circles
 import make_declarations
 import make_hangs
 import make_repairs
+import make_unsure
 from commands import TEXTS_OF
 from models import ANSWERS
 from records import records
@@ -38,15 +40,16 @@ DRAWING = (
     r'shape=plaintext, style="", fontsize=14\];\n(    "Z";\n|    subgraph "cluster ordered Z" \{\n'
     r'      graph \[label="", style=dashed, color=black\]; "ordered Z" \[label="ordered", shape=plaintext, style=""\];\n'
     r'(      "Z";\n)+    \}\n)*  \}\n)*'
-    r'(  "Z" -> "Z"( \[LOOK\])?( \[(arrowhead=odiamond|dir=back(, arrowtail=odiamond)?)\])?'
+    r'(  "Z" -> "Z"( \[(LOOK|style=dotted)\])?( \[(arrowhead=odiamond|dir=back(, arrowtail=odiamond)?)\])?'
     r'( \[edgetooltip="NAMED"\])?;\n)*\}\n'
 )
-PLANNED = (r"plan of (1 workqueue|N workqueues)"
-           r"(, (1 wait|N waits) in bold\\lBold: the chain that needs so many workqueues\.\\l)?")
+NOT_SURE, DOTTED = r"(, N not sure)?", r"(\\lDotted: not sure\.)?"
+PLANNED = (rf"plan of (1 workqueue|N workqueues)(, (1 wait|N waits) in bold)?{NOT_SURE}"
+           rf"(\\lBold: the chain that needs so many workqueues\.)?{DOTTED}(\\l)?")
 DASHED = r"\\lDashed: no rescuer\. While memory is short, nothing\\lguarantees that work there runs\."
-HANGING = (r"(every assignment )?can hang, (1 wait|N waits) in redLEADINGBOLD"
+HANGING = (rf"(every assignment )?can hang, (1 wait|N waits) in redLEADINGBOLD{NOT_SURE}"
            r"\\lRed: while memory is short, a worker may wait for work"
-           rf"\\lthat WORK\.LEGEND({DASHED})?\\l")
+           rf"\\lthat WORK\.LEGEND({DASHED})?{DOTTED}\\l")
 ON_CIRCLES = r"only it, or one that waits for it, can do"
 ON_NONE = r"no rescuer does"
 LEADING = r", N to no rescuer"
@@ -65,18 +68,18 @@ def drawing(title, look):
 def hanging(leading, work):
     """The form of a drawing with red arrows, all of which are bold: how many lead to no rescuer, and what no one does."""
     title = HANGING.replace("LEADING", leading).replace("WORK", work).replace("BOLD", "").replace("LEGEND", "")
-    return drawing(title, "color=red, penwidth=4")
+    return drawing(title, "color=red, penwidth=4(, style=dotted)?")
 
 
 def hanging_in_part(leading, work):
     """The same where only some of them are bold."""
     title = HANGING.replace("LEADING", leading).replace("WORK", work).replace("BOLD", BOLD).replace("LEGEND", LEGEND)
-    return drawing(title, "color=red, (style=bold|penwidth=4)")
+    return drawing(title, 'color=red, (style=bold|style="bold,dotted"|penwidth=4(, style=dotted)?)')
 
 
 # Of a command, where `like_others` isn't enough: the cases at the limits, the random ones by a seed and their number, and the kinds
-# of answer, each with its exit status and its form. In a form N is a number, Z one or more names, A is an `arc` line, and S is a
-# step of a run that is printed, and W one of those that `hang` prints.
+# of answer, each with its exit status and its form. In a form N is a number, Z one or more names, A is an `arc` line, U a line of an
+# unsure part, and S is a step of a run that is printed, and Y one of those that `hang` prints.
 COMMANDS = {
     "plan": (
         lambda: [(what, [text]) for what, text in make_declarations.limit_cases()],
@@ -103,13 +106,15 @@ COMMANDS = {
     "deadlock": (
         make_assignments.limit_deadlock_cases,
         make_assignments.random_deadlock_case,
-        [("safe", 0, r"safe\n"), ("runs", 1, r"run N\nS+")] + CERTIFICATE_REFUSALS,
+        [("safe", 0, r"safe\n"), ("runs", 1, r"run N\nS+")]
+        + [(f"unsure {count}", 1, rf"unsure ({count})\nU*run N\nS+") for count in ("0", "1", "[2-9]|[1-9][0-9]+")] + CERTIFICATE_REFUSALS,
     ),
     "hang": (
         make_hangs.limit_hang_cases,
         make_hangs.random_hang_case,
         [("safe", 0, r"safe\n")] + [(f"runs of {steps}", 1, rf"run {steps}\nY+") for steps in (3, 4, 6)]
-        + [("longer runs", 1, r"run N\nY+")] + CERTIFICATE_REFUSALS,
+        + [("longer runs", 1, r"run N\nY+")]
+        + [(f"unsure {count}", 1, rf"unsure ({count})\nU*run N\nY+") for count in ("0", "1", "[2-9]|[1-9][0-9]+")] + CERTIFICATE_REFUSALS,
     ),
     "repair": (
         make_repairs.limit_repair_cases,
@@ -124,14 +129,16 @@ COMMANDS = {
         [("safe", 0, r"safe\n"), ("one component", 1, r"components 1\ncomponent N\nA+"),
          ("components", 1, r"components N\n(component N\nA+)+"),
          ("no rescuer", 1, r"components 0\nnorescuer N\nA+"),
-         ("components and no rescuer", 1, r"components N\n(component N\nA+)+norescuer N\nA+")]
+         ("components and no rescuer", 1, r"components N\n(component N\nA+)+norescuer N\nA+"),
+         ("unsure arcs", 1, r"components N\n(component N\nO+)*(norescuer N\nO+)?")]
         + DECLARATION_REFUSALS + CERTIFICATE_REFUSALS[1:],
     ),
     "dot": (
         make_circles.limit_dot_cases,
         lambda seed, number: make_circles.random_circles_case(f"{seed} dot", number),
-        [("plans", 0, drawing(PLANNED, "style=bold")), ("safe", 0, drawing("safe", NO_LOOK)),
-         ("safe, dashed", 0, drawing(rf"safe{DASHED}\\l", NO_LOOK)),
+        [("plans", 0, drawing(PLANNED, 'style=bold|style="bold,dotted"')), ("safe", 0, drawing("safe", NO_LOOK)),
+         ("safe, dashed", 0, drawing(rf"safe{NOT_SURE}{DASHED}{DOTTED}\\l", NO_LOOK)),
+         ("unsure, safe", 0, drawing(rf"safe{NOT_SURE}{DOTTED}\\l", NO_LOOK)),
          ("components", 0, hanging("", ON_CIRCLES)), ("no rescuer", 0, hanging(LEADING, ON_NONE)),
          ("components, some bold", 0, hanging_in_part("", ON_CIRCLES)), ("no rescuer, some bold", 0, hanging_in_part(LEADING, ON_NONE)),
          ("components and no rescuer", 0, hanging_in_part(LEADING, rf"{ON_CIRCLES},\\lor that {ON_NONE}"))]
@@ -168,6 +175,7 @@ COMMANDS |= {command: like_others(command) for command in ANSWERS if command not
 def form(pattern):
     pattern = pattern.replace("Y", r"(queue Z\n|(start|wait|waitwq) N Z\n)")
     pattern = pattern.replace("S", r"(queue Z\n|(start|wait|waitwq|over|overwq|finish) N Z\n)")
+    pattern = pattern.replace("O", r"(arc\?? Z\n)").replace("U", r"(flush(wq)?\? Z\n)")
     pattern = pattern.replace("A", r"(arc Z\n)").replace("N", r"(0|[1-9][0-9]*)")
     return re.compile(pattern.replace("Z", r"[A-Za-z0-9_.-]+( [A-Za-z0-9_.-]+)*").encode())
 
@@ -187,8 +195,15 @@ def kind_of(command, answer):
     return None
 
 
-def cases(command, seed, count, most=None):
-    """The cases of a command: those at the limits, if their texts have fewer bytes than `most`, and so many random ones."""
+def cases(command, seed, count, most=None, sure=False):
+    """The cases of a command: those at the limits, if their texts have fewer bytes than `most`, and so many random ones. None has an unsure
+    line if `sure`.
+    """
     limit_cases, random_case, _ = COMMANDS[command]
-    yield from (texts for _, texts in limit_cases() if most is None or sum(map(len, texts)) < most)
-    yield from (random_case(seed, number) for number in range(count))
+    at_limits = [texts for _, texts in limit_cases()]
+    if not sure and len(TEXTS_OF[command]) == 1:
+        at_limits += [[text] for _, text in make_unsure.limit_unsure_cases()]
+    yield from (texts for texts in at_limits if most is None or sum(map(len, texts)) < most)
+    for number in range(count):
+        texts = random_case(seed, number)
+        yield texts if sure or number % 2 == 0 else make_unsure.unsure_case(command, seed, number, texts)

@@ -4,7 +4,8 @@
 import dataclasses
 import functools
 
-from declaration import Refused, has_only, split_lines, split_words
+from declaration import FLUSH_LIMIT, SURE, Refused, has_only, split_lines, split_words
+from readings import places_by_line, reading
 
 # Limits
 TEXT_LIMIT = 8_388_608
@@ -237,6 +238,30 @@ def read_assignment(text, declaration):
     return assignment
 
 
+def read_unsure_part(lines, declaration):
+    """Run texts: the unsure part. Returns the places of the unsure flushes that are kept."""
+    places = places_by_line(declaration)
+    kept = set()
+    for _ in range(read_head(lines, b"unsure", 0, FLUSH_LIMIT)):
+        line, words = lines.take()
+        must(len(words) == 3 and words[0] in SURE, BAD_CERT_LINE, line)
+        must(places[b" ".join(words)], BAD_CERT_LINE, line)
+        kept.add(places[b" ".join(words)].pop())
+    return frozenset(kept)
+
+
+def read_run_and_part(text, declaration):
+    """Certificates: a run. Returns the places of the unsure flushes that are kept, or None where there is no unsure part, and the steps."""
+    lines = Lines(text)
+    kept = read_unsure_part(lines, declaration) if lines.first_word() == b"unsure" else None
+    return kept, read_run_lines(lines, declaration)
+
+
+def in_its_reading(declaration, kept):
+    """What the steps of a run are made with."""
+    return declaration if kept is None else reading(declaration, kept)
+
+
 def read_run(text, declaration):
-    """Certificates: a run. Returns the steps."""
-    return read_run_lines(Lines(text), declaration)
+    """The steps alone."""
+    return read_run_and_part(text, declaration)[1]

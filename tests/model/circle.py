@@ -11,6 +11,13 @@ def arcs_of(flushes, where, count):
     return arcs
 
 
+def led_to_no_rescuer(declared, assignment):
+    """Deadlocking runs: the places of the flushes that lead to no rescuer."""
+    has_none = [(assignment.workqueue_of[item] in assignment.bare, assignment.workqueue_of[target] in assignment.bare)
+                for item, target in declared.flushes]
+    return [place for place, ends in enumerate(has_none) if ends == (False, True)]
+
+
 def what_remains(waits_for):
     """Circle texts: What remains. The set of the numbers that can't be taken off.
 

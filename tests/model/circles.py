@@ -10,9 +10,8 @@ sys.dont_write_bytecode = True
 import certificate  # noqa: E402  (beside this file)
 import declaration  # noqa: E402
 from certificate import Assignment  # noqa: E402
-from circle import what_remains  # noqa: E402
+from circle import led_to_no_rescuer, what_remains  # noqa: E402
 from command_line import answer_texts  # noqa: E402
-from deadlock import led_to_no_rescuer  # noqa: E402
 from declaration import Refused  # noqa: E402
 
 
@@ -82,7 +81,7 @@ def circles_text(declared, arcs, to_none):
     lines = [b"components %d" % len(arcs)]
     for word, places in parts:
         lines.append(b"%s %d" % (word, len(places)))
-        lines += [b"arc %s %s" % declared.flushes[place] for place in places]
+        lines += [b"%s %s %s" % (b"arc?" if declared.is_unsure(place) else b"arc", *declared.flushes[place]) for place in places]
     return lines
 
 

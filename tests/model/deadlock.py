@@ -9,17 +9,12 @@ import sys
 sys.dont_write_bytecode = True
 import certificate  # noqa: E402  (beside this file)
 import declaration  # noqa: E402
-from circle import arcs_of, find_circle  # noqa: E402
+from circle import arcs_of, find_circle, led_to_no_rescuer  # noqa: E402
 from command_line import answer_texts  # noqa: E402
 from declaration import Refused  # noqa: E402
+from readings import part, reading  # noqa: E402
 from steps import RESCUER, State  # noqa: E402
-
-
-def led_to_no_rescuer(declared, assignment):
-    """Deadlocking runs: the places of the flushes that lead to no rescuer."""
-    has_none = [(assignment.workqueue_of[item] in assignment.bare, assignment.workqueue_of[target] in assignment.bare)
-                for item, target in declared.flushes]
-    return [place for place, ends in enumerate(has_none) if ends == (False, True)]
+from walks import UNSURE, cost_of_walk, least_walk, unsure_of  # noqa: E402
 
 
 def circle_of(declared, assignment):
@@ -102,10 +97,41 @@ def answer(declaration_text, assignment_text):
         assignment = certificate.read_assignment(assignment_text, declared)
     except Refused as refused:
         return refused.answer()
-    steps = deadlocking_run(declared, assignment)
-    if not steps:
+    if not queued_first(declared, assignment):
         return b"safe\n", 0
-    return b"".join(line + b"\n" for line in run_text(steps)), 1
+    return text_of(declared, assignment, unsure_of(declared, least_walk(declared, assignment))), 1
+
+
+def text_of(declared, assignment, kept):
+    """What is printed where these are the lines of the unsure part."""
+    lines = part(declared, kept) if declared.unsure() else []
+    lines += run_text(deadlocking_run(reading(declared, kept), assignment))
+    return b"".join(line + b"\n" for line in lines)
+
+
+def is_right(texts, wanted, found):
+    """Whether an answer that isn't the model's, which is `wanted`, is right, too: that of another unsure part that `hang` may print."""
+    if wanted[1] != 1 or found[1] != 1:
+        return False
+    declared = declaration.read_declaration(texts[0])
+    assignment = certificate.read_assignment(texts[1], declared)
+    try:
+        kept, _ = certificate.read_run_and_part(found[0], declared)
+    except Refused:
+        return False
+    return kept is not None and may_be_kept(declared, assignment, kept) and found[0] == text_of(declared, assignment, kept)
+
+
+def may_be_kept(declared, assignment, kept):
+    """Whether these are the lines of an unsure part that `hang` may print."""
+    least = least_walk(declared, assignment)
+    if least is None:
+        return False
+    if len(least) == 1 and least[0] in led_to_no_rescuer(declared, assignment):
+        return kept == unsure_of(declared, least)
+    own = reading(declared, kept)
+    found = least_walk(own, assignment)
+    return found is not None and cost_of_walk(declared, assignment, least) == UNSURE * len(kept) + cost_of_walk(own, assignment, found)
 
 
 def main(arguments):

@@ -31,6 +31,8 @@ MOST_WORDS = {word: int(row["most"]) for word, row in DIRECTIVES.items() if "mos
 USERS = [word for word, row in DIRECTIVES.items() if row["declares"] != "item"]
 FLUSHES = [word for word, row in DIRECTIVES.items() if row["declares"] == "flushes"]
 GROUPS = [word for word, row in DIRECTIVES.items() if row["declares"] == "group"]
+# The directives of unsure lines, each with the one that means the same without its question mark.
+SURE = {word: word.removesuffix(b"?") for word, row in DIRECTIVES.items() if row.get("unsure") == "yes"}
 # The step that makes a flush, by the directive that declares it, and the directives of those of whole workqueues.
 WAIT = {word: DIRECTIVES[word]["step"].encode() for word in FLUSHES}
 FLUSHES_WHOLE = [word for word in FLUSHES if WAIT[word] == b"waitwq"]
@@ -179,6 +181,14 @@ class Declaration:
     def flush_line(self, place):
         """A line that declares the flush of this place alone."""
         return b"%s %s %s" % (self.directive_of[place], *self.flushes[place])
+
+    def is_unsure(self, place):
+        """Unsure flushes."""
+        return self.directive_of[place] in SURE
+
+    def unsure(self):
+        """The places of the unsure flushes, in order."""
+        return [place for place in range(len(self.flushes)) if self.is_unsure(place)]
 
 
 @functools.lru_cache(maxsize=64)

@@ -14,10 +14,11 @@ import certificate  # noqa: E402  (beside this file)
 import declaration  # noqa: E402
 import hang  # noqa: E402
 import plan  # noqa: E402
+from circle import led_to_no_rescuer  # noqa: E402
 from circles import arcs_on_circles, own_workqueues, read_texts  # noqa: E402
 from command_line import answer_texts  # noqa: E402
-from deadlock import led_to_no_rescuer  # noqa: E402
 from declaration import Refused  # noqa: E402
+from walks import cost_of_walk, is_circle, least_to_no_rescuer, least_walk, leads_to_none, wait_of  # noqa: E402
 
 # The text. TITLE, Q, FRAME, LABEL and NAME are %b.
 HEAD = [
@@ -41,10 +42,15 @@ BOLD = rb"\lBold: the chain that needs so many workqueues."
 RED = rb"\lRed: while memory is short, a worker may wait for work\lthat %b."
 SHORTEST = rb"\lBold: enough to hang it, in the fewest steps."
 DASHED = rb"\lDashed: no rescuer. While memory is short, nothing\lguarantees that work there runs."
+DOTTED = rb"\lDotted: not sure."
 LOOKS = {
     "plain": [], "bold": [b"style=bold"], "red": [b"color=red", b"style=bold"], "bold red": [b"color=red", b"penwidth=4"],
 }
-BOLD_RED = re.compile(rb'  "[^"]*" -> "[^"]*" \[color=red, penwidth=4\]')
+UNSURE_LOOKS = {
+    "plain": [b"style=dotted"], "bold": [b'style="bold,dotted"'], "red": [b"color=red", b'style="bold,dotted"'],
+    "bold red": [b"color=red", b"penwidth=4", b"style=dotted"],
+}
+BOLD_RED = re.compile(rb'  "[^"]*" -> "[^"]*" \[color=red, penwidth=4[],]')
 
 # What is shown of a comment: how many bytes, and how some of them, as in the name of a workqueue.
 SHOWN = 256
@@ -54,9 +60,14 @@ ESCAPES = {b'"'[0]: rb'\"', b"\\"[0]: rb"\\", b"&"[0]: b"&amp;", b"\t"[0]: b" "}
 def followed(declared, printed):
     """The places of the flushes that the chain of a plan text follows."""
     least = {}
-    for place, arc in enumerate(declared.flushes):
-        least.setdefault(arc, place)
+    for place in sure_first(declared):
+        least.setdefault(declared.flushes[place], place)
     return [least[tuple(line.split(b" ")[1:])] for line in printed.split(b"\n") if line.startswith(b"arc ")]
+
+
+def sure_first(declared):
+    """The places of all flushes, those of the sure ones before the others."""
+    return sorted(range(len(declared.flushes)), key=lambda place: (declared.is_unsure(place), place))
 
 
 def counted(number, thing):
@@ -73,14 +84,19 @@ def what_no_one_does(red, to_none):
     return rb"only it, or one that waits for it, can do,\lor that no rescuer does"
 
 
-def title_of_plan(planned, bold):
-    """TITLE of a plan, where so many flushes are bold."""
-    words = b"plan of " + counted(planned.count, b"workqueue")
-    return words + (b", %b in bold%b" % (counted(bold, b"wait"), BOLD) + rb"\l" if bold else b"")
+def title_of_plan(planned, bold, unsure):
+    """TITLE of a plan, where so many flushes are bold, and so many unsure."""
+    parts = [b", %b in bold" % counted(bold, b"wait")] if bold else []
+    parts += [b", %d not sure" % unsure] if unsure else []
+    parts += [BOLD] if bold else []
+    parts += [DOTTED] if unsure else []
+    return b"".join([b"plan of ", counted(planned.count, b"workqueue"), *parts, rb"\l" if parts else b""])
 
 
-def title_of_workqueues(hanging, red, bold, to_none, has_bare):
-    """TITLE: WHAT and the parts that apply. So many flushes are red, so many of these bold, and so many of them lead to no rescuer."""
+def title_of_workqueues(hanging, red, bold, to_none, unsure, has_bare):
+    """TITLE: WHAT and the parts that apply. So many flushes are red, so many of these bold, so many of them lead to no rescuer, and so many
+    of all are unsure.
+    """
     parts = []
     if red:
         parts.append(b", %b in red" % counted(red, b"wait"))
@@ -88,19 +104,25 @@ def title_of_workqueues(hanging, red, bold, to_none, has_bare):
         parts.append(b", %d to no rescuer" % to_none)
     if bold < red:
         parts.append(b", %d in bold" % bold)
+    if unsure:
+        parts.append(b", %d not sure" % unsure)
     if red:
         parts.append(RED % what_no_one_does(red, to_none))
     if bold < red:
         parts.append(SHORTEST)
     if has_bare:
         parts.append(DASHED)
+    if unsure:
+        parts.append(DOTTED)
     return b"".join([hanging if red else b"safe", *parts, rb"\l" if parts else b""])
 
 
-def shortest_run(declared, shown):
-    """What `hang` prints for these workqueues, however the assignment spells them: the items come in the order of their declaration."""
+def walk_shown(declared, shown):
+    """The walk that `hang` prints for these workqueues, however the assignment spells them: the items come in the order of their
+    declaration.
+    """
     in_order = {name: shown.workqueue_of[name] for name in declared.items}
-    return hang.shortest_run(declared, certificate.Assignment(in_order, shown.count, shown.bare))
+    return least_walk(declared, certificate.Assignment(in_order, shown.count, shown.bare))
 
 
 def waits_of(run):
@@ -110,30 +132,31 @@ def waits_of(run):
 
 
 def places_of(declared, waits):
-    """The least place of a flush in which each wait is made."""
+    """The place of the flush in which each wait is made: the least of the sure ones, or else of all."""
     first = {}
-    for place in range(len(declared.flushes)):
-        first.setdefault(hang.wait_of(declared, place), place)
+    for place in sure_first(declared):
+        first.setdefault(wait_of(declared, place), place)
     return [first[wait] for wait in waits]
 
 
-def steps_of(declared, shown, places):
-    """How many steps the run has that waits in the flushes of these places, or None where there is no such run."""
-    waits = [hang.wait_of(declared, place) for place in places]
-    if len(waits) == 1 and hang.leads_to_none(waits[0], shown):
-        return len(hang.run_to_no_rescuer(waits[0], shown)) if places == led_to_no_rescuer(declared, shown)[:1] else None
-    on = {shown.workqueue_of[wait[1]]: wait for wait in waits}
-    circle = waits[:1]
-    while circle and len(circle) < len(waits):
-        following = on.get(shown.workqueue_of[circle[-1][2]])
+def cost_of(declared, shown, places):
+    """What the walk costs that waits in the flushes of these places, or None where there is no such walk, or another one that costs as much
+    comes first.
+    """
+    to_none = least_to_no_rescuer(declared, shown)
+    if len(places) == 1 and leads_to_none(wait_of(declared, places[0]), shown):
+        return cost_of_walk(declared, shown, places) if places == [to_none] else None
+    on = {shown.workqueue_of[declared.flushes[place][0]]: place for place in places}
+    circle = places[:1]
+    while circle and len(circle) < len(places):
+        following = on.get(shown.workqueue_of[declared.flushes[circle[-1]][1]])
         if following is None or following in circle:
             return None
         circle.append(following)
-    if not hang.is_circle(circle, shown):
+    if not is_circle([wait_of(declared, place) for place in circle], shown):
         return None
-    steps = len(hang.run_of_circle(circle, shown))
-    # Of those of 4 steps a flush that leads to no rescuer comes first.
-    return steps if steps < 4 or not led_to_no_rescuer(declared, shown) else None
+    cost = cost_of_walk(declared, shown, circle)
+    return cost if to_none is None or cost < cost_of_walk(declared, shown, [to_none]) else None
 
 
 class Drawn:
@@ -147,7 +170,7 @@ def drawn_workqueues(declared, shown, hanging, arcs, bold):
     """Workqueues are drawn, of which `hanging` is said if they can hang. The flushes of these places are bold red."""
     to_none = led_to_no_rescuer(declared, shown)
     red = [place for places in arcs for place in places] + to_none
-    title = title_of_workqueues(hanging, len(red), len(bold), len(to_none), bool(shown.bare))
+    title = title_of_workqueues(hanging, len(red), len(bold), len(to_none), len(declared.unsure()), bool(shown.bare))
     return Drawn(shown, title, {place: "red" for place in red} | {place: "bold red" for place in bold})
 
 
@@ -160,9 +183,9 @@ def drawn(declared, assignment, declaration_text, bold=None):
     if assignment is None and not arcs:
         printed, _ = plan.answer(declaration_text)
         planned, chain = certificate.read_assignment(printed, declared), followed(declared, printed)
-        return Drawn(planned, title_of_plan(planned, len(chain)), {place: "bold" for place in chain})
+        return Drawn(planned, title_of_plan(planned, len(chain), len(declared.unsure())), {place: "bold" for place in chain})
     if bold is None:
-        bold = places_of(declared, waits_of(shortest_run(declared, shown) or []))
+        bold = places_of(declared, [wait_of(declared, place) for place in walk_shown(declared, shown) or []])
     return drawn_workqueues(declared, shown, b"every assignment can hang" if assignment is None else b"can hang", arcs, bold)
 
 
@@ -244,7 +267,8 @@ def dot_text(declared, drawn, said):
     turned = turned_ends(declared)
     for place, (ends, comment) in enumerate(zip(declared.flushes, said, strict=True)):
         whole = declared.directive_of[place] in declaration.FLUSHES_WHOLE
-        lines.append(arrow_line(ends, ends in turned, whole, LOOKS[drawn.looks.get(place, "plain")], comment))
+        looks = UNSURE_LOOKS if declared.is_unsure(place) else LOOKS
+        lines.append(arrow_line(ends, ends in turned, whole, looks[drawn.looks.get(place, "plain")], comment))
     return b"".join(line + b"\n" for line in [*lines, b"}"])
 
 
@@ -256,10 +280,10 @@ def is_right(texts, wanted, found):
         return False
     declared, assignment = read_texts(texts[0], texts[1] if len(texts) == 2 else None)
     shown = assignment or own_workqueues(declared)
-    run = shortest_run(declared, shown)
+    least = walk_shown(declared, shown)
     arrows = found[0].split(b"\n")[-2 - len(declared.flushes):-2]
     bold = [place for place, line in enumerate(arrows) if BOLD_RED.match(line)]
-    if run is None or steps_of(declared, shown, bold) != len(run):
+    if least is None or cost_of(declared, shown, bold) != cost_of_walk(declared, shown, least):
         return False
     return found[0] == dot_text(declared, drawn(declared, assignment, texts[0], bold), comments(texts[0]))
 

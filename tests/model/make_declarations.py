@@ -7,7 +7,14 @@ import functools
 import random
 import string
 
-from declaration import DIRECTIVES, FEWEST_WORDS, FLUSH_LIMIT, ITEM_LIMIT, LINE_LIMIT, MOST_WORDS, NAME_LIMIT, TEXT_LIMIT, USERS
+import declaration
+from declaration import FLUSH_LIMIT, ITEM_LIMIT, LINE_LIMIT, NAME_LIMIT, SURE, TEXT_LIMIT
+
+# Of directives those that aren't of unsure lines: make_unsure.py puts those into texts that are made here, which stay the same so.
+DIRECTIVES = {word: row for word, row in declaration.DIRECTIVES.items() if word not in SURE}
+FEWEST_WORDS = {word: least for word, least in declaration.FEWEST_WORDS.items() if word in DIRECTIVES}
+MOST_WORDS = {word: most for word, most in declaration.MOST_WORDS.items() if word in DIRECTIVES}
+USERS = [word for word in declaration.USERS if word in DIRECTIVES]
 
 NAME_LETTERS = (string.ascii_letters + string.digits + "_-.").encode()
 OTHER_LETTERS = bytes(byte for byte in range(0x21, 0x7F) if byte not in NAME_LETTERS + b"#")

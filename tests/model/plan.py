@@ -37,29 +37,51 @@ def chain_lengths(waits_for):
     return lengths
 
 
-def plan_text(items, group_of, arcs):
-    """Plan texts. `arcs` has, for each group, its flushes in order of place."""
-    lengths = chain_lengths([{group_of[target] for _, target in of_group} for of_group in arcs])
-    workqueue = {group: length - 1 for group, length in lengths.items()}
+def workqueues_of_plan(declaration):
+    """Plan texts: the workqueue of each group, by its number. There is no circle."""
+    waits_for = [set() for _ in declaration.groups]
+    for item, target in declaration.flushes:
+        waits_for[declaration.group_of[item]].add(declaration.group_of[target])
+    return {group: length - 1 for group, length in chain_lengths(waits_for).items()}
+
+
+def chain_of(declaration, workqueue):
+    """Plan texts: the places of the flushes that the chain follows."""
+    group_of = declaration.group_of
+    # Of each group the places of its arcs that lead one workqueue lower, and by how many unsure flushes a chain leads from it to
+    # workqueue 0. Those on lower workqueues are found first.
+    lower = {group: [] for group in workqueue}
+    for place, (item, target) in enumerate(declaration.flushes):
+        if workqueue[group_of[target]] == workqueue[group_of[item]] - 1:
+            lower[group_of[item]].append(place)
+    unsure = {}
+
+    def with_rest(place):
+        return declaration.is_unsure(place) + unsure[group_of[declaration.flushes[place][1]]]
+
+    for group in sorted(workqueue, key=workqueue.get):
+        unsure[group] = min(map(with_rest, lower[group]), default=0)
+    highest = max(workqueue.values(), default=0)
+    group = min((group for group in workqueue if workqueue[group] == highest), key=lambda group: (unsure[group], group), default=None)
+    followed = []
+    while group is not None and lower[group]:
+        followed.append(min(lower[group], key=lambda place: (with_rest(place), place)))
+        group = group_of[declaration.flushes[followed[-1]][1]]
+    return followed
+
+
+def plan_text(declaration):
+    """Plan texts."""
+    workqueue = workqueues_of_plan(declaration)
     count = max(workqueue.values(), default=-1) + 1
     names = [[] for _ in range(count)]
-    for name in items:
-        names[workqueue[group_of[name]]].append(name)
+    for name in declaration.items:
+        names[workqueue[declaration.group_of[name]]].append(name)
     lines = [b"plan %d" % count]
     for number in range(count):
         lines.append(b"wq %d %s" % (number, b" ".join(names[number])))
     lines.append(b"chain %d" % count)
-    if count > 0:
-        group = min(group for group in workqueue if workqueue[group] == count - 1)
-        while workqueue[group] > 0:
-            item, target = next(
-                (item, target)
-                for item, target in arcs[group]
-                if workqueue[group_of[target]] == workqueue[group] - 1
-            )
-            lines.append(b"arc %s %s" % (item, target))
-            group = group_of[target]
-    return lines
+    return lines + [b"arc %s %s" % declaration.flushes[place] for place in chain_of(declaration, workqueue)]
 
 
 def circle_text(declaration, circle):
@@ -82,7 +104,7 @@ def answer(text):
     if circle:
         lines, status = circle_text(declaration, circle), 1
     else:
-        lines, status = plan_text(declaration.items, group_of, arcs), 0
+        lines, status = plan_text(declaration), 0
     return b"".join(line + b"\n" for line in lines), status
 
 

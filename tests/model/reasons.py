@@ -11,17 +11,25 @@ import re
 import certificate
 import circles
 import messages  # in tests/lib
-from deadlock import led_to_no_rescuer
+from circle import led_to_no_rescuer
 from declaration import FLUSHES, FLUSHES_WHOLE, read_declaration, split_lines
-from hang import among_rescuers, is_circle, run_of_places, shortest_circle, text_of_places, wait_of
+from hang import text_of_walk
 from marks import Word, about, excerpt, shown, words_of, workqueue
+from walks import among_rescuers, cost_of_walk, is_circle, least_circle, least_to_no_rescuer, unsure_first, wait_of
 
-# The fewest steps of a circular wait: of one item.
+# The least that a circular wait costs: one of an item for itself.
 OF_ITSELF = 3
 
 FRONT = messages.said("can_hang")
 FRONT_OF_PLAN = messages.said("can_hang_on_any")
 FURTHER = messages.said("and_further")
+STAYED = messages.said("if_it_stayed")
+WITHOUT = messages.said("without_one")
+# What stands there where the flush is unsure.
+IF_SO = {
+    FRONT: b"can hang if this is so: ", FRONT_OF_PLAN: b"can hang on any workqueues if this is so: ", STAYED: b"if it stayed and this is so: ",
+    WITHOUT: b"without one, if this is so: ", FURTHER: b"and if this is so: ",
+}
 # The lines of a block, and those that stand before the reasons: a `no` has its own block.
 BLOCK = 3
 
@@ -36,13 +44,17 @@ ROWS |= {
     "a name of a workqueue": re.escape(FRONT) + rb"[^\n]*on " + NAMED,
     "several parts": re.escape(FRONT) + rb"[^\0]*" + re.escape(FRONT),
     "beside a circle of plan": rb": " + re.escape(FRONT_OF_PLAN),
+    "beside a circle of plan, unsure": rb": can hang on any workqueues if this is so: ",
+    "unsure": rb": can hang if this is so: ",
+    "unsure further on": rb": and if this is so: ",
+    "sure behind unsure": rb"(?:can hang if|and if) this is so: [^\0]*: and `",
 }
 ROWS = {name: re.compile(form_of) for name, form_of in ROWS.items()}
 
 
 def rows_in(said):
     """Which rows these reasons have."""
-    return [name for name, form in ROWS.items() if form.search(said)] if FRONT in said or FRONT_OF_PLAN in said else []
+    return [name for name, form in ROWS.items() if form.search(said)] if b"can hang" in said else []
 
 
 @dataclasses.dataclass
@@ -138,18 +150,22 @@ class Case:
         at = lines_of_flushes(self.texts[0])[place]
         return marked(self.files[0], at.number, at.line, at.target, what)
 
+    def head(self, place, front):
+        """What stands before WHAT of this flush."""
+        return IF_SO[front] if self.declared.is_unsure(place) else front
+
     def to_none(self, place):
         """The lines of a flush that leads to no rescuer."""
         what, none = self.why_to_none(place)
         number = self.assignment.workqueue_of[self.declared.flushes[place][1]]
-        return self.block(place, self.front + what) + marked(self.files[1], *line_of_workqueue(self.texts[1], number), none)
+        return self.block(place, self.head(place, self.front) + what) + marked(self.files[1], *line_of_workqueue(self.texts[1], number), none)
 
     def round(self, places):
         """The lines of a circular wait of these flushes."""
         items = [self.declared.flushes[place][0] for place in places]
         lines = []
         for at, (place, following) in enumerate(zip(places, items[1:] + items[:1])):
-            lines += self.block(place, (FURTHER if at else self.front) + self.why(place, following))
+            lines += self.block(place, self.head(place, FURTHER if at else self.front) + self.why(place, following))
         return lines
 
     def printed(self, reasons):
@@ -163,9 +179,9 @@ class Case:
         """Whether this is a flush that leads to no rescuer, and not a circular wait."""
         return len(places) == 1 and places[0] in led_to_no_rescuer(self.declared, self.assignment)
 
-    def steps(self, places):
-        """How many steps the run of this circular wait has."""
-        return len(run_of_places(self.declared, self.assignment, places))
+    def cost(self, places):
+        """What this circular wait costs: its unsure flushes, and then its steps."""
+        return cost_of_walk(self.declared, self.assignment, places)
 
     def is_round(self, places):
         """Whether these flushes are a circular wait."""
@@ -174,13 +190,13 @@ class Case:
     # Which flushes are said ----------------------------------------------------------------------
 
     def least(self, places, found=None):
-        """A circular wait by these flushes than which none takes fewer steps: this one that was found, where it is one; or None where
-        there is none.
+        """A circular wait by these flushes than which none costs less: this one that was found, where it is one; or None where there is
+        none.
         """
-        bound = None if found is None else self.steps(found)
+        bound = None if found is None else self.cost(found)
         if bound == OF_ITSELF:
             return found
-        return shortest_circle(self.declared, self.assignment, places, bound) or found
+        return least_circle(self.declared, self.assignment, places, bound) or found
 
 
 # Which reasons there are ---------------------------------------------------------------------------
@@ -189,18 +205,18 @@ class Case:
 
 
 def one_part(case):
-    """The part of a command that says one: a circular wait of 3 steps, else the flush to no rescuer, else a circular wait."""
+    """The part of a command that says one: the flush to no rescuer where no circular wait costs less, else a circular wait."""
     every = among_rescuers(case.declared, case.assignment)
-    to_none = led_to_no_rescuer(case.declared, case.assignment)
-    if not to_none:
+    to_none = least_to_no_rescuer(case.declared, case.assignment)
+    if to_none is None:
         return [every]
-    of_itself = [place for place in every if case.is_round([place]) and case.steps([place]) == OF_ITSELF]
-    return [of_itself] if of_itself else [to_none[0]]
+    return [to_none] if least_circle(case.declared, case.assignment, every, case.cost([to_none])) is None else [every]
 
 
 def parts_of_circles(case):
     """The parts of `circles`: one for each component, and one for flushes to no rescuer."""
-    return circles.arcs_on_circles(case.declared, case.assignment) + led_to_no_rescuer(case.declared, case.assignment)[:1]
+    to_none = least_to_no_rescuer(case.declared, case.assignment)
+    return circles.arcs_on_circles(case.declared, case.assignment) + ([] if to_none is None else [to_none])
 
 
 def case_of(command, files, texts, printed):
@@ -223,7 +239,7 @@ def case_of(command, files, texts, printed):
 
 # Of each command the first words of the answers beside which reasons are said. A plan to which `check` says no may be safe.
 BESIDE = {
-    ("deadlock", b"run"), ("hang", b"run"), ("replay", b"deadlock"), ("replay", b"stuck"), ("check", b"no"),
+    ("deadlock", b"run"), ("hang", b"run"), ("deadlock", b"unsure"), ("hang", b"unsure"), ("replay", b"deadlock"), ("replay", b"stuck"), ("check", b"no"),
     ("circles", b"components"), ("plan", b"circle"),
 }
 
@@ -245,7 +261,8 @@ def flushes_said(case, said):
     """The places of the flushes of each reason, as the first lines of the blocks have them; None where a line isn't one of those."""
     heads = said.split(b"\n")[:-1:BLOCK]
     file = re.escape(shown(case.files[0]))
-    form = re.compile(file + rb":([1-9][0-9]*):([1-9][0-9]*): (%s|%s)?" % (re.escape(case.front), re.escape(FURTHER)))
+    fronts = b"|".join(re.escape(front) for front in (IF_SO[case.front], case.front, IF_SO[FURTHER], FURTHER))
+    form = re.compile(file + rb":([1-9][0-9]*):([1-9][0-9]*): (%s)?" % fronts)
     reasons = []
     is_second = False
     for head in heads:
@@ -254,9 +271,10 @@ def flushes_said(case, said):
             continue
         found = form.match(head)
         place = found and places_of_targets(case.texts[0]).get((int(found[1]), int(found[2])))
-        if place is None or found[3] is None or found[3] == FURTHER and not reasons:
+        is_further = place is not None and found[3] in (FURTHER, IF_SO[FURTHER])
+        if place is None or found[3] is None or is_further and not reasons:
             return None
-        if found[3] == FURTHER:
+        if is_further:
             reasons[-1].append(place)
         else:
             reasons.append([place])
@@ -267,14 +285,16 @@ def flushes_said(case, said):
 def wrong_with_part(case, part, places):
     """What is wrong with the flushes that are said of a part, or None."""
     if isinstance(part, int):
-        return None if places == [part] else f"the flush to no rescuer of least place is that of place {part}, and not {places}"
+        return None if places == [part] else f"the flush to no rescuer that is said is that of place {part}, and not {places}"
     if not set(places) <= set(part):
         return f"these flushes aren't among those of the part: {places}"
     if not case.is_round(places):
         return f"these flushes aren't a circular wait: {places}"
-    shorter = case.least(part, places)
-    if case.steps(shorter) < case.steps(places):
-        return f"{places} takes {case.steps(places)} steps, and {shorter} takes {case.steps(shorter)}"
+    if unsure_first(case.declared, places) != places:
+        return f"the first of these flushes is unsure: {places}"
+    less = case.least(part, places)
+    if case.cost(less) < case.cost(places):
+        return f"{places} costs {case.cost(places)}, and {less} costs {case.cost(less)}"
     return None
 
 
@@ -300,4 +320,4 @@ def wrong_with(command, files, texts, printed, said):
 def is_of_run(files, texts, printed, said):
     """Whether the reason beside a run that `hang` prints is that of this run, wait by wait."""
     case, _ = case_of("hang", files, texts, printed)
-    return text_of_places(case.declared, case.assignment, flushes_said(case, said)[0]) == printed
+    return text_of_walk(case.declared, case.assignment, flushes_said(case, said)[0]) == printed

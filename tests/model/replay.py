@@ -16,10 +16,10 @@ def answer(declaration_text, assignment_text, run_text):
     try:
         declared = declaration.read_declaration(declaration_text)
         assignment = certificate.read_assignment(assignment_text, declared)
-        steps = certificate.read_run(run_text, declared)
+        kept, steps = certificate.read_run_and_part(run_text, declared)
     except Refused as refused:
         return refused.answer()
-    end = end_of_run(declared, assignment, steps)
+    end = end_of_run(certificate.in_its_reading(declared, kept), assignment, steps)
     if end in ("deadlock", "stuck", "open"):
         return b"%s\n" % end.encode(), 0 if end == "open" else 1
     return b"not lawful %d\n" % end, 1

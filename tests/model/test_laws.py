@@ -18,6 +18,7 @@ import dot
 import drawn
 import hang
 import make_certificates
+import notes
 import plan
 import pytest
 import reasons
@@ -28,6 +29,7 @@ import unrescued
 from cases import cases
 from declaration import FLUSHES_WHOLE, Refused, read_declaration
 from models import ANSWERS
+from readings import readings
 from standard_error import fits
 from steps import State
 
@@ -43,12 +45,13 @@ W = rb" [^ \n]+"
 ARCS = rb"((?:arc" + W + W + rb"\n)*)"
 RUN = (rb"run " + N + rb"\n((?:(?:queue|cancel)" + W + rb"\n|(?:start|wait|waitwq|over|overwq|finish) "
        + rb"[0-9]+" + W + rb"\n)*)")
+PART = rb"(?:unsure " + N + rb"\n((?:flush(?:wq)?\?" + W + W + rb"\n)*))?"
 WQS = rb"((?:wq [0-9]+(?:" + W + rb")*\n)*)"
 LANES = WQS.replace(b"wq", b"(?:wq|norescuer)")
 PLAN = re.compile(rb"plan " + N + rb"\n" + WQS + rb"chain " + N + rb"\n" + ARCS)
 CIRCLE = re.compile(rb"circle " + N + rb"\n" + ARCS + rb"(?:" + RUN + rb")?")
 ASSIGNMENT = re.compile(LANES)
-STEPS = re.compile(RUN)
+STEPS = re.compile(PART + RUN)
 
 
 def tidy(text):
@@ -95,6 +98,12 @@ def good_run(count, lines, declared):
     return int(count) <= 4_294_967_295 and int(count) == count_of(lines)
 
 
+def good_part(count, lines, declared):
+    words = [line.split(b" ") for line in lines.split(b"\n")[:-1]]
+    unsure = [declared.flush_line(place).split(b" ") for place in declared.unsure()]
+    return int(count) == len(words) <= 16_384 and all(words.count(line) <= unsure.count(line) for line in words)
+
+
 def good_plan(text, declared):
     match = PLAN.fullmatch(text)
     if not match:
@@ -125,7 +134,10 @@ def good(kind, text, declared):
         match = ASSIGNMENT.fullmatch(text)
         return good_plan(text, declared) or bool(match and good_wqs(match[1], declared))
     match = STEPS.fullmatch(text)
-    return bool(match and good_run(*match.groups(), declared))
+    if not match:
+        return False
+    kept, lines, count, steps = match.groups()
+    return (kept is None or good_part(kept, lines, declared)) and good_run(count, steps, declared)
 
 
 # A second reading of the steps -------------------------------------------------------------------
@@ -169,7 +181,7 @@ class Past:
 
     def targets(self, item):
         """The words of its waits, each with the target, in order of place."""
-        lines = [self.declared.flush_line(place).split(b" ") for place in range(len(self.declared.flushes))]
+        lines = [self.declared.flush_line(place).replace(b"?", b"").split(b" ") for place in range(len(self.declared.flushes))]
         return [(b"wait" + words[0][len(b"flush"):], words[2]) for words in lines if words[1] == item]
 
     def unfinished(self, item):
@@ -363,18 +375,42 @@ def look_at_plan(text):
         demand(deadlock.answer(text, printed) == (b"safe\n", 0), "a plan text is safe")
         demand(deadlock.answer(text, own) == (b"safe\n", 0),
                "where there is a plan, each group alone is safe")
+        look_at_chain(declared, printed)
     else:
         at = printed.index(b"\nrun ") + 1
         demand(check.answer(text, printed[:at]) == (head + b"\n", 0), "so it is without its run")
-        demand(deadlock.answer(text, own) == (printed[at:], 1),
-               "the run of a circle is that of each group alone")
+        demand(deadlock.answer(all_so(declared), own) == (printed[at:], 1), "the run of a circle is that of each group alone")
+        demand(plan.answer(all_so(declared)) == (printed, 1), "circles are of all flushes")
         demand(replay.answer(text, own, printed[at:]) == (b"deadlock\n", 1), "and it deadlocks")
+
+
+def all_so(declared):
+    """The text in which each unsure line is so."""
+    return text_declaring(declared, range(len(declared.flushes))).replace(b"?", b"")
+
+
+def look_at_chain(declared, printed):
+    """Of all longest chains none has fewer unsure flushes, and workqueues and chains are those of all flushes, but for that."""
+    other, _ = plan.answer(all_so(declared))
+    demand(other.split(b"\nchain ")[0] == printed.split(b"\nchain ")[0], "workqueues are those of all flushes")
+    sure = {flush for place, flush in enumerate(declared.flushes) if not declared.is_unsure(place)}
+    count = int(printed.split()[1])
+    doubted = [arc for arc in printed_arcs(printed) if arc not in sure]
+    if len(doubted) == 0 or len(declared.unsure()) > READ_ALL:
+        return
+    for kept in readings(declared):
+        places = [place for place in range(len(declared.flushes)) if place in kept or not declared.is_unsure(place)]
+        fewest = int(plan.answer(text_declaring(declared, places).replace(b"?", b""))[0].split()[1])
+        demand(fewest <= count, "no reading needs more workqueues")
+        demand(fewest < count or len(kept) >= len(doubted), "no reading that keeps fewer than the unsure flushes of the chain needs as many")
 
 
 def look_at_kinds(declared, printed):
     """Which waits are for a whole workqueue matters for runs alone."""
     places = range(len(declared.flushes))
-    for kinds in [b"flush"] * len(places), [b"flushwq"] * len(places), declared.directive_of[::-1]:
+    marks = [b"?" * declared.is_unsure(place) for place in places]
+    for kinds in [b"flush"], [b"flushwq"], [b"flushwq", b"flush", b"flush"]:
+        kinds = [kind + mark for kind, mark in zip(itertools.cycle(kinds), marks)]
         other = dataclasses.replace(declared, directive_of=kinds)
         answer, _ = plan.answer(text_declaring(other, places))
         demand(answer.split(b"\nrun ")[0] == printed.split(b"\nrun ")[0], "plans and circles have no kinds of waits")
@@ -462,6 +498,12 @@ def look_at_replay(declaration_text, assignment_text, run_text):
     fits = good("assignment", assignment_text, declared)
     both = fits and good("run", run_text, declared)
     demand((status != 2) == both, "both readings are the same")
+    if status != 2 and tidy(run_text).startswith(b"unsure "):
+        part, run = parted(tidy(run_text))
+        own = text_of_reading(declared, part)
+        demand(replay.answer(own, assignment_text, run) == (printed, status), "a run with an unsure part is one of its reading")
+        look_at_replay(own, assignment_text, run)
+        return
     if status == 2:
         if fits:
             look_at_refusal(
@@ -502,6 +544,58 @@ def look_at_replay(declaration_text, assignment_text, run_text):
                         and printed == b"deadlock\n") or assignment.bare, "no front of a deadlock is one")
 
 
+def parted(printed):
+    """The lines of the unsure part behind the first, and the run."""
+    at = re.search(rb"^run ", printed, re.M)
+    return (printed[:at.start()].splitlines()[1:], printed[at.start():]) if at and printed.startswith(b"unsure ") else ([], printed)
+
+
+def text_of_reading(declared, part):
+    """The text that is left where these unsure lines are so, each as often as it stands here, the highest ones first, and no other."""
+    left = collections.Counter(part)
+    places = []
+    for place in range(len(declared.flushes)):
+        line = declared.flush_line(place)
+        if not declared.is_unsure(place) or left[line] > 0:
+            left[line] -= 1
+            places.append(place)
+    return text_declaring(declared, places).replace(b"?", b"")
+
+
+# Of declarations with at most so many unsure lines all readings are looked at.
+READ_ALL = 5
+
+
+def look_at_unsure(command, texts, printed, status):
+    """What a run with an unsure part promises, by the answers to the texts of readings."""
+    declared = read_declaration(texts[0])
+    unsure = declared.unsure()
+    part, run = parted(printed)
+    demand(printed.startswith(b"unsure " if unsure else b"run ") == (status == 1), "there is an unsure part where there is an unsure line")
+    if not unsure:
+        return None
+    own = text_of_reading(declared, part)
+    if status == 1:
+        lines = printed.splitlines()
+        demand(lines[0] == b"unsure %d" % len(part) and lines[1:len(part) + 1] == part, "the head says how many lines there are")
+        places = [next(place for place in unsure if declared.flush_line(place) == line) for line in part]
+        demand(places == sorted(set(places)), "they are in order of place, and none is there twice")
+    else:
+        demand(ANSWERS[command](text_of_reading(declared, [declared.flush_line(place) for place in unsure]), texts[1])[1] == 0,
+               "what is safe is so with all flushes")
+    if len(unsure) <= READ_ALL:
+        hanging = [kept for kept in readings(declared) if not is_safe_in(declared, kept, texts[1])]
+        demand((status == 0) == (not hanging), "safe is safe in every reading")
+        demand(status == 0 or len(part) == min(map(len, hanging)), "no reading that keeps fewer hangs")
+    return own, run
+
+
+def is_safe_in(declared, kept, assignment_text):
+    """Whether the reading that keeps these places is safe."""
+    places = [place for place in range(len(declared.flushes)) if place in kept or not declared.is_unsure(place)]
+    return deadlock.answer(text_declaring(declared, places).replace(b"?", b""), assignment_text)[1] == 0
+
+
 def look_at_deadlock(declaration_text, assignment_text):
     printed, status = deadlock.answer(declaration_text, assignment_text)
     try:
@@ -524,7 +618,14 @@ def look_at_deadlock(declaration_text, assignment_text):
         wqs[assignment.workqueue_of[item]].append(item)
     look_at_changed_wqs(declaration_text, wqs, assignment.bare, (printed, status))
     look_at_bare(declared, wqs, assignment, (printed, status))
-    if status == 1:
+    found = look_at_unsure("deadlock", [declaration_text, assignment_text], printed, status)
+    if found and status == 1:
+        own, run = found
+        demand(parted(hang.answer(declaration_text, assignment_text)[0])[0] == parted(printed)[0], "hang and deadlock have the same unsure part")
+        demand(deadlock.answer(own, assignment_text) == (run, 1), "its run is the deadlocking run of the reading")
+        demand(replay.answer(declaration_text, assignment_text, printed) == (b"deadlock\n", 1), "what is printed deadlocks")
+        look_at_deadlocking_run(own, assignment_text, run)
+    elif status == 1:
         look_at_deadlocking_run(declaration_text, assignment_text, printed)
 
 
@@ -556,7 +657,7 @@ def look_at_changed_wqs(text, wqs, bare, answer):
             demand(deadlock.answer(text, wqs_text(wqs + [[]], bare | more)) == answer,
                    "an empty workqueue behind all others means nothing")
         printed, status = deadlock.answer(text, wqs_text([[]] + wqs, shifted(bare)))
-        lines = [re.sub(rb"(?<= )[0-9]+(?= )", lambda word: b"%d" % (int(word[0]) - 1), line)
+        lines = [line if line.startswith(b"flush") else re.sub(rb"(?<= )[0-9]+(?= )", lambda word: b"%d" % (int(word[0]) - 1), line)
                  for line in printed.splitlines()]
         demand((joined(lines), status) == answer, "one before them moves their numbers alone")
     turned = {len(wqs) - 1 - number for number in bare}
@@ -581,7 +682,7 @@ def look_at_bare(declared, wqs, assignment, answer):
     for other in bare | empty, bare - empty:
         demand(deadlock.answer(whole, wqs_text(wqs, other)) == answer,
                "whether an empty workqueue has a rescuer means nothing")
-    of_rescuers = [place for place in every if assignment.workqueue_of[declared.flushes[place][0]] not in bare]
+    of_rescuers = [place for place in every if assignment.workqueue_of[declared.flushes[place][0]] not in bare or declared.is_unsure(place)]
     if bare:
         demand(deadlock.answer(text_declaring(declared, of_rescuers), wqs_text(wqs, bare)) == answer,
                "what a workqueue without a rescuer waits for doesn't matter")
@@ -623,7 +724,7 @@ def second_runs(declared, assignment):
     """All runs of a circular wait in which no item waits twice, and all of a flush that leads to no rescuer, as the lines of run texts,
     each with the places of its flushes.
     """
-    flushes = [(*declared.flush_line(place).split(b" "), place) for place in range(len(declared.flushes))]
+    flushes = [(*declared.flush_line(place).replace(b"?", b"").split(b" "), place) for place in range(len(declared.flushes))]
     of, bare = assignment.workqueue_of, assignment.bare
     runs = []
 
@@ -661,6 +762,16 @@ def look_at_hang(declaration_text, assignment_text):
         return
     declared = read_declaration(declaration_text)
     assignment = certificate.read_assignment(assignment_text, declared)
+    found = look_at_unsure("hang", [declaration_text, assignment_text], printed, status)
+    if found:
+        own, run = found
+        look_at_unsure_run(declared, assignment, printed)
+        end = replay.answer(declaration_text, assignment_text, printed)
+        demand(end == replay.answer(own, assignment_text, run) and end[0] in (b"stuck\n", b"deadlock\n"), "it ends stuck in its reading")
+        demand(replay.answer(declaration_text, assignment_text, run)[1] == 1, "and with all flushes")
+        demand(hang.answer(own, assignment_text)[0].splitlines()[0] == run.splitlines()[0], "it is a shortest one of its reading")
+        look_at_hang(own, assignment_text)
+        return
     demand(good("run", printed, declared), "what is printed is a run text")
     lines = printed.splitlines()
     fewest = len(lines) - 1
@@ -700,6 +811,28 @@ def look_at_hang(declaration_text, assignment_text):
             demand(hang.wrong_with(declared, assignment, fewest, changed) is not None, "the last steps have their order")
 
 
+def cost(declared, run, places):
+    """How many unsure flushes there are, and how many steps."""
+    return sum(map(declared.is_unsure, places)), len(run)
+
+
+def look_at_unsure_run(declared, assignment, printed):
+    """Of all walks none has fewer unsure flushes, nor as few and fewer steps."""
+    if len(declared.items) > LISTED_ITEMS or len(declared.flushes) > LISTED_FLUSHES:
+        return
+    part, run = parted(printed)
+    runs = second_runs(declared, assignment)
+    least = min(cost(declared, *found) for found in runs)
+    demand(least == (len(part), len(run.splitlines()) - 1), "of all walks none has fewer unsure flushes, nor as few and fewer steps")
+    number = least[0] * 32_768 + least[1]
+    demand(hang.wrong_with(declared, assignment, number, printed) is None, "the model's own run may be printed")
+    kept = sorted(declared.flush_line(place) for place in declared.unsure())
+    for lines in [part[1:], part[::-1], part + part[:1], [line for line in kept if line not in part][:len(part)]]:
+        if lines != part:
+            other = joined([b"unsure %d" % len(lines), *lines]) + run
+            demand(hang.wrong_with(declared, assignment, number, other) is not None, "other lines are wrong, or have another order")
+
+
 # The reasons -------------------------------------------------------------------------------------
 
 FILES = [b"d.wq", b"a.assign", b"r.run"]
@@ -711,10 +844,12 @@ def right_reasons(command, declared, assignment):
     """Of each part of what is said the right reasons and the wrong ones, each as the places of its flushes."""
     to_none = [place for place, flush in enumerate(declared.flushes)
                if [assignment.workqueue_of[name] in assignment.bare for name in flush] == [False, True]]
-    found = [(len(run), places) for run, places in second_runs(declared, assignment) if not set(places) & set(to_none)]
+    to_none.sort(key=lambda place: (declared.is_unsure(place), place))
+    found = [(cost(declared, run, places), places) for run, places in second_runs(declared, assignment) if not set(places) & set(to_none)]
+    # Where a flush is unsure, the first one is.
+    found = [((cost[0], cost[1] + 0.5 * (cost[0] > 0 and not declared.is_unsure(places[0]))), places) for cost, places in found]
     if command != "circles":
-        is_of_one = any(steps == 3 for steps, _ in found)
-        if to_none and not is_of_one:
+        if to_none and (declared.is_unsure(to_none[0]), 4) <= min((cost for cost, _ in found), default=(9, 9)):
             return [([to_none[:1]], [places for _, places in found] + [[place] for place in to_none[1:]])]
         parts = [found]
     else:
@@ -726,8 +861,8 @@ def right_reasons(command, declared, assignment):
 
         numbers = sorted({lowest(places) for _, places in found})
         parts = [[round for round in found if lowest(round[1]) == number] for number in numbers]
-    fewest = [min((steps for steps, _ in part), default=0) for part in parts]
-    sorted_out = [([places for steps, places in part if steps == least], [places for steps, places in part if steps > least])
+    fewest = [min((cost for cost, _ in part), default=0) for part in parts]
+    sorted_out = [([places for cost, places in part if cost == least], [places for cost, places in part if cost > least])
                   for part, least in zip(parts, fewest)]
     return sorted_out + ([([to_none[:1]], [[place] for place in to_none[1:]])] if to_none and command == "circles" else [])
 
@@ -741,7 +876,8 @@ def look_at_reasons(command, texts):
     said = reasons.said_of(command, files, texts, printed)
     safe = unrescued.said_of(command, files, texts, printed)
     if not printed.startswith((b"no ", b"not lawful ")):
-        demand(fits(printed, safe + said, files, command), "what the model says on standard error has its form")
+        note = notes.said_of(command, files, texts, printed)
+        demand(fits(printed, said + note + safe, files, command), "what the model says on standard error has its form")
 
     def wrong(said):
         return reasons.wrong_with(command, files, texts, printed, said)
@@ -762,7 +898,9 @@ def look_at_reasons(command, texts):
     own = reasons.flushes_said(case, said)
     demand(case.printed(own) == said, "the flushes are read as they are said")
     if len(own[0]) > 2:
-        demand(wrong(case.printed([own[0][1:] + own[0][:1], *own[1:]])) is None, "the first wait may be any")
+        turned = own[0][1:] + own[0][:1]
+        may_be = declared.is_unsure(turned[0]) or not any(map(declared.is_unsure, turned))
+        demand((wrong(case.printed([turned, *own[1:]])) is None) == may_be, "the first wait may be any, or any unsure one")
         demand(wrong(said.replace(lines[3], lines[3].replace(b"and ", b"can hang: ", 1), 1)) is not None, "the others aren't the first")
         parted = lines[:3] + lines[6:9] + lines[3:6] + lines[9:]
         demand(wrong(b"".join(parted)) is not None, "waits have an order")
@@ -805,28 +943,30 @@ def second_circles(declared, assignment):
     reached = leads([(begin, end) for begin, end, _ in arcs if end not in assignment.bare], assignment.count)
     found = collections.defaultdict(list)  # by the lowest workqueue that leads there and back
     to_none = []
-    for begin, end, flush in arcs:
+    words = [b"arc? %s %s" if declared.is_unsure(place) else b"arc %s %s" for place in range(len(declared.flushes))]
+    lines_of = [(flush, word % flush) for flush, word in zip(declared.flushes, words) if assignment.workqueue_of[flush[0]] not in assignment.bare]
+    for (begin, end, _), (_, line) in zip(arcs, lines_of, strict=True):
         if end in assignment.bare:
-            to_none.append(flush)
+            to_none.append(line)
         elif reached[end] >> begin & 1:
             lowest = min(other for other in range(assignment.count)
                          if reached[begin] >> other & 1 and reached[other] >> begin & 1)
-            found[lowest].append(flush)
+            found[lowest].append(line)
     if not found and not to_none:
         return [b"safe"]
     lines = [b"components %d" % len(found)]
     for lowest in sorted(found):
         lines.append(b"component %d" % len(found[lowest]))
-        lines += [b"arc %s %s" % flush for flush in found[lowest]]
+        lines += found[lowest]
     if to_none:
         lines.append(b"norescuer %d" % len(to_none))
-        lines += [b"arc %s %s" % flush for flush in to_none]
+        lines += to_none
     return lines
 
 
 def printed_arcs(printed):
     """The arcs of an answer, each as the names of its item and of its target."""
-    return [tuple(line.split(b" ")[1:]) for line in printed.split(b"\n") if line.startswith(b"arc ")]
+    return [tuple(line.split(b" ")[1:]) for line in printed.split(b"\n") if line.startswith((b"arc ", b"arc? "))]
 
 
 def read_case(texts):
@@ -867,7 +1007,7 @@ def look_at_circles(*texts):
     others = printed_arcs(other) if len(texts) == 1 else deadlock.circle_of(declared, assignment)
     demand(status == 0 or set(others) <= set(arcs), "one circle is among all circles")
     if len(texts) == 2 and status == 1:
-        first = other.split(b"\n")[1].split(b" ")[1]
+        first = parted(other)[1].split(b"\n")[1].split(b" ")[1]
         demand(first in [item for item, _ in arcs], "the item that is queued first makes one of these flushes")
     demand(collections.Counter(arcs) <= collections.Counter(declared.flushes), "each arc is a flush")
 
@@ -921,7 +1061,7 @@ def look_at_dot(*texts):
         planned, _ = plan.answer(*texts)
         assignment = certificate.read_assignment(planned, declared)
         word, bold = "plan", printed_arcs(planned)
-    demand(drawing.title.split(" ")[0] == word, "TITLE says what plan or circles prints")
+    demand(drawing.title.split(" ")[0].rstrip(",") == word, "TITLE says what plan or circles prints")
     to_none = printed_arcs(circled.partition(b"\nnorescuer ")[2])
     told = re.search(", ([0-9]+) to no rescuer", drawing.title)
     demand(len(to_none) == (int(told[1]) if told else 0), "TITLE says how many lead to no rescuer")
@@ -937,9 +1077,11 @@ def look_at_dot(*texts):
     demand(sorted(names_of(drawing.coloured("bold"))) == sorted(bold), "the chain is bold")
     demand([arrow[3] for arrow in drawing.arrows] == [kind in FLUSHES_WHOLE for kind in declared.directive_of],
            "waits for a whole workqueue have their own heads")
+    demand(drawing.unsure == set(declared.unsure()), "unsure flushes are dotted")
     first = {}
-    for at, (item, target, colour, _) in enumerate(drawing.arrows):
-        demand(colour != "bold" or (item, target) not in first, "the flush of least place is bold")
+    for at in sorted(range(len(drawing.arrows)), key=lambda at: (at in drawing.unsure, at)):
+        item, target, colour, _ = drawing.arrows[at]
+        demand(colour != "bold" or (item, target) not in first, "the flush of least place is bold, a sure one if there is any")
         first.setdefault((item, target), at)
     again = text_declaring(declared, range(len(declared.flushes)))
     silent = re.sub(rb' \[edgetooltip="(?:[^"\\]|\\.)*"\];', b";", printed)

@@ -21,9 +21,11 @@ import os
 import re
 
 import dot
+import notes
 import programs
 import pytest
 import reasons
+import told_changes
 import unrescued
 from cases import COMMANDS, KINDS, WITHOUT, cases, kind_of
 from commands import TEXTS_OF
@@ -66,15 +68,18 @@ def wrong_beside(command, files, texts, found):
         return "standard error hasn't the form that belongs to this answer"
     if printed.startswith(b"refused ") and printed.split()[1] in HAS_FURTHER:
         return wrong_further(texts[0], errors)
-    if printed.startswith((b"refused ", b"not lawful ")) or errors == note(files[0]) or command == "repair":
+    if printed.startswith((b"refused ", b"not lawful ")) or errors == note(files[0]):
         return None
+    if command == "repair":
+        return told_changes.wrong_with(files, texts[:2], texts[2:], printed, errors)
     behind = errors.split(b"\n", reasons.BLOCK)[reasons.BLOCK] if printed.startswith(b"no ") else errors
     try:
-        safe = unrescued.said_of(command, files, texts, printed)
-        if safe:
-            return None if behind == safe else f"this belongs to `safe`: {safe!r}"
+        last = notes.said_of(command, files, texts, printed) + unrescued.said_of(command, files, texts, printed)
+        if not behind.endswith(last):
+            return f"this belongs behind all else: {last!r}"
+        behind = behind[:len(behind) - len(last)]
         wrong = reasons.wrong_with(command, files, texts, printed, behind)
-        if wrong is None and command == "hang" and printed.startswith(b"run ") and not reasons.is_of_run(files, texts, printed, behind):
+        if wrong is None and command == "hang" and printed.startswith((b"run ", b"unsure ")) and not reasons.is_of_run(files, texts, printed, behind):
             wrong = "the reason isn't that of the run"
         return wrong
     except Refused:
@@ -121,9 +126,9 @@ def questions(command, texts, printed):
                for number, members in enumerate(read_declaration(texts[0]).groups)]
         steps = printed[printed.index(b"\nrun ") + 1:]
         yield "replay", [texts[0], b"".join(own), steps], (b"deadlock\n", 1)
-    if command == "deadlock" and head.startswith(b"run "):
+    if command == "deadlock" and head.startswith((b"run ", b"unsure ")):
         yield "replay", [*texts, printed], (b"deadlock\n", 1)
-    if command == "hang" and head.startswith(b"run "):
+    if command == "hang" and head.startswith((b"run ", b"unsure ")):
         yield "replay", [*texts, printed], ANSWERS["replay"](*texts, printed)
         yield "dot", texts, (dot.text_with_waits_of(printed, *texts), 0)
     if command == "repair" and head.startswith((b"wq ", b"norescuer ")):
@@ -163,7 +168,7 @@ def differs(same, command, texts, wanted, found):
 
 # The rows of the reasons that must come.
 OF_GROUPS = [row for row in reasons.ROWS if row.startswith("group_")] + ["several parts"]
-REASONS_OF = {"plan": ["beside a circle of plan"], "circles": OF_GROUPS}
+REASONS_OF = {"plan": ["beside a circle of plan", "beside a circle of plan, unsure"], "circles": OF_GROUPS}
 REASONS_OF["deadlock"] = [row for row in reasons.ROWS if row not in REASONS_OF["plan"] + OF_GROUPS]
 
 
@@ -175,10 +180,12 @@ def test_each_command_has_cases():
 def test_program(compare, command, request):
     seed, count = request.config.getoption("--seed"), request.config.getoption("--cases") or CASES // FEWER.get(command, 1)
     came = collections.Counter()
-    for number, texts in enumerate(cases(command, seed, count)):
+    sure = request.config.getoption("--sure")
+    for number, texts in enumerate(cases(command, seed, count, sure=sure)):
         words = HELPERS[number % len(HELPERS)] if command == "run" else []
         came.update(of_smallest(compare, command, texts, words))
     wanted = [kind for kind, _, _ in KINDS[command]] + REASONS_OF.get(command, [])
+    wanted = [kind for kind in wanted if not (sure and "unsure" in kind)]
     never = [kind for kind in wanted if came[kind] == 0]
     assert not never or count < CASES // FEWER.get(command, 1), f"these never came: {never}; these did: {came}"
 

@@ -99,7 +99,7 @@ def waits_of(declared):
     """By item, the waits that it declares, in order of place: each the word of its step and its target."""
     waits = {item: [] for item in declared.items}
     for (item, target), directive in zip(declared.flushes, declared.directive_of):
-        waits[item].append((b"wait" if directive == b"flush" else b"waitwq", target))
+        waits[item].append((b"wait" if directive.rstrip(b"?") == b"flush" else b"waitwq", target))
     return waits
 
 

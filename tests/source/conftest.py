@@ -87,7 +87,7 @@ def wqsource():
 MODEL = """#!/bin/sh
 kept={folder}/$({{ echo "$1"; cat -- "$2"; echo; cat -- "$3"; }} | sha256sum | cut -c1-64)
 if [ ! -e "$kept" ]; then
-    {python} {root}/tests/model/circles.py "$@" >"$kept.half.$$"
+    {python} {root}/tests/model/$1.py "$@" >"$kept.half.$$"
     echo $? >"$kept.status.$$"
     mv -- "$kept.status.$$" "$kept.status"
     mv -- "$kept.half.$$" "$kept"
@@ -99,7 +99,7 @@ exit "$(cat -- "$kept.status")"
 
 @pytest.fixture(scope="session")
 def wqplan(tmp_path_factory):
-    """The program that is asked about circles: $WQPLAN if one is built; else the model, which is another program."""
+    """The program that is asked about circles and hangs: $WQPLAN if one is built; else the model, which is another program."""
     if not os.environ.get("WQPLAN"):
         folder = tmp_path_factory.mktemp("bin")
         path = folder / "wqplan"

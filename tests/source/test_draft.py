@@ -52,7 +52,7 @@ def test_item_and_flush_lines(wqsource, kernel):
         "#   queued by code that no item reaches, from ti_start",
         "",
     ]
-    assert "flush ti_second ti_first  # flush two_inits.c:10 ti_second: flush_work" in lines
+    assert "flush? ti_second ti_first  # flush two_inits.c:10 ti_second: flush_work" in lines
 
 
 def test_without_a_makefile_there_is_no_version(wqsource):
@@ -73,9 +73,62 @@ def test_what_a_draft_offers_decides_nothing(wqsource, tmp_path):
     kept.write_text("".join(line for line in draft.splitlines(True) if not line.startswith("?")))
     ran = wqsource("audit", "--decl", kept, "--tree", C_FILES)
     assert "left: pool.c:26, 27 pool_wait_work: prepare_to_wait(&p->wait)  [done]" in ran.out and ran.status == 1
-    kept.write_text(kept.read_text().replace("#flush pool_wait_work TARGET ", "flush pool_wait_work pool_give_work "))
+    text = kept.read_text().replace("#flush pool_wait_work TARGET ", "flush pool_wait_work pool_give_work ")
+    kept.write_text(re.sub(r"^flush\?", "flush", text, flags=re.M))
     ran = wqsource("audit", "--decl", kept, "--tree", C_FILES)
     assert "left: " not in ran.out and ran.status == 0
+
+
+def unsure_lines(text):
+    """The unsure lines, without their comments, in order."""
+    return [line.partition("#")[0].strip() for line in text.splitlines() if line.startswith(("flush?", "flushwq?"))]
+
+
+def test_each_candidate_is_an_unsure_line(wqsource):
+    """Of each item that reaches a site, and each that may end it: db_f and db_g cancel both, each maybe itself."""
+    out = wqsource("draft", "--tree", C_FILES, "doubts.c").out
+    assert not any(line.startswith(("?", "flush ", "flushwq ")) for line in out.splitlines())
+    site = re.search(r"^#\? cancel doubts\.c:107 .*\n(?:#.*\n)+((?:flush.*\n)+)## no wait: (.*)$", out, re.M)
+    assert site[1].splitlines() == [
+        f"flush? {item} db_f  # cancel doubts.c:107 {site[2].split()[1]}" for item in ("db_f", "db_g")
+    ]
+    assert "flushwq? db_b db_rescue" in unsure_lines(out)
+    assert out.endswith(f"# {out.count('item db_') - out.count('items db_')} items. {len(unsure_lines(out))} unsure lines, 0 lines to decide before.\n")
+
+
+def test_of_a_workqueue_one_item_stands_for_all(wqsource):
+    """What flushes a workqueue has one line, and not one for each item that is on it."""
+    out = wqsource("draft", "--tree", C_FILES, "many.c").out
+    assert [line for line in unsure_lines(out) if line.startswith("flushwq?")] == ["flushwq? mn_wait mn_red"]
+
+
+def test_what_is_not_known_as_an_item(wqsource, tmp_path):
+    """With --unknown a site without a candidate is a wait for an item on a workqueue without a rescuer."""
+    plain = wqsource("draft", "--tree", C_FILES, "disks.c").out
+    assert [line.split()[1] for line in plain.splitlines() if line.startswith("? ")] == ["other", "io"]
+    out = tmp_path / "out.assign"
+    said = wqsource("draft", "--unknown", "--assign", out, "--tree", C_FILES, "disks.c").out
+    assert not any(line.startswith("?") for line in said.splitlines())
+    assert "item unknown  # thread: what ends a wait and isn't known\n" in said
+    assert re.search(r"^norescuer \d+ unknown  # ", out.read_text(), re.M)
+    lines = [line for line in said.splitlines() if re.match(r"flush\? \w+ unknown  # done ", line)]
+    # (one line for all plain I/O of an item)
+    assert any("disks.c:17 dk_shut_down" in line for line in lines)
+    assert [line.count("disks.c:") for line in lines if line.endswith(": plain I/O")] == [4]
+    kept = tmp_path / "x.wq"
+    kept.write_text(said)
+    ran = wqsource("audit", "--decl", kept, "--tree", C_FILES)
+    assert "left:" not in ran.out and ran.status == 1
+    assert f"unsure: {len(unsure_lines(said))} lines are, from {kept}:" in " ".join(ran.out.split())
+
+
+def test_an_item_that_is_called_unknown(wqsource, tmp_path):
+    """What isn't known has another name then."""
+    text = (C_FILES / "disks.c").read_text().replace("dk_work", "unknown")
+    (tmp_path / "d.c").write_text(text)
+    said = wqsource("draft", "--unknown", "--tree", tmp_path, "d.c").out
+    assert "item unknown  # d" in said and "item unknown.0  # thread: " in said
+    assert "flush? unknown unknown.0  # " in said
 
 
 def test_functions_whose_callers_are_elsewhere(wqsource):
@@ -134,7 +187,7 @@ def test_lines_that_cannot_happen_are_questions(drafted, wqsource):
     }
     out = wqsource("draft", "--tree", C_FILES, "doubts.c").out
     lines = out.splitlines()
-    after = {line.split(": ")[1]: lines[at + 2] for at, line in enumerate(lines) if line.startswith("? ")}
+    after = {line.split(": ")[1]: lines[at + 2] for at, line in enumerate(lines) if line.startswith("#? ")}
     assert after == {
         "destroy_workqueue(set->rescue)": "#   not sure: the arguments of all calls exclude that it was made",
         "flush_work(&x->c_work)": "#   not sure: the arguments exclude it",
@@ -145,7 +198,7 @@ def test_lines_that_cannot_happen_are_questions(drafted, wqsource):
     }
     # (the shortest way is that of what it made itself)
     way = "from doubts.c:130 db_later, doubts.c:141 db_h"
-    assert f"flush db_h db_e  # flush doubts.c:125 db_destroy: flush_work, {way}\n" in out
+    assert f"flush? db_h db_e  # flush doubts.c:125 db_destroy: flush_work, {way}\n" in out
 
 
 def test_a_workqueue_that_one_call_makes(drafted):

@@ -21,6 +21,8 @@ def test_shown_draft(wqsource, tmp_path):
     words = re.search(r"\$ wqsource (draft --assign )draft\.assign( rdisk\.c) > draft\.wq", PAGE)
     drafted = wqsource(*words[1].split(), tmp_path / "draft.assign", *words[2].split(), cwd=RDISK).out.splitlines()
     assert drafted[line - 1].startswith("? ") and not any(text.startswith("?") for text in drafted[: line - 1])
+    unknown = wqsource(*words[1].split(), tmp_path / "draft.assign", "--unknown", *words[2].split(), cwd=RDISK).out
+    assert not any(text.startswith("?") for text in unknown.splitlines())
 
 
 def test_dismissed_as_shown(wqsource, tmp_path):
@@ -53,7 +55,7 @@ def test_modules_and_tables():
     modules = {path.stem for path in (ROOT / "source" / "csource").glob("*.py")} - {"__init__", "__main__"}
     rows = {name for row in re.findall(r"^\| (`\w+`.*?) \|", PAGE, re.M) for name in re.findall(r"`(\w+)`", row)}
     plumbing = {"command_line", "scan_options", "faults", "progress", "says", "places"}
-    assert modules - plumbing - rows == {"audit_text", "drift_text", "draft_text", "scan_text"}
+    assert modules - plumbing - rows == {"audit_text", "drift_text", "draft_text", "ask_text", "scan_text"}
     assert set(re.findall(r"^\| \[(\w+\.txt)\]", PAGE, re.M)) == {path.name for path in (ROOT / "source").glob("*.txt")}
 
 

@@ -40,8 +40,8 @@ def test_printed_draft(wqsource, tmp_path):
         "item rdisk_log",
         "item rdisk_reconnect",
         "item rdisk_receive",
-        "flush rdisk_send rdisk_log",
-        "flush rdisk_reconnect rdisk_send",
+        "flush? rdisk_send rdisk_log",
+        "flush? rdisk_reconnect rdisk_send",
     ]
     assert [line for line in lines if line.startswith("?")] == [
         "? other rdisk.c:18 rdisk_log: submit_bio_wait(rd->record)"

@@ -1,14 +1,14 @@
-//! The largest declaration of examples/, byte for byte that of examples/xfs.wq, and its workqueues, as
-//! tests/cli/examples.sh tests.
+//! The largest declaration of examples/, byte for byte that of examples/xfs.wq without its unsure lines, and its
+//! workqueues, as tests/cli/examples.sh tests.
 
-/// examples/xfs.wq.
+/// examples/xfs.wq, without the lines that begin with `flush?` or `flushwq?`.
 pub const LARGEST: &str = "\
 # XFS, and the kernel's writeback above it.
 # Sources: Linux 6.1.192, fs/xfs
 # README.md says what the first word of a comment means, and how a place is cited.
 #
-# Not declared: the waits of a transaction that finds no free block, not even in the reserve pool, at
-# xfs_trans.c:293 xfs_trans_alloc. xfs.nospace.wq has them.
+# Not sure (`flush?`): the waits of a transaction that finds no free block, not even in the reserve pool, at
+# xfs_trans.c:293 xfs_trans_alloc, and those of a file system that is being shut down. Few come there.
 # Not declared: xlog_cil_push_work waits for older pushes on its own workqueue (xfs_log_cil.c:940 xlog_cil_order_write,
 # xfs_log_cil.c:946 xlog_cil_order_write). It waits only for those that have started: an older push puts itself on the
 # list of these (xfs_log_cil.c:1260 xlog_cil_push_work), and makes the context of the next one only after that
@@ -134,6 +134,14 @@ flush xfs_btree_split_worker xfs_buf_ioend_work      # done xfs_buf.c:1611 xfs_b
 flush xlog_cil_push_work xlog_ioend_work             # done xfs_log.c:890 xlog_wait_on_iclog, \
     at xfs_log_cil.c:1359 xlog_cil_push_work, and xfs_log.c:2918 xlog_state_get_iclog_space
 
+# Not sure: a file system that has no free block. These transactions may use the reserve pool. Once that is used up, at
+# xfs_mount.c:1225 xfs_mod_freecounter, they flush all that could free a block, and try again.
+# Only in a file system that had no room to reserve blocks for its tree of free inodes \
+    when it was mounted (m_finobt_nores).
+# Not sure: a block of metadata that can't be written for good. The file system is shut down then, \
+    and before that, the log is
+# forced synchronously (xfs_buf.c:1260 xfs_buf_ioend_handle_error, xfs_fsops.c:540 xfs_do_force_shutdown).
+
 # Beside the source (source/README.md): the sites in reach that no line above cites. What a disk ends, \
     it ends in an interrupt.
 # files: fs/xfs/*.c fs/xfs/*.h fs/xfs/libxfs/*.c fs/xfs/libxfs/*.h fs/fs-writeback.c fs/inode.c fs/iomap/buffered-io.c
@@ -157,7 +165,7 @@ flush xlog_cil_push_work xlog_ioend_work             # done xfs_log.c:890 xlog_w
 # fs/iomap/direct-io.c:122 iomap_dio_complete. Whoever writes pages takes an ioend of a pool, at \
     fs/iomap/buffered-io.c:1488 iomap_alloc_ioend:
 # xfs_end_io gives it back when it says that the pages are written, else an interrupt does; the lines have that wait.
-# no wait: xfs_trans.c xfs_trans_alloc xfs_blockgc_flush_all(mp): where no free block is left: xfs.nospace.wq has it
+# no wait: xfs_trans.c xfs_trans_alloc xfs_blockgc_flush_all(mp): where no free block is left: the unsure lines have it
 # no wait: xfs_trans.c xfs_trans_alloc_inode xfs_blockgc_free_quota(ip): a forced reservation meets no limit, \
     and what comes here forces it (xfs_iomap.c:582 xfs_iomap_write_unwritten)
 # no wait: fs-writeback.c inode_sleep_on_writeback prepare_to_wait(wqh): whoever writes the inode has started

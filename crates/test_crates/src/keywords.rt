@@ -13,6 +13,8 @@ fn a_keyword_is_compared_byte_by_byte(rt: HostRuntime) -> Result<(), Fail> {
         (b"item".as_slice(), Some(Keyword::Item)),
         (b"flush", Some(Keyword::Flush)),
         (b"flushwq", Some(Keyword::FlushWq)),
+        (b"flush?", Some(Keyword::FlushUnsure)),
+        (b"flushwq?", Some(Keyword::FlushWqUnsure)),
         (b"ordered", Some(Keyword::Ordered)),
         (b"", None),
         (b"ite", None),

@@ -1,10 +1,9 @@
 -- Forms: a number by its one spelling, and names one after the other.
-use Rattle.std.proofs.Common.{◌≡◌, ℕ, List, [], ◌∷◌, ◌++◌, Option, Some, None, refl, sym, ap, ◌∙◌, append_assoc, append-nil}
+use Rattle.std.proofs.Common.{◌≡◌, ℕ, List, [], ◌∷◌, ◌++◌, Option, Some, None, refl, sym, ap, append_assoc}
 use Rattle.std.specs.Prelude.{IfSome, IfNone, option_map}
 use Rattle.std.specs.Option.{option_zip}
 use Rattle.wq_text.specs.Numbers.{Spells}
 use Rattle.wq_text.specs.Words.{WordView}
-use Rattle.wq_items.specs.Table.{item_named}
 use Rattle.wq_cert.specs.Lines.{bytes_of}
 use Rattle.wq_cert.specs.Forms.{number_of, items_of}
 use Rattle.wq_cert.proofs.SpelledNumbers.{Spells-number_of, number_of-Spells}

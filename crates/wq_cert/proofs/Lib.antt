@@ -40,3 +40,7 @@ pub mod GrowthLemmas
 pub mod SaidLines
 pub mod LanesRead
 pub mod AllRescued
+pub mod FirstFound
+pub mod PrintedParts
+pub mod ReadParts
+pub mod PartsReadBack

@@ -1,5 +1,7 @@
 -- What is read is in range.
-use Rattle.std.proofs.Common.{◌≡◌, ℕ, suc, ◌+◌, ◌≤◌, ◌⊎◌, inl, inr, Bool, true, false, cond, eqb, List, [], ◌∷◌, length, map, Option, Some, None, Result, Ok, refl, sym, ap, subst, arith, length-append}
+use Rattle.std.proofs.Common.{◌≡◌, ℕ, zero, suc, ◌+◌, ◌≤◌, ◌⊎◌, inl, inr, Bool, true, false, cond, eqb, List, [], ◌∷◌}
+use Rattle.std.proofs.Common.{◌++◌, length, map, Option, Some, None, Result, Ok, refl, sym, ap, subst, arith}
+use Rattle.std.proofs.Common.{length-append}
 use Rattle.std.specs.Prelude.{codes, filter}
 use Rattle.std.proofs.lemmas.List.{length-map}
 use Rattle.wq_text.specs.declared.text.TextError.{TextError}
@@ -14,15 +16,19 @@ use Rattle.wq_cert.specs.declared.fault.CertError.{CertError}
 use Rattle.wq_cert.specs.Certificate.{PlanCertificate, CircleCertificate, Certificate, OfPlan, OfCircle}
 use Rattle.wq_cert.specs.Lines.{CertLine, holds_word, cert_line, cert_lines}
 use Rattle.wq_cert.specs.Forms.{begins_with}
+use Rattle.wq_cert.specs.Part.{begins_unsure, made_of, made_reading, next_unsure, part_reading, unsure_count_reading}
+use Rattle.wq_cert.specs.Part.{unsure_reading}
 use Rattle.wq_cert.specs.PlanText.{arc_line}
 use Rattle.wq_cert.specs.RunText.{step_line}
 use Rattle.wq_cert.specs.Ranges.{IsRunOf, IsPlanOf, IsCircleOf, IsCertificateOf}
+use Rattle.wq_items.specs.declared.target.Target.{Target}
 use Rattle.wq_items.specs.Building.{and_then}
-use Rattle.wq_cert.specs.Reading.{plan_reading, circle_reading, run_reading, workqueues_reading, answer_reading, assignment_reading, assignment_of}
+use Rattle.wq_cert.specs.Reading.{Read, and_read, next_line, plan_reading, circle_reading, run_reading}
+use Rattle.wq_cert.specs.Reading.{workqueues_reading, answer_reading, assignment_reading, assignment_of}
 use Rattle.wq_cert.specs.Spelled.{words_of_lines, AreWorkqueues, SpellsPlan, SpellsRun, SpellsRunAfter, SpellsCircle}
 use Rattle.wq_cert.specs.Texts.{max_certificate, max_certificate_line, unless_too_long, text_reading, answer_of, assignment_of_text, run_of}
 use Rattle.wq_cert.proofs.ListLemmas.{length-filter-le}
-use Rattle.wq_cert.proofs.SpelledLines.{Follows-and_then, same_ok}
+use Rattle.wq_cert.proofs.SpelledLines.{Follows-and_then, FollowsRead-and_read, same_ok}
 use Rattle.wq_cert.proofs.SpelledTexts.{SpellsRun-run_reading, SpellsCircle-circle_reading, SpellsWorkqueues-workqueues_reading, SpellsPlan-plan_reading}
 use Rattle.wq_cert.proofs.WorkqueueLanes.{IsAssignmentOf-workqueues}
 
@@ -184,3 +190,77 @@ IsRunOf-run_of names text steps e =
     let found = IsReadSo-text_reading (run_reading names) text steps e in
     let lines = cert_lines (lines_of text) in
     IsRunOf-spelled names (words_of_lines lines) steps (omega (arith, few_lines text found.within, length-words_of_lines lines)) (SpellsRun-run_reading names lines steps found.is_read)
+
+-- ---- runs that may have an unsure part
+
+length-after_line : (read : CertLine → Result ℕ CertError) (lines : List CertLine) (v : ℕ) (rest : List CertLine)
+    → next_line read lines ≡ Ok (v, rest) → length rest ≤ length lines
+length-after_line read [] v rest e = absurd cc
+length-after_line read (line ∷ lines) v rest e =
+    let next : ℕ → Read ℕ = λ u. Ok (u, lines) in
+    let found = Follows-and_then next (read line) (v, rest) e in
+    let same : (found.value, lines) ≡ (v, rest) = same_ok (found.value, lines) (v, rest) found.then in
+    let behind : lines ≡ rest = ap (λ (p : ℕ × List CertLine). p.1) same in
+    omega (arith, ap (λ (ls : List CertLine). length ls) behind)
+
+length-after_unsure : (names : List (List ℕ)) (waits : List (List Target)) (n : ℕ) (taken : List ℕ)
+    (lines : List CertLine) (kept : List ℕ) (rest : List CertLine)
+    → next_unsure names waits n taken lines ≡ Ok (kept, rest) → length rest ≤ length lines
+length-after_unsure names waits zero taken lines kept rest e =
+    let same : (taken, lines) ≡ (kept, rest) = same_ok (taken, lines) (kept, rest) e in
+    let behind : lines ≡ rest = ap (λ (p : List ℕ × List CertLine). p.1) same in
+    omega (arith, ap (λ (ls : List CertLine). length ls) behind)
+length-after_unsure names waits (suc n) taken lines kept rest e =
+    let next : ℕ → List CertLine → Read (List ℕ) =
+    λ place behind. next_unsure names waits n (taken ++ (place ∷ [])) behind in
+    let first = FollowsRead-and_read next (next_line (unsure_reading names waits taken) lines) (kept, rest) e in
+    let fewer : length first.rest ≤ length lines =
+    length-after_line (unsure_reading names waits taken) lines first.value first.rest first.first in
+    let more : length rest ≤ length first.rest =
+    length-after_unsure names waits n (taken ++ (first.value ∷ [])) first.rest kept rest first.then in
+    omega arith
+
+module _ (names : List (List ℕ)) (waits : List (List Target)) (lines : List CertLine) (kept : Option (List ℕ))
+    (steps : List Step) (few : length lines ≤ 8388608) where
+  run_is : (rest : List CertLine) → length rest ≤ 8388608 → (found : List Step) → run_reading names rest ≡ Ok found
+      → found ≡ steps → IsRunOf (length names) steps
+  run_is rest less found is same =
+      subst (IsRunOf (length names)) same
+      (IsRunOf-spelled names (words_of_lines rest) found (omega (arith, less, length-words_of_lines rest))
+      (SpellsRun-run_reading names rest found is))
+
+  IsRunOf-made : (b : Bool)
+      → cond b (part_reading names waits lines)
+      (and_then (λ (made : List Step). Ok (None, made)) (run_reading names lines)) ≡ Ok (kept, steps)
+      → IsRunOf (length names) steps
+  IsRunOf-made false e =
+      let without : List Step → Result (Option (List ℕ) × List Step) CertError = λ made. Ok (None, made) in
+      let found = Follows-and_then without (run_reading names lines) (kept, steps) e in
+      let same : (None, found.value) ≡ (kept, steps) = same_ok (None, found.value) (kept, steps) found.then in
+      run_is lines few found.value found.first (ap (λ (p : Option (List ℕ) × List Step). p.1) same)
+  IsRunOf-made true e =
+      let last : List ℕ → List Step → Result (Option (List ℕ) × List Step) CertError =
+      λ kept made. Ok (Some kept, made) in
+      let after : List ℕ → List CertLine → Result (Option (List ℕ) × List Step) CertError =
+      λ kept rest. and_then (last kept) (run_reading names rest) in
+      let behind : ℕ → List CertLine → Result (Option (List ℕ) × List Step) CertError =
+      λ n ls. and_read after (next_unsure names waits n [] ls) in
+      let count = FollowsRead-and_read behind (next_line unsure_count_reading lines) (kept, steps) e in
+      let places = FollowsRead-and_read after (next_unsure names waits count.value [] count.rest) (kept, steps)
+      count.then in
+      let found = Follows-and_then (last places.value) (run_reading names places.rest) (kept, steps) places.then in
+      let same : (Some places.value, found.value) ≡ (kept, steps) =
+      same_ok (Some places.value, found.value) (kept, steps) found.then in
+      let one : length count.rest ≤ length lines =
+      length-after_line unsure_count_reading lines count.value count.rest count.first in
+      let other : length places.rest ≤ length count.rest =
+      length-after_unsure names waits count.value [] count.rest places.value places.rest places.first in
+      run_is places.rest (omega (arith, one, other, few)) found.value found.first
+      (ap (λ (p : Option (List ℕ) × List Step). p.1) same)
+
+pub IsRunOf-made_of : (names : List (List ℕ)) (waits : List (List Target)) (text : List ℕ) (kept : Option (List ℕ))
+    (steps : List Step) → made_of names waits text ≡ Ok (kept, steps) → IsRunOf (length names) steps
+IsRunOf-made_of names waits text kept steps e =
+    let found = IsReadSo-text_reading (made_reading names waits) text (kept, steps) e in
+    let lines : List CertLine = cert_lines (lines_of text) in
+    IsRunOf-made names waits lines kept steps (few_lines text found.within) (begins_unsure lines) found.is_read

@@ -9,16 +9,18 @@ use Rattle.std.proofs.lemmas.List.Folds.{flat_map-map}
 use Rattle.std.proofs.lemmas.List.Concat.{flat_map-append}
 use Rattle.std.proofs.lemmas.List.Elements.{All-head, All-tail}
 use Rattle.std.proofs.lemmas.List.FromFn.{length-range_with_len}
-use Rattle.std.specs.List.{All, AllByRecursion, range_with_len}
+use Rattle.std.specs.List.{All, AllByRecursion, range_with_len, cons_option}
 use Rattle.std.specs.Option.{option_map_or}
-use Rattle.std.specs.Prelude.{IsTrue, codes, decimal, filter, flat_map}
+use Rattle.std.specs.Prelude.{IsTrue, codes, decimal, filter, filter_map, flat_map}
 use Rattle.wq_items.specs.Names.{is_name}
 use Rattle.wq_core.specs.declared.step.Step.{Step}
 use Rattle.wq_core.specs.declared.step.Step.TheVariants.{Queue, Cancel, Start, Wait, Over, WaitAll, OverAll, Finish, Help}
 use Rattle.wq_text.specs.LineText.{spaced, line_text}
+use Rattle.wq_items.specs.declared.target.Target.{Target}
 use Rattle.wq_items.specs.Table.{items_at}
 use Rattle.wq_cert.specs.PlanText.{name_of, plan_line, wq_line, chain_line, arc_line, plan_text}
 use Rattle.wq_cert.specs.CircleText.{circle_line, circle_text}
+use Rattle.wq_cert.specs.Part.{has_unsure, part_lines, part_text, reading_text, unsure_at, unsure_line, unsure_word}
 use Rattle.wq_cert.specs.Ranges.{IsStepOf}
 use Rattle.wq_cert.specs.Reading.{names_far_lane}
 use Rattle.wq_cert.specs.RunText.{run_line, step_line, run_lines, run_text}
@@ -111,6 +113,19 @@ cond-most : (b : Bool) (n m : ℕ) → n ≤ m → cond b 0 n ≤ m
 cond-most true n m le = omega arith
 cond-most false n m le = le
 
+length-unsure_word : (b : Bool) → length (unsure_word b) ≤ 8
+length-unsure_word true = omega arith
+length-unsure_word false = omega arith
+
+length-filter_map-le : {X Y : Type 0} (h : X → Option Y) (xs : List X) → length (filter_map h xs) ≤ length xs
+length-filter_map-le h [] = omega arith
+length-filter_map-le {X} {Y} h (x ∷ xs) = chosen (h x) (length-filter_map-le h xs)
+  where
+    chosen : (o : Option Y) → length (filter_map h xs) ≤ length xs
+        → length (cons_option o (filter_map h xs)) ≤ suc (length xs)
+    chosen None few = omega arith
+    chosen (Some y) few = omega arith
+
 module _ (names : List (List ℕ)) (named : All (λ (name : List ℕ). IsTrue (is_name name)) names) where
   length-plan_line : (k : ℕ) → k ≤ 4096 → length (line_text (plan_line k)) ≤ 10
   length-plan_line k few = omega (arith, length-line_text (codes "plan") (decimal k ∷ []), length-spaced (decimal k) [], few_digits k (omega arith))
@@ -181,6 +196,60 @@ module _ (names : List (List ℕ)) (named : All (λ (name : List ℕ). IsTrue (i
 
   pub length-run_text : (steps : List Step) → All (IsStepOf (length names)) steps → length steps ≤ 65536 → length (run_text names steps) ≤ 8388608
   length-run_text steps each few = omega (arith, length-run_text-le steps each few)
+
+  length-unsure_line : (f : ℕ × Target) → length (line_text (unsure_line names f)) ≤ 138
+  length-unsure_line f =
+      let a = name_of names f.0 in
+      let b = name_of names f.1.item in
+      let word = unsure_word f.1.whole in
+      omega (
+        arith,
+        length-line_text word (a ∷ b ∷ []),
+        length-spaced a (b ∷ []),
+        length-spaced b [],
+        name_of-most
+            names named f.0,
+        name_of-most names named f.1.item,
+        length-unsure_word f.1.whole,
+      )
+
+  length-part : (waits : List (List Target)) (kept : List ℕ) → length kept ≤ 16384
+      → length (flat_map line_text (part_lines names waits kept)) ≤ 3000000
+  length-part waits kept few =
+      let there = filter_map (unsure_at waits) kept in
+      let lines : length (flat_map line_text (map (unsure_line names) there)) ≤ 138 * length there =
+      rw (flat_map-map line_text (unsure_line names) there)
+      (length-flat_map-most (λ f. line_text (unsure_line names f)) 138 length-unsure_line there) in
+      omega (
+        arith,
+        lines,
+        length-filter_map-le (unsure_at waits) kept,
+        length-append (line_text (codes "unsure" ∷ decimal (length kept) ∷ []))
+            (flat_map line_text (map (unsure_line names) there)),
+        length-line_text (codes "unsure") (decimal (length kept) ∷ []),
+        length-spaced (decimal (length kept)) [],
+        length-decimal-le 5 (length kept) (omega arith) (omega arith) (omega arith),
+      )
+
+  length-part_text : (waits : List (List Target)) (kept : List ℕ) → length kept ≤ 16384
+      → length (part_text names waits kept) ≤ 3000000
+  length-part_text waits kept few = chosen (has_unsure waits)
+    where
+      chosen : (b : Bool) → length (cond b (flat_map line_text (part_lines names waits kept)) []) ≤ 3000000
+      chosen true = length-part waits kept few
+      chosen false = omega arith
+
+  pub length-reading_text : (waits : List (List Target)) (kept : List ℕ) (steps : List Step)
+      → All (IsStepOf (length names)) steps → length kept ≤ 16384 → length steps ≤ 65536
+      → length (reading_text names waits kept steps) ≤ 8388608
+  length-reading_text waits kept steps each places few =
+      omega (
+        arith,
+        length-append (part_text names waits kept) (run_text names steps),
+        length-part_text waits kept
+            places,
+        length-run_text-le steps each few,
+      )
 
   pub length-circle_text : (arcs : List (ℕ × ℕ)) (steps : Option (List Step)) → length arcs ≤ 4096 → IfSome steps (All (IsStepOf (length names))) → IfSome steps (λ run. length run ≤ 65536)
       → length (circle_text names arcs steps) ≤ 8388608

@@ -11,6 +11,7 @@ pub mod Texts
 pub mod PlanText
 pub mod RunText
 pub mod CircleText
+pub mod Part
 pub mod Ranges
 pub mod Spelled
 pub mod FirstFaults

@@ -1,7 +1,7 @@
 -- Ranges: what is known about every certificate, assignment and run that is read. Items are counted by their names.
 use Rattle.std.specs.Prelude.{◌≡◌, ℕ, ◌-◌, ◌<◌, ◌≤◌, ◌⊎◌, false, List, [], length, Some}
 use Rattle.std.specs.List.{All}
-use Rattle.wq_groups.specs.Assignment.{Assignment, IsAssignmentOf}
+use Rattle.wq_groups.specs.Assignment.{IsAssignmentOf}
 use Rattle.wq_core.specs.Workqueues.{Workqueues}
 use Rattle.wq_core.specs.declared.step.Step.{Step}
 use Rattle.wq_core.specs.Runs.{IsHelp}

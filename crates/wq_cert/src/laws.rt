@@ -11,6 +11,7 @@ ghost use Rattle.wq_text.specs.Lines.{LineView, lines_of};
 ghost use Rattle.wq_text.specs.Numbers.{Spells};
 ghost use Rattle.wq_items.specs.Building.{and_then};
 ghost use Rattle.wq_items.specs.Table.{Table, IsTable};
+ghost use Rattle.wq_items.specs.declared.target.Target.{Target};
 ghost use Rattle.wq_groups.specs.Partition.{Partition, IsPartition};
 ghost use Rattle.wq_groups.specs.Assignment.{Assignment, IsAssignment, item_lane, item_lanes, IsAssignmentOf};
 ghost use Rattle.wq_core.specs.Workqueues.{Workqueues};
@@ -18,6 +19,7 @@ ghost use Rattle.wq_core.specs.declared.step.Step.{Step};
 ghost use Rattle.wq_cert.specs.Certificate.{OfPlan, OfCircle, PlanCertificate, CircleCertificate, Certificate};
 ghost use Rattle.wq_cert.specs.CircleText.{circle_text};
 ghost use Rattle.wq_cert.specs.PlanText.{plan_line, plan_text};
+ghost use Rattle.wq_cert.specs.Part.{AreKeptPlaces, has_unsure, made_of, reading_text};
 ghost use Rattle.wq_cert.specs.RunText.{run_text};
 ghost use Rattle.wq_cert.specs.Texts.{max_certificate, max_certificate_line, answer_of, assignment_of_text};
 ghost use Rattle.wq_cert.specs.Texts.{workqueues_of_text, run_of};
@@ -46,6 +48,8 @@ pub fn what_is_read_is_in_range()
         length names ≡ length p.group_of → workqueues_of_text names p text ≡ Ok ws → AreWorkqueuesOf p.groups ws }
     ensures run { (names : List (List ℕ)) (text : List ℕ) (steps : List Step) → run_of names text ≡ Ok steps →
         IsRunOf (length names) steps }
+    ensures made { (names : List (List ℕ)) (waits : List (List Target)) (text : List ℕ) (kept : Option (List ℕ))
+        (steps : List Step) → made_of names waits text ≡ Ok (kept, steps) → IsRunOf (length names) steps }
 {}
 
 /// A text of workqueues in which no line begins with `norescuer` says what it says as the text of an assignment, or is
@@ -297,4 +301,24 @@ pub fn a_run_text_is_within_the_limits()
     ensures { (t : Table) (steps : List Step) → IsTable t → All (IsStepOf (length t.names)) steps →
         length steps ≤ 65536 →
         length (run_text t.names steps) ≤ max_certificate }
+{}
+
+/// The text of a run that isn't too long, read as one that may have an unsure part, says its steps. With an unsure
+/// part, which is printed where some flush is unsure, it says which of these are kept, too, if they are in order and of
+/// several that are declared in the same words the first ones.
+pub fn a_run_text_with_an_unsure_part_is_read_back()
+    ensures without { (t : Table) (steps : List Step) → IsTable t → All (IsStepOf (length t.names)) steps →
+        length (run_text t.names steps) ≤ max_certificate →
+        made_of t.names t.waits (run_text t.names steps) ≡ Ok (None, steps) }
+    ensures part { (t : Table) (kept : List ℕ) (steps : List Step) → IsTable t →
+        All (IsStepOf (length t.names)) steps → AreKeptPlaces t.waits kept → has_unsure t.waits ≡ true →
+        length (reading_text t.names t.waits kept steps) ≤ max_certificate →
+        made_of t.names t.waits (reading_text t.names t.waits kept steps) ≡ Ok (Some kept, steps) }
+{}
+
+/// Nor is the text of a run of up to 65,536 steps too long with such a part.
+pub fn a_run_text_with_an_unsure_part_is_within_the_limits()
+    ensures { (t : Table) (kept : List ℕ) (steps : List Step) → IsTable t → All (IsStepOf (length t.names)) steps →
+        AreKeptPlaces t.waits kept → length steps ≤ 65536 →
+        length (reading_text t.names t.waits kept steps) ≤ max_certificate }
 {}

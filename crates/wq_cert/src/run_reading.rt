@@ -86,7 +86,7 @@ pub(crate) fn read_run_after<A: Allocator + Copy>(
 }
 
 /// Reads the run on these lines.
-fn read_run_lines<A: Allocator + Copy>(
+pub(crate) fn read_run_lines<A: Allocator + Copy>(
     alloc: A,
     table: &ItemTable<'_, A>,
     mut lines: CertLines<'_>,

@@ -8,8 +8,8 @@ use Rattle.wq_voice.specs.Components.{AddsRounds}
 use Rattle.wq_voice.specs.Waits.{words_of}
 use Rattle.wq_voice.specs.declared.waits.Wording.TheVariants.{OfGroups}
 
--- a circular wait among the groups of this circle on these workqueues, such that no other one among them takes fewer
--- steps
+-- a circular wait among the groups of this circle on these workqueues, such that no other one among them has fewer
+-- unsure flushes, nor as many and fewer steps
 abbrev pub TellsCircleOn : List ℕ → Declared → Workqueues → List WaitArc → List ℕ → Type 0
 TellsCircleOn first s ws circle text =
     AddsRounds first (λ h. words_of OfGroups s ws [] h) s ws (circle ∷ []) [] text

@@ -11,7 +11,7 @@ use Rattle.wq_diagnosis.specs.Diagnosis.{shown_lines}
 use Rattle.wq_repair.specs.declared.answer.Answer.{Answer}
 use Rattle.wq_repair.specs.declared.answer.Answer.TheVariants as answer
 use Rattle.wq_repair_command.specs.declared.repairing.Repairing.{Repairing}
-use Rattle.wq_voice.specs.Note.{NotesBare}
+use Rattle.wq_voice.specs.Unsure.{NotesSafe}
 use Rattle.wq_voice.specs.Voice.{SaysFound}
 use Rattle.wq_changes.specs.Told.{TellsChanges}
 use Rattle.wq_changes.specs.Few.{TellsFew}
@@ -24,7 +24,7 @@ use Rattle.wq_changes.specs.Circles.{TellsCircle}
 -- too few may move, on which workqueues they hang; and where groups that need a rescuer wait in a circle, how they hang
 abbrev pub SaysAnswer : {A : Type 0} → List ℕ → List ℕ → List ℕ → Declared → Workqueues → Answer A → Option (List ℕ)
     → Type 0
-SaysAnswer first second lanes s old answer.Safe said = NotesBare first second lanes s old said
+SaysAnswer first second lanes s old answer.Safe said = NotesSafe first second lanes s old said
 SaysAnswer first second lanes s old (answer.Repaired new) said =
     (text : List ℕ) × (said ≡ Some text) × TellsChanges first second s (names_of lanes) old new text
 SaysAnswer first second lanes s old (answer.TooFewNames start steps) said =

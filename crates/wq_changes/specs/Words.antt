@@ -3,8 +3,10 @@ use Rattle.std.specs.Prelude.{ℕ, ◌-◌, nat_lt, if◌then◌else◌, List, d
 use Rattle.wq_items.specs.Table.{items_at}
 use Rattle.wq_core.specs.Workqueues.{Workqueues}
 use Rattle.wq_groups.specs.DeclaredGroups.{Declared}
-use Rattle.wq_names.specs.Messages.{a_new_one, if_it_stayed, is_given, moves, which_is_given, with_more, without_one}
+use Rattle.wq_names.specs.Messages.{a_new_one, if_it_stayed, if_it_stayed_if, is_given, moves, which_is_given}
+use Rattle.wq_names.specs.Messages.{with_more, without_one, without_one_if}
 use Rattle.wq_repair.specs.Changes.{lane_in}
+use Rattle.wq_voice.specs.Reasons.{Lead}
 use Rattle.wq_voice.specs.Words.{item_words, workqueue_words}
 use Rattle.wq_changes.specs.declared.change.Change.{Change}
 use Rattle.wq_changes.specs.declared.change.Change.TheVariants as change
@@ -38,6 +40,6 @@ change_words s names old new (change.Moved g) =
     moves (group_words s g) (workqueue_words names (lane_in old g)) (place_words names old (lane_in new g))
 
 -- before the waits by which workqueues hang without this change
-abbrev pub lead_of : Change → List ℕ
-lead_of (change.Given q) = without_one
-lead_of (change.Moved g) = if_it_stayed
+abbrev pub lead_of : Change → Lead
+lead_of (change.Given q) = (without_one, without_one_if)
+lead_of (change.Moved g) = (if_it_stayed, if_it_stayed_if)

@@ -11,7 +11,7 @@ use wq_diagnosis::{Source, put_line};
 use wq_names::messages;
 use wq_repair_command::assignment_text;
 use wq_text::put;
-use wq_voice::{FlushLines, Subject, Wording, of_subject};
+use wq_voice::{FlushLines, Lead, Subject, Wording, of_subject};
 
 /// That too few items may move.
 fn few_line<A: Allocator + Copy>(alloc: A, file: &str) -> Result<Vec<u8, A>, AllocError>
@@ -57,7 +57,7 @@ pub(crate) fn of_few<'a, A: Allocator + Copy>(
         names,
     };
     let lines = assignment_text(alloc, start, names)?;
-    let said = of_subject(alloc, &subject, messages::CAN_HANG)?;
+    let said = of_subject(alloc, &subject, &Lead::can_hang())?;
     let mut text = few_line(alloc, assignment.file)?;
     put(&mut text, &lines)?;
     put_said(&mut text, &said)?;

@@ -123,7 +123,7 @@ fn why<A: Allocator + Copy>(
         flushes: repair.flushes,
         names: repair.names,
     };
-    let said = of_subject(alloc, &subject, lead_of(change))?;
+    let said = of_subject(alloc, &subject, &lead_of(change))?;
     Ok(or_nothing(alloc, said))
 }
 

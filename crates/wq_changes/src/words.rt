@@ -16,7 +16,7 @@ use wq_core::{Assigned, Workqueues};
 use wq_groups::{Declaration, GroupId, LaneId};
 use wq_items::ItemId;
 use wq_names::messages;
-use wq_voice::{item_words, workqueue_words};
+use wq_voice::{Lead, item_words, workqueue_words};
 
 /// The first item of a group.
 pub(crate) fn first_item<A: Allocator + Copy>(
@@ -120,11 +120,11 @@ pub(crate) fn change_words<A: Allocator + Copy>(
 }
 
 /// What stands before the waits by which the workqueues hang without this change.
-pub(crate) fn lead_of(change: &Change) -> &'static [u8]
-    ensures { result.now ≡ lead_of change.now }
+pub(crate) fn lead_of(change: &Change) -> Lead
+    ensures { result ≡ lead_of change.now }
 {
     match change {
-        Change::Given(_) => messages::WITHOUT_ONE,
-        Change::Moved(_) => messages::IF_IT_STAYED,
+        Change::Given(_) => Lead::new(messages::WITHOUT_ONE, messages::WITHOUT_ONE_IF),
+        Change::Moved(_) => Lead::new(messages::IF_IT_STAYED, messages::IF_IT_STAYED_IF),
     }
 }

@@ -33,7 +33,7 @@ module _ (d : Declaration) (is : IsDeclaration d) (a : Assignment) where
 
   -- any target
   abbrev nothing : Target
-  nothing = record { item = 0; whole = false; place = 0 }
+  nothing = record { item = 0; whole = false; unsure = false; place = 0 }
 
   -- the target of item i at place k of its list falls
   abbrev falls_at : ℕ → ℕ → Type 0

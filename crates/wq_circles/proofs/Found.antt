@@ -43,7 +43,7 @@ FindsCircles-assigned s ws found Bad out h =
       components = components;
       some = subst (λ (l : List WaitArc). (components ≢ []) ⊎ (l ≢ [])) h.waits h.printed.0;
       are = h.components;
-      text = h.printed.1 ∙ ap (circles_text s.table.names components) h.waits;
+      text = h.printed.1 ∙ ap (circles_text s.table.names s.table.waits components) h.waits;
     }
 FindsCircles-assigned s ws found Refused out h = absurd h.printed
 

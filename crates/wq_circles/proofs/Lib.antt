@@ -1,3 +1,4 @@
+pub mod AtPlaces
 pub mod KeptLanes
 pub mod Leading
 pub mod Once
@@ -19,4 +20,5 @@ mod Printed
 pub mod Found
 pub mod ForBare
 mod FirstItems
+mod NoDifference
 mod AllRescued

@@ -18,7 +18,7 @@ pub record PrintsCircles (s : Declared) (a : Assignment) (out : List ℕ) : Type
   pub components : List (List WaitArc)
   pub some : components ≢ []
   pub are : AreComponents (declared_waits s) (all_rescued a) components
-  pub text : out ≡ components_text s.table.names components
+  pub text : out ≡ components_text s.table.names s.table.waits components
 
 -- the components of an assignment of a declaration's groups are printed, or `safe` if there is none
 abbrev pub CirclesAssignment : Declared → Assignment → End → List ℕ → Type 0

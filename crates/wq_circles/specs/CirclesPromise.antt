@@ -54,7 +54,7 @@ pub record PrintsFlushes (s : Declared) (ws : Workqueues) (out : List ℕ) : Typ
   pub waits : List WaitArc
   pub are : AreOnCircles (declared_waits s) ws components
   pub for_bare : AreForBare (declared_waits s) ws waits
-  pub text : out ≡ circles_text s.table.names components waits
+  pub text : out ≡ circles_text s.table.names s.table.waits components waits
 
 -- what is promised of workqueues, by how the command ends: `safe` is printed if no run ends stuck
 abbrev pub KeepsAssigned : Declared → Workqueues → End → List ℕ → Type 0

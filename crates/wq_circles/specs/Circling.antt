@@ -1,5 +1,6 @@
 -- The answer to a declaration and an assignment: the flushes that are on a circle.
 use Rattle.std.specs.Prelude.{◌≡◌, ◌≢◌, ◌⊎◌, Bool, false, true, ℕ, List, [], map, MatchResult}
+use Rattle.wq_items.specs.Table.{Table}
 use Rattle.wq_graph.specs.declared.arc.WaitArc.{WaitArc}
 use Rattle.wq_core.specs.Wiring.{own_lanes}
 use Rattle.wq_core.specs.Workqueues.{Workqueues, all_rescued}
@@ -26,7 +27,7 @@ pub record PrintsComponents (s : Declared) (ws : Workqueues) (out : List ℕ) : 
   pub components : List (List WaitArc)
   pub some : (components ≢ []) ⊎ (bare_waits (declared_waits s) ws ≢ [])
   pub are : AreComponents (declared_waits s) ws components
-  pub text : out ≡ circles_text s.table.names components (bare_waits (declared_waits s) ws)
+  pub text : out ≡ circles_text s.table.names s.table.waits components (bare_waits (declared_waits s) ws)
 
 -- the components of workqueues of a declaration's groups are printed, and the flushes that lead from one that has a
 -- rescuer to one that has none; or `safe` if there are none of either
@@ -59,11 +60,11 @@ OwnCircles declared end out =
 
 -- what is printed of these components and of these flushes to workqueues without a rescuer: `safe` if there are none of
 -- either
-abbrev pub PrintsCircling : List (List ℕ) → List (List WaitArc) → List WaitArc → End → List ℕ → Type 0
-PrintsCircling names components waits Good out = (components ≡ []) × (waits ≡ []) × (out ≡ safe_text)
-PrintsCircling names components waits Bad out =
-    ((components ≢ []) ⊎ (waits ≢ [])) × (out ≡ circles_text names components waits)
-PrintsCircling names components waits Refused out = ⊥
+abbrev pub PrintsCircling : Table → List (List WaitArc) → List WaitArc → End → List ℕ → Type 0
+PrintsCircling t components waits Good out = (components ≡ []) × (waits ≡ []) × (out ≡ safe_text)
+PrintsCircling t components waits Bad out =
+    ((components ≢ []) ⊎ (waits ≢ [])) × (out ≡ circles_text t.names t.waits components waits)
+PrintsCircling t components waits Refused out = ⊥
 
 -- these workqueues are found, with their components and the flushes that lead from one that has a rescuer to one that
 -- has none; and of these the answer is printed
@@ -74,7 +75,7 @@ pub record FindsCircles {A : Type 0} (s : Declared) (ws : Workqueues) (found : F
   pub workqueues : circling.workqueues ≡ ws
   pub components : AreComponents (declared_waits s) ws (map (λ l. l.items) circling.components.items)
   pub waits : circling.waits.items ≡ bare_waits (declared_waits s) ws
-  pub printed : PrintsCircling s.table.names (map (λ l. l.items) circling.components.items) circling.waits.items end out
+  pub printed : PrintsCircling s.table (map (λ l. l.items) circling.components.items) circling.waits.items end out
 
 -- the workqueues with this text
 abbrev pub CirclesText : {A : Type 0} → Declared → List ℕ → Found (Circling A) → End → List ℕ → Type 0

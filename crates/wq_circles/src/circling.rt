@@ -41,7 +41,7 @@ fn print_components<A: Allocator + Copy>(
     requires found { AreComponents (declared_waits assigned.now.declared) assigned.now.workqueues
         (map (λ l. l.items) components.now) }
     requires waits { waits.now ≡ bare_waits (declared_waits assigned.now.declared) assigned.now.workqueues }
-    ensures { IfOk result (λ printed. PrintsCircling assigned.now.declared.table.names
+    ensures { IfOk result (λ printed. PrintsCircling assigned.now.declared.table
         (map (λ l. l.items) components.now) waits.now printed.0 printed.1.items) }
 {
     if components.is_empty() && waits.is_empty() {

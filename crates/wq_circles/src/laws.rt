@@ -5,7 +5,7 @@
 //! of it which leads to which. The last two are about the lowest-numbered vertices of a wait graph.
 
 ghost use Rattle.std.specs.Prelude.{◌≡◌, ◌≤◌, ◌↔◌, Bool, ℕ, ◌<◌, List, length, slice_index, ◌≢◌, [], ◌∷◌, false, map};
-ghost use Rattle.std.specs.Prelude.{AllPairs, Contains};
+ghost use Rattle.std.specs.Prelude.{◌++◌, AllPairs, Contains, flat_map};
 ghost use Rattle.std.specs.List.{All, list_any};
 ghost use Rattle.std.specs.List.Sorted.{IsStrictlyIncreasing};
 ghost use Rattle.wq_text.specs.Lines.{lines_of};
@@ -18,6 +18,8 @@ ghost use Rattle.wq_core.specs.declared.step.Step.{Step};
 ghost use Rattle.wq_core.specs.Wiring.{RescuedWaits};
 ghost use Rattle.wq_core.specs.Workqueues.{Workqueues, wiring_of};
 ghost use Rattle.wq_core.specs.Deadlock.{IsSafe};
+ghost use Rattle.wq_core.specs.Readings.{reading};
+ghost use Rattle.wq_items.specs.Readings.{is_among};
 ghost use Rattle.wq_deadlock.specs.Judging.{AreFirst, IsHang, bare_waits};
 ghost use Rattle.wq_hang.specs.Walk.{IsRoundOn};
 ghost use Rattle.wq_hang.specs.declared.hop.Hop.{Hop};
@@ -95,6 +97,17 @@ pub fn no_component_is_safe()
         IsAssignment d.groups ws.assignment →
         ws.assignment.lanes ≤ 4096 → AreComponents d ws components →
         (((components ≡ []) × (bare_waits d ws ≡ [])) ↔ IsSafe (wiring_of d ws)) }
+{}
+
+/// An unsure flush that is in no component, and doesn't lead from a workqueue that has a rescuer to one that has none,
+/// makes no difference: of two readings that differ in it alone both are safe, or neither is.
+pub fn what_is_in_no_component_makes_no_difference()
+    ensures { (d : Declaration) (ws : Workqueues) (components : List (List WaitArc)) (place : ℕ) (kept : List ℕ) →
+        IsDeclaration d → IsAssignment d.groups ws.assignment → ws.assignment.lanes ≤ 4096 →
+        AreComponents d ws components →
+        is_among (map (λ (b : WaitArc). b.place) (flat_map (λ arcs. arcs) components ++ bare_waits d ws)) place ≡ false
+        →
+        (IsSafe (reading (wiring_of d ws) kept) ↔ IsSafe (reading (wiring_of d ws) (place ∷ kept))) }
 {}
 
 /// Workqueues have only one list of components.

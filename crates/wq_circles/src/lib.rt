@@ -19,8 +19,10 @@ mod lists;
 mod printing;
 mod progress;
 mod together;
+mod unsure;
 mod walk;
 
 pub use circles::CirclesCommand;
 pub use circling::Circling;
 pub use joining::components;
+pub use unsure::is_unsure;

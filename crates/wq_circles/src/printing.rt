@@ -1,19 +1,20 @@
 //! Components texts: how many components there are, and the arcs of each.
 //!
-//! The format is that of "The command `circles`" in docs/FORMAT.md. Printing takes
-//! time and memory in the length of the text.
+//! The format is that of "The command `circles`" in docs/FORMAT.md. Printing takes time and memory in the length of the
+//! text, and for each arc time in the logarithm of the number of its item's flushes.
 
 ghost use Rattle.std.specs.Prelude.{◌≡◌, ◌<◌, ◌++◌, ◌^◌, length, map, flat_map, IfOk, OnOk};
 ghost use Rattle.std.specs.List.{All};
 ghost use Rattle.wq_text.specs.LineText.{line_text};
 ghost use Rattle.wq_circles.specs.ComponentsText.{count_line, arcs_lines, bare_lines, components_text, circles_text};
-ghost use Rattle.wq_circles.specs.ComponentsText.{AreBetween};
+ghost use Rattle.wq_circles.specs.ComponentsText.{AreBetween, arc_words};
 
+use crate::unsure::is_unsure;
 use std::alloc::{AllocError, Allocator};
 use wq_cert::put_arc_line;
 use wq_graph::WaitArc;
 use wq_items::ItemTable;
-use wq_text::{put, put_end, put_number};
+use wq_text::{put, put_end, put_number, put_word};
 
 /// Adds a line of a word and a count, as `components N`.
 fn put_count_line<A: Allocator + Copy>(
@@ -29,6 +30,26 @@ fn put_count_line<A: Allocator + Copy>(
     put_end(out)
 }
 
+/// Adds the line of an arc: `arc`, or `arc?` if its flush is unsure, and its ends.
+fn put_arc<A: Allocator + Copy>(
+    out: &mut Vec<u8, A>,
+    table: &ItemTable<'_, A>,
+    arc: &WaitArc,
+) -> Result<(), AllocError>
+    requires src { arc.now.src < length table.now.names }
+    requires dst { arc.now.dst < length table.now.names }
+    ensures { OnOk result (out.new.items
+        ≡ out.old.items ++ line_text (arc_words table.now.names table.now.waits arc.now)) }
+{
+    if !is_unsure(table, *arc) {
+        return put_arc_line(out, table, (arc.src, arc.dst));
+    }
+    put(out, b"arc?")?;
+    put_word(out, table.name(arc.src))?;
+    put_word(out, table.name(arc.dst))?;
+    put_end(out)
+}
+
 /// Adds this word with the number of arcs, and the arcs.
 fn put_arcs<A: Allocator + Copy>(
     out: &mut Vec<u8, A>,
@@ -38,11 +59,11 @@ fn put_arcs<A: Allocator + Copy>(
 ) -> Result<(), AllocError>
     requires { AreBetween (length table.now.names) arcs.now }
     ensures { OnOk result (out.new.items
-        ≡ out.old.items ++ flat_map line_text (arcs_lines table.now.names word.now arcs.now)) }
+        ≡ out.old.items ++ flat_map line_text (arcs_lines table.now.names table.now.waits word.now arcs.now)) }
 {
     put_count_line(out, word, arcs.len())?;
     for arc in arcs {
-        put_arc_line(out, table, (arc.src, arc.dst))?;
+        put_arc(out, table, arc)?;
     }
     Ok(())
 }
@@ -58,7 +79,8 @@ fn components_text<A: Allocator + Copy>(
 ) -> Result<Vec<u8, A>, AllocError>
     requires few { length components.now < 2 ^ 32 }
     requires between { All (AreBetween (length table.now.names)) (map (λ l. l.items) components.now) }
-    ensures { IfOk result (λ text. text.items ≡ components_text table.now.names (map (λ l. l.items) components.now)) }
+    ensures { IfOk result (λ text. text.items
+        ≡ components_text table.now.names table.now.waits (map (λ l. l.items) components.now)) }
 {
     let mut out = Vec::new(alloc);
     put_count_line(&mut out, b"components", components.len())?;
@@ -75,7 +97,8 @@ fn put_bare<A: Allocator + Copy>(
     arcs: &[WaitArc],
 ) -> Result<(), AllocError>
     requires { AreBetween (length table.now.names) arcs.now }
-    ensures { OnOk result (out.new.items ≡ out.old.items ++ flat_map line_text (bare_lines table.now.names arcs.now)) }
+    ensures { OnOk result (out.new.items
+        ≡ out.old.items ++ flat_map line_text (bare_lines table.now.names table.now.waits arcs.now)) }
 {
     if arcs.is_empty() {
         return Ok(());
@@ -96,7 +119,7 @@ pub(crate) fn circles_text<A: Allocator + Copy>(
     requires between { All (AreBetween (length table.now.names)) (map (λ l. l.items) components.now) }
     requires waits { AreBetween (length table.now.names) waits.now }
     ensures { IfOk result (λ text. text.items
-        ≡ circles_text table.now.names (map (λ l. l.items) components.now) waits.now) }
+        ≡ circles_text table.now.names table.now.waits (map (λ l. l.items) components.now) waits.now) }
 {
     let mut out = components_text(alloc, table, components)?;
     put_bare(&mut out, table, waits)?;

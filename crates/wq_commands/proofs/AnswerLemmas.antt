@@ -51,7 +51,7 @@ use Rattle.wq_graph.specs.Graph.{IsArc, group_graph}
 use Rattle.wq_graph.proofs.Arcs.{src-below}
 use Rattle.wq_levels.specs.Walks.{IsWalkedCircle}
 use Rattle.wq_plan.specs.LongestChain.{IsLongestChain}
-use Rattle.wq_plan.specs.Plan.{IsPlan, chain_of}
+use Rattle.wq_plan.specs.Plan.{IsPlan, chain_of_plan}
 use Rattle.wq_plan.specs.Solve.{IsPlanned}
 use Rattle.wq_plan.proofs.LongestChain.{chain_of-longest}
 use Rattle.wq_plan.proofs.GroupCircles.{IsCircleOfGroups-walked}
@@ -153,20 +153,20 @@ printable s arcs ends sound few are is =
 
 -- so are the arcs of a plan's chain
 pub ArePrintable-plan : (s : Declared) (a : Assignment) → IsSound s → IsPlan (declared_waits s) a → ArePrintable s.table
-    (map ends_of (chain_of (group_graph (declared_waits s)) a.lane_of_group))
+    (map ends_of (chain_of_plan (declared_waits s) a.lane_of_group))
 ArePrintable-plan s a sound plan =
     let d = declared_waits s in
     let is = IsDeclaration-sound s sound in
-    let chain = chain_of (group_graph d) a.lane_of_group in
+    let chain = chain_of_plan d a.lane_of_group in
     let longest : IsLongestChain d a chain = chain_of-longest d is a plan in
     let few : a.lanes ≤ d.groups = IsPlan-lanes d is a plan in
     printable s chain (map ends_of chain) sound (omega (
       arith,
-      longest.count,
+      longest.down.count,
       few,
       is.partition.few_groups,
       is.partition.few_items,
-    )) (λ k x within. (longest.arcs k x within).declared) refl
+    )) (λ k x within. (longest.down.arcs k x within).declared) refl
 
 pub ArePrintable-planned : (s : Declared) (a : Assignment) (chain : List WaitArc) (ends : List (ℕ × ℕ)) → IsSound s →
     IsPlanned (declared_waits s) a chain

@@ -15,19 +15,23 @@ use Rattle.wq_text.specs.Limits.{limit_fault, first_long_line, text_refusal}
 use Rattle.wq_text.specs.Comments.{before_comment}
 use Rattle.wq_text.specs.Words.{WordView, words_of}
 use Rattle.wq_decl.specs.declared.directive.Directive.{Directive}
-use Rattle.wq_decl.specs.declared.directive.Directive.TheVariants.{Item, Flush, FlushWq, Ordered}
+use Rattle.wq_decl.specs.declared.directive.Directive.TheVariants.{Item, Flush, FlushWq, Unsure, Ordered}
 use Rattle.wq_decl.specs.declared.fault.DeclError.{DeclError}
 use Rattle.wq_decl.specs.declared.fault.DeclError.TheVariants.{BadByte, BadName}
 use Rattle.wq_decl.specs.declared.keyword.Keyword.{Keyword}
 use Rattle.wq_decl.specs.declared.keyword.Keyword.TheVariants as keyword
 use Rattle.wq_decl.specs.Names.{is_name, are_names}
 use Rattle.wq_decl.specs.Keywords.{keyword_of}
-use Rattle.wq_decl.specs.Reading.{is_text_byte, item_reading, flush_reading, flushwq_reading, ordered_reading, reading_after, words_reading, reading, fault_in, first_fault, directive_in, directives, decl_refusal}
+use Rattle.wq_decl.specs.Reading.{is_text_byte, item_reading, flush_reading, flushwq_reading, unsure_reading}
+use Rattle.wq_decl.specs.Reading.{ordered_reading, reading_after, words_reading, reading, fault_in, first_fault}
+use Rattle.wq_decl.specs.Reading.{directive_in, directives, decl_refusal}
 use Rattle.wq_decl.proofs.KeywordLemmas.{word_of, IsWordOf, IsWordOf-keyword_of}
 use Rattle.wq_items.specs.declared.fault.ItemError.{ItemError}
 use Rattle.wq_items.specs.declared.fault.ItemError.TheVariants.{ItemTwice, TooManyItems, TooManyFlushes}
 use Rattle.wq_items.specs.Table.{Table, item_named, max_items, max_flushes, flush_count}
-use Rattle.wq_items.specs.Building.{and_then, and_item, items_named, flushes_declared, items_ordered, with_item, with_flushes, declared, table_after, table_of, empty_table}
+use Rattle.wq_items.specs.Building.{of_item, of_workqueue, unsure_of, and_then, and_item, items_named}
+use Rattle.wq_items.specs.Building.{flushes_declared, items_ordered, with_item, with_flushes, declared, table_after}
+use Rattle.wq_items.specs.Building.{table_of, empty_table}
 use Rattle.wq_items.proofs.FoundNames.{position-agree}
 use Rattle.wq_groups.specs.Grouping.{has_twin, names_ordered, all_ordered, first_regrouped, are_together, first_member, first_members, group_number, partition_of}
 use Rattle.wq_groups.proofs.Among.{same_name, Differ-has_twin, has_twin-Differ}
@@ -69,11 +73,17 @@ limits_kept most most_line text =
 
 -- ---- lines
 
+-- the first word of a line with an unsure flush: of an item, or of a whole workqueue
+abbrev unsure_word : Bool → List ℕ
+unsure_word false = codes "flush?"
+unsure_word true = codes "flushwq?"
+
 -- a directive as words
 abbrev said : Directive → List (List ℕ)
 said (Item name) = codes "item" ∷ name.bytes ∷ []
 said (Flush name targets) = codes "flush" ∷ name.bytes ∷ bytes_of targets
 said (FlushWq name target) = codes "flushwq" ∷ name.bytes ∷ target.bytes ∷ []
+said (Unsure name target whole) = unsure_word whole ∷ name.bytes ∷ target.bytes ∷ []
 said (Ordered names) = codes "ordered" ∷ bytes_of names
 
 -- words are read as a directive that says them, or aren't one
@@ -110,6 +120,27 @@ flushwq_says n (name ∷ target ∷ []) =
 flushwq_says n (name ∷ target ∷ extra ∷ others) =
     ap (λ (b : Bool). b && list_all is_name (bytes_of (name ∷ target ∷ extra ∷ others))) (ne_eqb (length (bytes_of (name ∷ target ∷ extra ∷ others))) 2 (λ e. absurd (omega (arith, e))))
 
+unsure_says : (n : ℕ) (whole : Bool) (ws : List WordView)
+    → Says (unsure_reading n whole ws) (unsure_word whole ∷ bytes_of ws)
+unsure_says n false [] = refl
+unsure_says n true [] = refl
+unsure_says n false (name ∷ []) = refl
+unsure_says n true (name ∷ []) = refl
+unsure_says n false (name ∷ target ∷ []) =
+    let ws = name ∷ target ∷ [] in
+    cond_both (are_names ws) (Ok (Some (Unsure name target false))) (Err (BadName n))
+    (λ r. Says r (codes "flush?" ∷ bytes_of ws)) (λ yes. (refl, yes)) (λ no. no)
+unsure_says n true (name ∷ target ∷ []) =
+    let ws = name ∷ target ∷ [] in
+    cond_both (are_names ws) (Ok (Some (Unsure name target true))) (Err (BadName n))
+    (λ r. Says r (codes "flushwq?" ∷ bytes_of ws)) (λ yes. (refl, yes)) (λ no. no)
+unsure_says n false (name ∷ target ∷ extra ∷ others) =
+    ap (λ (b : Bool). b && list_all is_name (bytes_of (name ∷ target ∷ extra ∷ others)))
+    (ne_eqb (length (bytes_of (name ∷ target ∷ extra ∷ others))) 2 (λ e. absurd (omega (arith, e))))
+unsure_says n true (name ∷ target ∷ extra ∷ others) =
+    ap (λ (b : Bool). b && list_all is_name (bytes_of (name ∷ target ∷ extra ∷ others)))
+    (ne_eqb (length (bytes_of (name ∷ target ∷ extra ∷ others))) 2 (λ e. absurd (omega (arith, e))))
+
 ordered_says : (n : ℕ) (ws : List WordView) → Says (ordered_reading n ws) (codes "ordered" ∷ bytes_of ws)
 ordered_says n [] = refl
 ordered_says n (name ∷ rest) =
@@ -124,14 +155,20 @@ after_says None word n ws none =
     let no_item : bytes_eq word (codes "item") ≡ false = other keyword.Item in
     let no_flush : bytes_eq word (codes "flush") ≡ false = other keyword.Flush in
     let no_flushwq : bytes_eq word (codes "flushwq") ≡ false = other keyword.FlushWq in
+    let no_flush_unsure : bytes_eq word (codes "flush?") ≡ false = other keyword.FlushUnsure in
+    let no_flushwq_unsure : bytes_eq word (codes "flushwq?") ≡ false = other keyword.FlushWqUnsure in
     let no_ordered : bytes_eq word (codes "ordered") ≡ false = other keyword.Ordered in
-    rw (no_item, no_flush, no_flushwq, no_ordered) refl
+    rw (no_item, no_flush, no_flushwq, no_flush_unsure, no_flushwq_unsure, no_ordered) refl
   where
     other : (k : Keyword) → bytes_eq word (word_of k) ≡ false
     other k = false_from_ne_true (bytes_eq word (word_of k)) (λ e. none k (same_name word (word_of k) e))
 after_says (Some keyword.Item) word n ws is = subst (λ (w : List ℕ). Says (item_reading n ws) (w ∷ bytes_of ws)) (sym is) (item_says n ws)
 after_says (Some keyword.Flush) word n ws is = subst (λ (w : List ℕ). Says (flush_reading n ws) (w ∷ bytes_of ws)) (sym is) (flush_says n ws)
 after_says (Some keyword.FlushWq) word n ws is = subst (λ (w : List ℕ). Says (flushwq_reading n ws) (w ∷ bytes_of ws)) (sym is) (flushwq_says n ws)
+after_says (Some keyword.FlushUnsure) word n ws is =
+    subst (λ (w : List ℕ). Says (unsure_reading n false ws) (w ∷ bytes_of ws)) (sym is) (unsure_says n false ws)
+after_says (Some keyword.FlushWqUnsure) word n ws is =
+    subst (λ (w : List ℕ). Says (unsure_reading n true ws) (w ∷ bytes_of ws)) (sym is) (unsure_says n true ws)
 after_says (Some keyword.Ordered) word n ws is = subst (λ (w : List ℕ). Says (ordered_reading n ws) (w ∷ bytes_of ws)) (sym is) (ordered_says n ws)
 
 Says-words : (n : ℕ) (ws : List WordView) → Says (words_reading n ws) (bytes_of ws)
@@ -206,10 +243,14 @@ unless : (b : Bool) (e : ItemError) (t : Table) → Agrees (cond b (Err e) (Ok t
 unless true e t = refl
 unless false e t = refl
 
-flushes_agree : (t : Table) (n : ℕ) (whole b : Bool) (items : List ℕ) → Agrees (flushes_declared t n whole (cond b (Some items) None)) (cond (not b) None (add_flushes (items_of t) whole items))
-flushes_agree t n whole true [] = refl
-flushes_agree t n whole true (i ∷ items) = unless (nat_lt max_flushes (flush_count t.waits + length items)) (TooManyFlushes n) (with_flushes t whole i items)
-flushes_agree t n whole false items = refl
+flushes_agree : (t : Table) (n : ℕ) (whole unsure b : Bool) (items : List ℕ)
+    → Agrees (flushes_declared t n (record { whole = whole; unsure = unsure }) (cond b (Some items) None))
+    (cond (not b) None (add_flushes (items_of t) whole unsure items))
+flushes_agree t n whole unsure true [] = refl
+flushes_agree t n whole unsure true (i ∷ items) =
+    unless (nat_lt max_flushes (flush_count t.waits + length items)) (TooManyFlushes n)
+    (with_flushes t (record { whole = whole; unsure = unsure }) i items)
+flushes_agree t n whole unsure false items = refl
 
 line_agrees : (t : Table) (n : ℕ) (d : Directive) → Agrees (declared t n d) (after_line (items_of t) (said d))
 line_agrees t n (Item name) = here (is_item t.names name.bytes) (nat_le max_items (length t.names))
@@ -219,11 +260,25 @@ line_agrees t n (Item name) = here (is_item t.names name.bytes) (nat_le max_item
     here false true = refl
     here false false = refl
 line_agrees t n (Flush name targets) =
-    subst (λ (o : Option (List ℕ)). Agrees (flushes_declared t n false o) (after_line (items_of t) (said (Flush name targets)))) (sym (known t.names (name ∷ targets)))
-    (flushes_agree t n false (list_all (is_item t.names) (bytes_of (name ∷ targets))) (filter_map (item_named t.names) (bytes_of (name ∷ targets))))
+    subst (λ (o : Option (List ℕ)). Agrees (flushes_declared t n of_item o)
+    (after_line (items_of t) (said (Flush name targets)))) (sym (known t.names (name ∷ targets)))
+    (flushes_agree t n false false (list_all (is_item t.names) (bytes_of (name ∷ targets)))
+    (filter_map (item_named t.names) (bytes_of (name ∷ targets))))
 line_agrees t n (FlushWq name target) =
-    subst (λ (o : Option (List ℕ)). Agrees (flushes_declared t n true o) (after_line (items_of t) (said (FlushWq name target)))) (sym (known t.names (name ∷ target ∷ [])))
-    (flushes_agree t n true (list_all (is_item t.names) (bytes_of (name ∷ target ∷ []))) (filter_map (item_named t.names) (bytes_of (name ∷ target ∷ []))))
+    subst (λ (o : Option (List ℕ)). Agrees (flushes_declared t n of_workqueue o)
+    (after_line (items_of t) (said (FlushWq name target)))) (sym (known t.names (name ∷ target ∷ [])))
+    (flushes_agree t n true false (list_all (is_item t.names) (bytes_of (name ∷ target ∷ [])))
+    (filter_map (item_named t.names) (bytes_of (name ∷ target ∷ []))))
+line_agrees t n (Unsure name target false) =
+    subst (λ (o : Option (List ℕ)). Agrees (flushes_declared t n (unsure_of false) o)
+    (after_line (items_of t) (said (Unsure name target false)))) (sym (known t.names (name ∷ target ∷ [])))
+    (flushes_agree t n false true (list_all (is_item t.names) (bytes_of (name ∷ target ∷ [])))
+    (filter_map (item_named t.names) (bytes_of (name ∷ target ∷ []))))
+line_agrees t n (Unsure name target true) =
+    subst (λ (o : Option (List ℕ)). Agrees (flushes_declared t n (unsure_of true) o)
+    (after_line (items_of t) (said (Unsure name target true)))) (sym (known t.names (name ∷ target ∷ [])))
+    (flushes_agree t n true true (list_all (is_item t.names) (bytes_of (name ∷ target ∷ [])))
+    (filter_map (item_named t.names) (bytes_of (name ∷ target ∷ []))))
 line_agrees t n (Ordered names) =
     subst (λ (o : Option (List ℕ)). Agrees (items_ordered t n o) (after_line (items_of t) (said (Ordered names)))) (sym (known t.names names))
     (here (list_all (is_item t.names) (bytes_of names)) (filter_map (item_named t.names) (bytes_of names)))
@@ -255,6 +310,8 @@ ordered_on-said : (n : ℕ) (d : Directive) → ordered_on (said d) ≡ names_or
 ordered_on-said n (Item name) = refl
 ordered_on-said n (Flush name targets) = refl
 ordered_on-said n (FlushWq name target) = refl
+ordered_on-said n (Unsure name target false) = refl
+ordered_on-said n (Unsure name target true) = refl
 ordered_on-said n (Ordered names) = refl
 
 ordered_on-line : (line : List (List ℕ)) (d : ℕ × Directive) → line ≡ said d.1 → ordered_on line ≡ names_ordered d

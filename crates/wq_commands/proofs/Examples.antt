@@ -12,7 +12,7 @@ use Rattle.wq_groups.specs.Assignment.{Assignment, group_lane, item_lanes}
 use Rattle.wq_graph.specs.declared.arc.WaitArc.{WaitArc}
 use Rattle.wq_graph.specs.Graph.{HasArc, group_graph}
 use Rattle.wq_levels.specs.Walks.{Remains, IsWalkedCircle}
-use Rattle.wq_plan.specs.Plan.{chain_of}
+use Rattle.wq_plan.specs.Plan.{chain_of_plan}
 use Rattle.wq_core.specs.declared.entry.Entry.{Entry}
 use Rattle.wq_core.specs.declared.entry.Waiting.{Waiting}
 use Rattle.wq_core.specs.declared.entry.Running.{Running}
@@ -130,7 +130,7 @@ module _ (w : Wiring) (next : ℕ) (behind : List Entry) (t : Target) (declares 
 -- ---- an item that flushes itself, or its own workqueue
 
 abbrev own_target : Bool → Target
-own_target whole = record { item = 0; whole = whole; place = 0 }
+own_target whole = record { item = 0; whole = whole; unsure = false; place = 0 }
 
 abbrev self : Bool → Wiring
 self whole = record { waits = (own_target whole ∷ []) ∷ []; lane_of_item = 0 ∷ []; lanes = 1; ordered = false ∷ []; bare = []; helpers = 0 }
@@ -168,7 +168,15 @@ own_workqueue_flush = record { circle = arc_of_a ∷ []; walked = round arc_of_a
 -- ---- a flush within a group
 
 abbrev pair : Wiring
-pair = record { waits = (record { item = 1; whole = false; place = 0 } ∷ []) ∷ [] ∷ []; lane_of_item = 0 ∷ 0 ∷ []; lanes = 1; ordered = true ∷ []; bare = []; helpers = 0 }
+pair = record {
+  waits = (record { item = 1; whole = false; unsure = false; place = 0 } ∷ []) ∷ [] ∷ [];
+  lane_of_item =
+      0 ∷ 0 ∷ [];
+  lanes = 1;
+  ordered = true ∷ [];
+  bare = [];
+  helpers = 0;
+}
 
 abbrev run_of_pair : List Step
 run_of_pair = Queue 0 ∷ Queue 1 ∷ Start 0 0 ∷ Wait 0 1 ∷ []
@@ -176,7 +184,7 @@ run_of_pair = Queue 0 ∷ Queue 1 ∷ Start 0 0 ∷ Wait 0 1 ∷ []
 hangs_next : IsCircleRun pair (record { src = 0; dst = 1; head = 0; place = 0 } ∷ []) run_of_pair
 hangs_next =
     let other : Entry = record { number = 1; item = 1 } in
-    let t : Target = record { item = 1; whole = false; place = 0 } in
+    let t : Target = record { item = 1; whole = false; unsure = false; place = 0 } in
     record {
       played = Start 0 0 ∷ Wait 0 1 ∷ [];
       is_played = played pair 2 (other ∷ []) t refl refl (record { lane = 0; entry = other; unfinished = inl (0, omega arith, refl); of_item = refl; below = omega arith });
@@ -195,7 +203,7 @@ ordered_flush =
 
 -- item 0 flushes item 1
 abbrev waits : List (List Target)
-waits = (record { item = 1; whole = false; place = 0 } ∷ []) ∷ [] ∷ []
+waits = (record { item = 1; whole = false; unsure = false; place = 0 } ∷ []) ∷ [] ∷ []
 
 abbrev groups : List ℕ
 groups = 0 ∷ 1 ∷ []
@@ -207,7 +215,8 @@ abbrev lanes : Assignment
 lanes = record { lanes = 2; lane_of_group = 1 ∷ 0 ∷ [] }
 
 first_waits : GroupWaits two 0 1
-first_waits = let target : Target = record { item = 1; whole = false; place = 0 } in record { item = 0; target = 1; declares = (0, target, omega arith, refl, refl); of_item = refl; of_target = refl }
+first_waits = let target : Target = record { item = 1; whole = false; unsure = false; place = 0 } in
+    record { item = 0; target = 1; declares = (0, target, omega arith, refl, refl); of_item = refl; of_target = refl }
 
 waited : (j : ℕ) → ItemWaits waits 0 j → 1 ≡ j
 waited j (zero, x, within, is, same) = ap (λ (t : Target). t.item) is ∙ same
@@ -234,7 +243,7 @@ ranks (suc zero) group = (BeginsChain-one (GroupWaits two) 1, second_alone)
 ranks (suc (suc g)) group = absurd (omega arith)
 
 printed : codes "plan 2\nwq 0 b\nwq 1 a\nchain 2\narc a b\n"
-    ≡ plan_text (codes "a" ∷ codes "b" ∷ []) 2 (item_lanes lanes groups) (map ends_of (chain_of (group_graph two) (1 ∷ 0 ∷ [])))
+    ≡ plan_text (codes "a" ∷ codes "b" ∷ []) 2 (item_lanes lanes groups) (map ends_of (chain_of_plan two (1 ∷ 0 ∷ [])))
 printed = rw (decimal_digit 2 (omega arith), decimal_digit 0 (omega arith), decimal_digit 1 (omega arith)) refl
 
 pub two_items : Answers (codes "item a\nitem b\nflush a b\n") Good (codes "plan 2\nwq 0 b\nwq 1 a\nchain 2\narc a b\n")

@@ -1,10 +1,12 @@
 -- From what a command finds to what it answers, and from the bytes that are kept to the texts.
-use Rattle.std.proofs.Common.{◌≡◌, ℕ, ◌+◌, List, Result, Ok, Err, subst, sym}
+use Rattle.std.proofs.Common.{◌≡◌, ℕ, ◌+◌, false, List, Option, Result, Ok, Err, ap, subst, sym, ◌∙◌}
 use Rattle.std.specs.Prelude.{MatchResult, take}
 use Rattle.wq_text.specs.Refusal.{Refusal}
+use Rattle.wq_core.specs.declared.step.Step.{Step}
 use Rattle.wq_meter.specs.Shell.{Given, kept}
 use Rattle.wq_cert.specs.declared.fault.CertError.{CertError}
-use Rattle.wq_cert.specs.Texts.{answer_of, cert_refusal, max_certificate, run_of, workqueues_of_text}
+use Rattle.wq_cert.specs.Part.{has_unsure, made_of}
+use Rattle.wq_cert.specs.Texts.{answer_of, cert_refusal, max_certificate, workqueues_of_text}
 use Rattle.wq_checker.specs.declared.answer.No.{No}
 use Rattle.wq_checker.specs.declared.answer.Yes.{Yes}
 use Rattle.wq_commands.specs.declared.deadlocking.Verdict.{Verdict}
@@ -28,14 +30,14 @@ use Rattle.wq_commands.specs.Commands.{
 use Rattle.wq_commands.specs.Commands.{one_text, three_texts, two_texts}
 use Rattle.wq_commands.specs.Deadlocking.{JudgesAssigned, JudgesDeclared, Judges}
 use Rattle.wq_groups.specs.DeclaredGroups.{Declared}
-use Rattle.wq_commands.specs.Declaration.{declaration, max_declaration}
+use Rattle.wq_commands.specs.Declaration.{DeclaresNoUnsure, declaration, max_declaration}
 use Rattle.wq_commands.specs.Found.{AnswersIn}
 use Rattle.wq_commands.specs.Replaying.{AnswersReplay, ReplaysAssigned, ReplaysDeclared, ReplaysRun}
 use Rattle.wq_commands.specs.Shell.{AnswersTexts, HasOneAnswer}
 use Rattle.wq_commands.proofs.AnswerLemmas.{Answers-same, declaration-take}
 use Rattle.wq_commands.proofs.CheckAnswers.{Checks-unique}
 use Rattle.wq_commands.proofs.InputLemmas.{Checks-take, Judges-take, ReplaysRun-take}
-use Rattle.wq_commands.proofs.JudgeLemmas.{Judges-unique}
+use Rattle.wq_commands.proofs.JudgeLemmas.{Judges-same_end, Judges-same_out}
 use Rattle.wq_commands.proofs.ReplayAnswers.{ReplaysRun-unique}
 use Rattle.wq_commands.proofs.Uniqueness.{Answers-unique}
 
@@ -68,8 +70,10 @@ pub ReplaysTexts-declared : {A : Type 0} (s : Declared) (assigned text : List �
 ReplaysTexts-declared s assigned text found end out =
     AnswersIn-match SecondText (workqueues_of_text s.table.names s.partition assigned) (λ ws. ReplaysOn s ws text)
     (λ ws. ReplaysAssigned s ws text) found end out
-    (λ ws. AnswersIn-match Run (run_of s.table.names text) (FindsEnd s ws) (AnswersReplay s ws) found end out
-    (λ steps h. record { run_end = h.replayed.end; ends = h.ends; status = h.status; printed = h.printed }))
+    (λ ws. AnswersIn-match Run (made_of s.table.names s.table.waits text)
+    (λ (run : Option (List ℕ) × List Step). FindsEnd s ws run.0 run.1)
+    (λ (run : Option (List ℕ) × List Step). AnswersReplay s ws run.0 run.1) found end out
+    (λ run h. record { run_end = h.replayed.end; ends = h.ends; status = h.status; printed = h.printed }))
 
 -- ---- the texts of a command
 
@@ -155,14 +159,20 @@ check-unique s texts found again end other out printed is one two =
     (declaration texts.first) s is (ChecksText-declared s texts.second again other printed two))
 
 pub deadlock-unique : {A : Type 0}
-    → HasOneAnswer (λ s texts (found : Found (Verdict A)) end out. JudgesText s texts.second found end out)
+    → HasOneAnswer (λ s texts (found : Found (Verdict A)) end out. (has_unsure s.table.waits ≡ false)
+    × JudgesText s texts.second found end out)
 deadlock-unique s texts found again end other out printed is one two =
-    Judges-unique texts.first texts.second end other out printed
-    (of_declared (λ s. JudgesDeclared s texts.second end out) (λ r. PrintsRefusal r end out) (declaration texts.first) s
-    is
-    (JudgesText-declared s texts.second found end out one))
-    (of_declared (λ s. JudgesDeclared s texts.second other printed) (λ r. PrintsRefusal r other printed)
-    (declaration texts.first) s is (JudgesText-declared s texts.second again other printed two))
+    let one_is = of_declared (λ s. JudgesDeclared s texts.second end out) (λ r. PrintsRefusal r end out)
+    (declaration texts.first) s is (JudgesText-declared s texts.second found end out one.1) in
+    let two_is = of_declared (λ s. JudgesDeclared s texts.second other printed) (λ r. PrintsRefusal r other printed)
+    (declaration texts.first) s is (JudgesText-declared s texts.second again other printed two.1) in
+    let sure : DeclaresNoUnsure texts.first = λ t declares.
+    (let both : Ok s ≡ Ok t = sym is ∙ declares in
+    let same : s ≡ t = cc in
+    ap (λ (d : Declared). has_unsure d.table.waits) (sym same) ∙ one.0) in (
+      Judges-same_end texts.first texts.second end other out printed one_is two_is,
+      Judges-same_out texts.first texts.second end other out printed sure one_is two_is,
+    )
 
 pub replay-unique : {A : Type 0}
     → HasOneAnswer (λ s texts (found : Found (Replayed A)) end out. ReplaysTexts s texts.second texts.third found end

@@ -1,10 +1,7 @@
 -- Workqueues, of which some may have no rescuer: they are safe or deadlock, and the run that is printed is short.
 use Rattle.std.proofs.Common.{◌≡◌, ℕ, ◌≤◌, ◌⊎◌, ◌↔◌, inl, inr, List, [], ◌∷◌, length, Result, Ok, Err, refl, sym, subst, arith}
 use Rattle.std.specs.Prelude.{MatchResult}
-use Rattle.std.specs.List.{All}
 use Rattle.wq_text.specs.Refusal.{Refusal}
-use Rattle.wq_text.specs.Lines.{lines_of}
-use Rattle.wq_text.proofs.LimitLaws.{IsShort}
 use Rattle.wq_groups.specs.Declaration.{Declaration, IsDeclaration}
 use Rattle.wq_groups.specs.Assignment.{IsAssignment}
 use Rattle.wq_graph.specs.declared.arc.WaitArc.{WaitArc}
@@ -17,25 +14,22 @@ use Rattle.wq_core.specs.Workqueues.{Workqueues, wiring_of}
 use Rattle.wq_core.specs.Deadlock.{IsSafe, DeadlocksBy, Deadlocks}
 use Rattle.wq_core.proofs.KnotRuns.{Deadlocks-knot}
 use Rattle.wq_deadlock.specs.CircleRun.{flushing_items}
-use Rattle.wq_deadlock.specs.Judging.{bare_waits, rescued_graph, AreFirst, IsHang}
+use Rattle.wq_deadlock.specs.Judging.{bare_waits, rescued_graph, AreFirst}
 use Rattle.wq_deadlock.proofs.BareLanes.{IsWiring-workqueues, IsKnot-first, AreSafe-ranks}
 use Rattle.wq_deadlock.proofs.Renumbered.{not_safe-deadlocks}
 use Rattle.wq_deadlock.proofs.RunLengths.{length-once}
 use Rattle.wq_cert.specs.declared.fault.CertError.{CertError}
 use Rattle.wq_cert.specs.Ranges.{AreWorkqueuesOf}
-use Rattle.wq_cert.specs.RunText.{run_lines, run_text}
+use Rattle.wq_cert.specs.Spelled.{KeepsLimits}
 use Rattle.wq_cert.specs.Texts.{workqueues_of_text, cert_refusal}
 use Rattle.wq_cert.proofs.LanesRead.{AreWorkqueuesOf-workqueues_of_text}
-use Rattle.wq_cert.proofs.PrintedLines.{IsShort-printed}
-use Rattle.wq_cert.proofs.PrintedRuns.{IsPrintableLine-run}
-use Rattle.wq_cert.proofs.TextLength.{length-run_text}
 use Rattle.wq_commands.specs.declared.end.End.TheVariants.{Bad, Refused}
-use Rattle.wq_groups.specs.DeclaredGroups.{declared_waits, Declared}
+use Rattle.wq_groups.specs.DeclaredGroups.{Declared}
 use Rattle.wq_commands.specs.Answer.{PrintsRefusal}
 use Rattle.wq_commands.specs.Deadlocking.{JudgesAssigned, JudgesDeclared, Judges}
 use Rattle.wq_commands.specs.Declaration.{declaration}
 use Rattle.wq_commands.proofs.AnswerLemmas.{IsSound, IsSound-declaration}
-use Rattle.wq_commands.proofs.NamedSteps.{IsStepOf-hang, length-hang}
+use Rattle.wq_commands.proofs.JudgeLemmas.{KeepsLimits-judged}
 
 -- ---- safe or deadlocking
 
@@ -65,36 +59,28 @@ module _ (d : Declaration) (ws : Workqueues) (declaration : IsDeclaration d) (as
 
 -- ---- the text of a run
 
--- what holds of the text of each run by which workqueues hang holds of what is printed
-of_declared : (P : List ℕ → Type 0) (text out : List ℕ) (s : Declared) → IsSound s
-    → ((ws : Workqueues) → AreWorkqueuesOf s.partition.groups ws → (steps : List Step) → IsHang (declared_waits s) ws steps → P (run_text s.table.names steps))
-    → JudgesDeclared s text Bad out → P out
-of_declared P text out s sound all judges = chosen (workqueues_of_text s.table.names s.partition text) (λ ws is. AreWorkqueuesOf-workqueues_of_text s.table.names s.partition sound.partition (sym sound.one_group_each) text ws is) judges
+KeepsLimits-declared : (s : Declared) → IsSound s → (text out : List ℕ) → JudgesDeclared s text Bad out
+    → KeepsLimits out
+KeepsLimits-declared s sound text out judges =
+    chosen (workqueues_of_text s.table.names s.partition text)
+    (λ ws is. AreWorkqueuesOf-workqueues_of_text s.table.names s.partition sound.partition
+    (sym sound.one_group_each) text ws is) judges
   where
     chosen : (r : Result Workqueues CertError) → ((ws : Workqueues) → r ≡ Ok ws → AreWorkqueuesOf s.partition.groups ws)
-        → MatchResult r (λ ws. JudgesAssigned s ws Bad out) (λ fault. PrintsRefusal (cert_refusal fault) Bad out) → P out
-    chosen (Ok ws) known (steps, hang, is) = subst P (sym is) (all ws (known ws refl) steps hang)
+        → MatchResult r (λ ws. JudgesAssigned s ws Bad out) (λ fault. PrintsRefusal (cert_refusal fault) Bad out)
+        → KeepsLimits out
+    chosen (Ok ws) known judged = KeepsLimits-judged s sound ws (known ws refl).assignment out judged
     chosen (Err fault) known refused = absurd (let never : Bad ≡ Refused = refused.0 in cc)
 
-of_judged : (P : List ℕ → Type 0) (declared text out : List ℕ)
-    → ((s : Declared) → IsSound s → (ws : Workqueues) → AreWorkqueuesOf s.partition.groups ws → (steps : List Step) → IsHang (declared_waits s) ws steps → P (run_text s.table.names steps))
-    → Judges declared text Bad out → P out
-of_judged P declared text out all = chosen (declaration declared) (IsSound-declaration declared)
+-- what is printed of a run keeps the limits
+pub KeepsLimits-judges : (declared text out : List ℕ) → Judges declared text Bad out → KeepsLimits out
+KeepsLimits-judges declared text out = chosen (declaration declared) (IsSound-declaration declared)
   where
     chosen : (r : Result Declared Refusal) → ((s : Declared) → r ≡ Ok s → IsSound s)
-        → MatchResult r (λ s. JudgesDeclared s text Bad out) (λ refusal. PrintsRefusal refusal Bad out) → P out
-    chosen (Ok s) sound judges = of_declared P text out s (sound s refl) (all s (sound s refl)) judges
+        → MatchResult r (λ s. JudgesDeclared s text Bad out) (λ refusal. PrintsRefusal refusal Bad out)
+        → KeepsLimits out
+    chosen (Ok s) sound judges = KeepsLimits-declared s (sound s refl) text out judges
     chosen (Err refusal) sound refused = absurd (let never : Bad ≡ Refused = refused.0 in cc)
-
-pub length-judged : (declared text out : List ℕ) → Judges declared text Bad out → length out ≤ 8388608
-length-judged declared text out = of_judged (λ (bytes : List ℕ). length bytes ≤ 8388608) declared text out (λ s sound ws are steps hang.
-    let few : length steps ≤ 45056 = length-hang s sound ws are.assignment steps hang.deadlocks in
-    length-run_text s.table.names sound.table.named steps (IsStepOf-hang s sound ws are.assignment steps hang.deadlocks) (omega (arith, few)))
-
-pub IsShort-judged : (declared text out : List ℕ) → Judges declared text Bad out → All (IsShort 524288) (lines_of out)
-IsShort-judged declared text out = of_judged (λ (bytes : List ℕ). All (IsShort 524288) (lines_of bytes)) declared text out (λ s sound ws are steps hang.
-    let few : length steps ≤ 45056 = length-hang s sound ws are.assignment steps hang.deadlocks in
-    IsShort-printed (run_lines s.table.names steps) (IsPrintableLine-run s.table sound.table steps (IsStepOf-hang s sound ws are.assignment steps hang.deadlocks) (omega (arith, few))))
 
 -- ---- how many steps
 

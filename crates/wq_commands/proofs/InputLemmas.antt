@@ -1,5 +1,6 @@
 -- The text that was read, and the text that there was: the answer to the prefix that was read is the answer to the text.
-use Rattle.std.proofs.Common.{◌≡◌, ℕ, ◌+◌, List, length, Result, Ok, Err, inl, inr, refl, sym, subst, ◌∙◌, arith}
+use Rattle.std.proofs.Common.{◌≡◌, ℕ, ◌+◌, List, length, Option, Result, Ok, Err, inl, inr, refl, sym, subst, ◌∙◌}
+use Rattle.std.proofs.Common.{arith}
 use Rattle.std.specs.Prelude.{MatchResult, take}
 use Rattle.std.proofs.lemmas.Bool.{cases_lt}
 use Rattle.std.proofs.lemmas.List.{take_all}
@@ -10,8 +11,9 @@ use Rattle.wq_core.specs.declared.step.Step.{Step}
 use Rattle.wq_cert.specs.declared.fault.CertError.{CertError}
 use Rattle.wq_cert.specs.declared.fault.CertError.TheVariants.{BadCertLine}
 use Rattle.wq_cert.specs.Lines.{CertLine}
-use Rattle.wq_cert.specs.Reading.{answer_reading, lanes_reading, run_reading}
-use Rattle.wq_cert.specs.Texts.{text_reading, workqueues_of_text, run_of, cert_refusal, max_certificate}
+use Rattle.wq_cert.specs.Part.{made_of, made_reading}
+use Rattle.wq_cert.specs.Reading.{answer_reading, lanes_reading}
+use Rattle.wq_cert.specs.Texts.{text_reading, workqueues_of_text, cert_refusal, max_certificate}
 use Rattle.wq_cert.proofs.LongCertificates.{text_reading-long, text_reading-take}
 use Rattle.wq_commands.specs.declared.end.End.{End}
 use Rattle.wq_commands.specs.Answer.{PrintsRefusal}
@@ -88,22 +90,27 @@ both-kept {V} read Answers Refuses RefusesFirst declared text answer =
     (λ r refused. refused)
 
 -- of a declaration, an assignment of it, and a run
-pub run-kept : (Answers : Declared → Workqueues → List Step → Type 0) (RefusesRun RefusesSecond : CertError → Type 0)
+pub run-kept : (Answers : Declared → Workqueues → Option (List ℕ) × List Step
+    → Type 0) (RefusesRun RefusesSecond : CertError → Type 0)
     (RefusesFirst : Refusal → Type 0) (declared lanes steps : List ℕ)
     → MatchResult (declaration (take (max_declaration + 1) declared))
     (λ s. MatchResult (workqueues_of_text s.table.names s.partition (take (max_certificate + 1) lanes))
-    (λ ws. MatchResult (run_of s.table.names (take (max_certificate + 1) steps)) (Answers s ws) RefusesRun)
+    (λ ws. MatchResult (made_of s.table.names s.table.waits (take (max_certificate + 1) steps)) (Answers s ws)
+    RefusesRun)
     RefusesSecond) RefusesFirst
     → MatchResult (declaration declared)
     (λ s. MatchResult (workqueues_of_text s.table.names s.partition lanes)
-    (λ ws. MatchResult (run_of s.table.names steps) (Answers s ws) RefusesRun) RefusesSecond) RefusesFirst
+    (λ ws. MatchResult (made_of s.table.names s.table.waits steps) (Answers s ws) RefusesRun) RefusesSecond)
+    RefusesFirst
 run-kept Answers RefusesRun RefusesSecond RefusesFirst declared lanes steps answer =
     MatchResult-weaker (declaration declared)
     (both-kept (λ s. lanes_reading s.table.names s.partition)
-    (λ _ _ s ws. MatchResult (run_of s.table.names (take (max_certificate + 1) steps)) (Answers s ws) RefusesRun)
+    (λ _ _ s ws. MatchResult (made_of s.table.names s.table.waits (take (max_certificate + 1) steps)) (Answers s ws)
+    RefusesRun)
     RefusesSecond RefusesFirst declared lanes answer)
     (λ s read. MatchResult-weaker (workqueues_of_text s.table.names s.partition lanes) read
-    (λ ws. text-kept (run_reading s.table.names) (λ _. Answers s ws) RefusesRun steps) (λ fault refused. refused))
+    (λ ws. text-kept (made_reading s.table.names s.table.waits) (λ _. Answers s ws) RefusesRun steps)
+    (λ fault refused. refused))
     (λ r refused. refused)
 
 -- ---- the commands
@@ -153,5 +160,6 @@ module _ (end : End) (out : List ℕ) where
       → ReplaysRun (take (max_declaration + 1) text) (take (max_certificate + 1) lanes)
       (take (max_certificate + 1) steps) end out → ReplaysRun text lanes steps end out
   ReplaysRun-take =
-      run-kept (λ s ws steps. AnswersReplay s ws steps end out) (λ fault. PrintsRefusal (cert_refusal fault) end out)
+      run-kept (λ s ws run. AnswersReplay s ws run.0 run.1 end out)
+      (λ fault. PrintsRefusal (cert_refusal fault) end out)
       (λ fault. PrintsRefusal (cert_refusal fault) end out) (λ r. PrintsRefusal r end out)

@@ -2,13 +2,18 @@
 use Rattle.std.proofs.Common.{
   ◌≡◌,
   ℕ,
-  ◌≤◌,
+  ◌⊎◌,
+  Bool,
+  true,
+  false,
   inl,
   inr,
+  Option,
+  Some,
+  None,
   List,
   [],
   ◌∷◌,
-  length,
   Result,
   Ok,
   Err,
@@ -17,7 +22,6 @@ use Rattle.std.proofs.Common.{
   ap,
   subst,
   ◌∙◌,
-  arith,
 }
 use Rattle.std.specs.Prelude.{MatchResult}
 use Rattle.wq_text.specs.Refusal.{Refusal}
@@ -32,7 +36,7 @@ use Rattle.wq_core.specs.declared.step.Step.{Step}
 use Rattle.wq_core.specs.Workqueues.{Workqueues, wiring_of}
 use Rattle.wq_core.specs.Deadlock.{IsSafe, DeadlocksBy}
 use Rattle.wq_deadlock.specs.CircleRun.{flushing_items, IsRunOf}
-use Rattle.wq_deadlock.specs.Judging.{bare_waits, rescued_graph, AreFirst, IsHang}
+use Rattle.wq_deadlock.specs.Judging.{bare_waits, rescued_graph, AreFirst, IsHang, AreSafe}
 use Rattle.wq_deadlock.proofs.BareLanes.{IsWiring-workqueues, IsKnot-first, IsRunOf-exists, IsHang-run, AreSafe-ranks}
 use Rattle.wq_deadlock.proofs.OnlyRun.{same_run_of}
 use Rattle.wq_deadlock.proofs.Renumbered.{not_safe-by}
@@ -40,21 +44,26 @@ use Rattle.wq_cert.specs.declared.fault.CertError.{CertError}
 use Rattle.wq_text.specs.LineText.{line_text}
 use Rattle.wq_groups.specs.Assignment.{IsAssignmentOf}
 use Rattle.wq_cert.specs.RunText.{run_text}
-use Rattle.wq_cert.specs.Texts.{workqueues_of_text, run_of, cert_refusal}
-use Rattle.wq_cert.proofs.PrintedRuns.{run_of-printed}
+use Rattle.wq_cert.specs.Part.{has_unsure, made_of, made_reading, reading_text}
+use Rattle.wq_cert.specs.Spelled.{KeepsLimits}
+use Rattle.wq_cert.specs.Texts.{workqueues_of_text, cert_refusal}
 use Rattle.wq_cert.proofs.LanesRead.{AreWorkqueuesOf-workqueues_of_text}
-use Rattle.wq_cert.proofs.TextLength.{length-run_text}
+use Rattle.wq_cert.proofs.SpelledAnswers.{KeepsLimits-text_reading}
+use Rattle.wq_hang.specs.Walk.{needs}
 use Rattle.wq_checker.specs.declared.run.RunEnd.TheVariants.{Deadlock}
 use Rattle.wq_commands.specs.declared.end.End.{End}
 use Rattle.wq_commands.specs.declared.end.End.TheVariants.{Good, Bad, Refused}
-use Rattle.wq_groups.specs.DeclaredGroups.{declared_waits, Declared}
+use Rattle.wq_groups.specs.DeclaredGroups.{declared_waits, reading_with_names, Declared}
 use Rattle.wq_commands.specs.Answer.{refusal_text, PrintsRefusal}
-use Rattle.wq_commands.specs.Deadlocking.{safe_text, JudgesAssigned, JudgesDeclared, Judges}
-use Rattle.wq_commands.specs.Declaration.{declaration}
-use Rattle.wq_commands.specs.Replaying.{replay_words, AnswersReplay, ReplaysAssigned, ReplaysDeclared, ReplaysRun}
+use Rattle.wq_commands.specs.Deadlocking.{safe_text, PrintsRun, JudgesAssigned, JudgesDeclared, Judges}
+use Rattle.wq_commands.specs.Declaration.{DeclaresNoUnsure, declaration}
+use Rattle.wq_commands.specs.Replaying.{wiring_read, replay_words, AnswersReplay, ReplaysAssigned, ReplaysDeclared}
+use Rattle.wq_commands.specs.Replaying.{ReplaysRun}
 use Rattle.wq_commands.proofs.AnswerLemmas.{IsSound, IsSound-declaration, IsDeclaration-sound}
 use Rattle.wq_commands.proofs.CheckLemmas.{MatchResult-ok}
-use Rattle.wq_commands.proofs.NamedSteps.{IsStepOf-hang, length-hang}
+use Rattle.wq_commands.proofs.FewestHangs.{IsHangOf-exists}
+use Rattle.wq_commands.proofs.ReadingLemmas.{IsSound-reading, IsSafe-reading, deadlock-reading, AreKeptPlaces-needs}
+use Rattle.wq_commands.proofs.ReadingLemmas.{not_safe-reading, not_safe-all, made_of-deadlock, made_of-reading}
 
 -- ---- a declaration and an assignment of it
 
@@ -69,22 +78,52 @@ module _ (s : Declared) (sound : IsSound s) (a : Workqueues) (assigned : IsAssig
 
     -- ---- the run is printed and read back
 
-    -- so its text says them
-    run_of-deadlock : (steps : List Step) → DeadlocksBy (wiring_of (declared_waits s) a) steps → run_of s.table.names
-        (run_text s.table.names steps) ≡ Ok steps
-    run_of-deadlock steps deadlocks =
-        let named = IsStepOf-hang s sound a assigned steps deadlocks in
-        let few : length steps ≤ 65536 = omega (arith, length-hang s sound a assigned steps deadlocks) in
-        run_of-printed s.table sound.table steps named (length-run_text s.table.names sound.table.named steps named few)
+    abbrev said : List ℕ
+    said = line_text (replay_words Deadlock)
 
-    ReplaysAssigned-judged : (out : List ℕ) → JudgesAssigned s a Bad out → ReplaysAssigned s a out Bad
-        (line_text (replay_words Deadlock))
-    ReplaysAssigned-judged out (steps, deadlock, is) =
-        MatchResult-ok (run_of s.table.names out) steps (λ made. AnswersReplay s a made Bad
-        (line_text (replay_words Deadlock))) (λ fault. PrintsRefusal (cert_refusal fault) Bad
-        (line_text (replay_words Deadlock)))
-        (ap (run_of s.table.names) is ∙ run_of-deadlock steps deadlock.deadlocks)
-        (record { run_end = Deadlock; ends = deadlock.deadlocks; status = refl; printed = refl })
+    -- so its text says the steps, and which unsure flushes are kept
+    ReplaysAssigned-read : (out : List ℕ) (kept : Option (List ℕ)) (steps : List Step)
+        → made_of s.table.names s.table.waits out ≡ Ok (kept, steps) → DeadlocksBy (wiring_read s a kept) steps
+        → ReplaysAssigned s a out Bad said
+    ReplaysAssigned-read out kept steps read deadlocks =
+        MatchResult-ok (made_of s.table.names s.table.waits out) (kept, steps)
+        (λ (run : Option (List ℕ) × List Step). AnswersReplay s a run.0 run.1 Bad said)
+        (λ fault. PrintsRefusal (cert_refusal fault) Bad said) read
+        (record { run_end = Deadlock; ends = deadlocks; status = refl; printed = refl })
+
+    ReplaysAssigned-by : (b : Bool) (out : List ℕ) → has_unsure s.table.waits ≡ b → PrintsRun b s a out
+        → ReplaysAssigned s a out Bad said
+    ReplaysAssigned-by false out sure (steps, hang, is) =
+        ReplaysAssigned-read out None steps
+        (ap (made_of s.table.names s.table.waits) is ∙ made_of-deadlock s sound a assigned steps hang.deadlocks)
+        hang.deadlocks
+    ReplaysAssigned-by true out some (hops, soonest, hang, steps, own, is) =
+        let kept : List ℕ = needs hops in
+        let are = AreKeptPlaces-needs s a hops soonest hang in
+        ReplaysAssigned-read out (Some kept) steps
+        (ap (made_of s.table.names s.table.waits) is
+        ∙ made_of-reading s sound a assigned steps kept are own.deadlocks some)
+        (deadlock-reading s a kept steps own.deadlocks)
+
+    ReplaysAssigned-judged : (out : List ℕ) → JudgesAssigned s a Bad out → ReplaysAssigned s a out Bad said
+    ReplaysAssigned-judged out judged = ReplaysAssigned-by (has_unsure s.table.waits) out refl judged
+
+    -- what is printed keeps the limits
+    pub KeepsLimits-judged : (out : List ℕ) → JudgesAssigned s a Bad out → KeepsLimits out
+    KeepsLimits-judged out judged = by (has_unsure s.table.waits) refl judged
+      where
+        read : (kept : Option (List ℕ)) (steps : List Step) → made_of s.table.names s.table.waits out ≡ Ok (kept, steps)
+            → KeepsLimits out
+        read kept steps is =
+            (KeepsLimits-text_reading (made_reading s.table.names s.table.waits) out (kept, steps) is).0
+
+        by : (b : Bool) → has_unsure s.table.waits ≡ b → PrintsRun b s a out → KeepsLimits out
+        by false sure (steps, hang, is) = read None steps
+            (ap (made_of s.table.names s.table.waits) is ∙ made_of-deadlock s sound a assigned steps hang.deadlocks)
+        by true some (hops, soonest, hang, steps, own, is) =
+            read (Some (needs hops)) steps (ap (made_of s.table.names s.table.waits) is
+            ∙ made_of-reading s sound a assigned steps (needs hops) (AreKeptPlaces-needs s a hops soonest hang)
+            own.deadlocks some)
 
     -- ---- the one verdict
 
@@ -104,22 +143,38 @@ module _ (s : Declared) (sound : IsSound s) (a : Workqueues) (assigned : IsAssig
         first.are_first second.are_first in
         same_run_of w second.first one other (subst (λ (is : List ℕ). IsRunOf w is one) same first.is_run) second.is_run
 
-    not_both : (steps : List Step) → IsSafe (wiring_of (declared_waits s) a) → IsHang (declared_waits s) a steps → ⊥
-    not_both steps safe deadlock = not_safe-by (wiring_of (declared_waits s) a) steps deadlock.deadlocks safe
+    not_both : (b : Bool) (out : List ℕ) → IsSafe (wiring_of (declared_waits s) a) → PrintsRun b s a out → ⊥
+    not_both false out safe (steps, hang, is) =
+        not_safe-by (wiring_of (declared_waits s) a) steps hang.deadlocks safe
+    not_both true out safe (hops, soonest, hang, steps, own, is) = not_safe-all s a hops soonest hang safe
 
-    JudgesAssigned-unique : (end other : End) (out printed : List ℕ) → JudgesAssigned s a end out → JudgesAssigned s a
-        other printed → (end ≡ other) × (out ≡ printed)
-    JudgesAssigned-unique Good Good out printed one two = (refl, one.2 ∙ sym two.2)
-    JudgesAssigned-unique Good Bad out printed one two = absurd (not_both two.0 one.1 two.1)
-    JudgesAssigned-unique Good Refused out printed one two = absurd two
-    JudgesAssigned-unique Bad Good out printed one two = absurd (not_both one.0 two.1 one.1)
-    JudgesAssigned-unique Bad Bad out printed one two = (
-      refl,
-      one.2 ∙ ap (run_text s.table.names)
-          (same_run one.0 two.0 one.1 two.1) ∙ sym two.2,
-    )
-    JudgesAssigned-unique Bad Refused out printed one two = absurd two
-    JudgesAssigned-unique Refused other out printed one two = absurd one
+    JudgesAssigned-same_end : (end other : End) (out printed : List ℕ) → JudgesAssigned s a end out → JudgesAssigned s a
+        other printed → end ≡ other
+    JudgesAssigned-same_end Good Good out printed one two = refl
+    JudgesAssigned-same_end Good Bad out printed one two = absurd
+        (not_both (has_unsure s.table.waits) printed one.1 two)
+    JudgesAssigned-same_end Good Refused out printed one two = absurd two
+    JudgesAssigned-same_end Bad Good out printed one two = absurd
+        (not_both (has_unsure s.table.waits) out two.1 one)
+    JudgesAssigned-same_end Bad Bad out printed one two = refl
+    JudgesAssigned-same_end Bad Refused out printed one two = absurd two
+    JudgesAssigned-same_end Refused other out printed one two = absurd one
+
+    -- without unsure flushes one run is printed
+    JudgesAssigned-same_out : has_unsure s.table.waits ≡ false → (end other : End) (out printed : List ℕ)
+        → JudgesAssigned s a end out → JudgesAssigned s a other printed → out ≡ printed
+    JudgesAssigned-same_out sure Good Good out printed one two = one.2 ∙ sym two.2
+    JudgesAssigned-same_out sure Good Bad out printed one two = absurd
+        (not_both (has_unsure s.table.waits) printed one.1 two)
+    JudgesAssigned-same_out sure Good Refused out printed one two = absurd two
+    JudgesAssigned-same_out sure Bad Good out printed one two = absurd
+        (not_both (has_unsure s.table.waits) out two.1 one)
+    JudgesAssigned-same_out sure Bad Bad out printed one two =
+        let first : PrintsRun false s a out = subst (λ (b : Bool). PrintsRun b s a out) sure one in
+        let second : PrintsRun false s a printed = subst (λ (b : Bool). PrintsRun b s a printed) sure two in
+        first.2 ∙ ap (run_text s.table.names) (same_run first.0 second.0 first.1 second.1) ∙ sym second.2
+    JudgesAssigned-same_out sure Bad Refused out printed one two = absurd two
+    JudgesAssigned-same_out sure Refused other out printed one two = absurd one
 
     IsHang-exists : (first : List ℕ) → AreFirst (declared_waits s) a (bare_waits (declared_waits s) a) first →
         (steps : List Step) × IsHang (declared_waits s) a steps
@@ -131,25 +186,54 @@ module _ (s : Declared) (sound : IsSound s) (a : Workqueues) (assigned : IsAssig
         knot in
         (run.0, IsHang-run (declared_waits s) a is_declaration assigned.assignment first run.0 are run.1)
 
-    hangs : (first : List ℕ) → AreFirst (declared_waits s) a (bare_waits (declared_waits s) a) first → (end : End) ×
-        (out : List ℕ) × JudgesAssigned s a end out
-    hangs first are = let hang = IsHang-exists first are in (Bad, run_text s.table.names hang.0, (hang.0, hang.1, refl))
+    hangs : (first : List ℕ) → AreFirst (declared_waits s) a (bare_waits (declared_waits s) a) first
+        → AreSafe (declared_waits s) a ⊎ ((steps : List Step) × IsHang (declared_waits s) a steps)
+    hangs first are = inr (IsHang-exists first are)
 
-    pub JudgesAssigned-exist : (end : End) × (out : List ℕ) × JudgesAssigned s a end out
-    JudgesAssigned-exist = by_waits (bare_waits (declared_waits s) a) refl
+    -- the workqueues are safe, or hang by some run
+    pub verdict_exists : AreSafe (declared_waits s) a ⊎ ((steps : List Step) × IsHang (declared_waits s) a steps)
+    verdict_exists = by_waits (bare_waits (declared_waits s) a) refl
       where
-        by_waits : (waits : List WaitArc) → bare_waits (declared_waits s) a ≡ waits → (end : End) × (out : List ℕ) ×
-            JudgesAssigned s a end out
+        by_waits : (waits : List WaitArc) → bare_waits (declared_waits s) a ≡ waits
+            → AreSafe (declared_waits s) a ⊎ ((steps : List Step) × IsHang (declared_waits s) a steps)
         by_waits (x ∷ more) is = hangs (x.src ∷ []) (subst (λ (l : List WaitArc). AreFirst (declared_waits s) a l
             (x.src ∷ [])) (sym is) refl)
         by_waits [] is = elim (AreRanks-or_walk (rescued_graph (declared_waits s) a) graph) [
-          | inl ranks ↦
-              let safe = AreSafe-ranks (declared_waits s) a is_declaration assigned.assignment assigned.few is ranks.0
-              ranks.1 in
-              (Good, safe_text, (safe.assignment, safe.safe, refl))
+          | inl ranks ↦ inl (AreSafe-ranks (declared_waits s) a is_declaration assigned.assignment assigned.few is
+              ranks.0 ranks.1)
           | inr walk ↦ hangs (flushing_items walk.0) (subst (λ (l : List WaitArc). AreFirst (declared_waits s) a l
               (flushing_items walk.0)) (sym is) (walk.0, walk.1, refl))
         ]
+
+-- what isn't safe hangs by some run
+pub IsHang-unsafe : (s : Declared) (sound : IsSound s) (a : Workqueues)
+    (assigned : IsAssignmentOf s.partition.groups a.assignment) → (¬ IsSafe (wiring_of (declared_waits s) a))
+    → (steps : List Step) × IsHang (declared_waits s) a steps
+IsHang-unsafe s sound a assigned unsafe = elim (verdict_exists s sound a assigned) [
+  | inl are ↦ absurd (unsafe are.safe)
+  | inr hang ↦ hang
+]
+
+module _ (s : Declared) (sound : IsSound s) (a : Workqueues) (assigned : IsAssignmentOf s.partition.groups a.assignment)
+  where
+    -- with unsure flushes the fewest are printed by which they hang
+    printed_run : (b : Bool) → (steps : List Step) → IsHang (declared_waits s) a steps
+        → (out : List ℕ) × PrintsRun b s a out
+    printed_run false steps hang = (run_text s.table.names steps, (steps, hang, refl))
+    printed_run true steps hang =
+        let d = declared_waits s in
+        let found = IsHangOf-exists s sound a assigned
+        (not_safe-by (wiring_of d a) steps hang.deadlocks) in
+        let kept : List ℕ = needs found.0 in
+        let own = IsHang-unsafe (reading_with_names s kept) (IsSound-reading s kept sound) a assigned
+        (λ safe. not_safe-reading s a found.0 found.1 found.2 (IsSafe-reading s a kept safe)) in
+        (reading_text s.table.names s.table.waits kept own.0, (found.0, found.1, found.2, own.0, own.1, refl))
+
+    pub JudgesAssigned-exist : (end : End) × (out : List ℕ) × JudgesAssigned s a end out
+    JudgesAssigned-exist = elim (verdict_exists s sound a assigned) [
+      | inl are ↦ (Good, safe_text, (are.assignment, are.safe, refl))
+      | inr hang ↦ let printed = printed_run (has_unsure s.table.waits) hang.0 hang.1 in (Bad, printed.0, printed.1)
+    ]
 
 -- ---- a text of an assignment
 
@@ -163,17 +247,29 @@ module _ (s : Declared) (sound : IsSound s) where
       let one = sym sound.one_group_each in
       (AreWorkqueuesOf-workqueues_of_text s.table.names s.partition sound.partition one text a is).assignment
 
-  judged_once : (r : Result Workqueues CertError) → IsKnown r → (end other : End) (out printed : List ℕ)
-      → MatchResult r (λ a. JudgesAssigned s a end out) (λ fault. PrintsRefusal (cert_refusal fault) end out)
-      → MatchResult r (λ a. JudgesAssigned s a other printed)
-      (λ fault. PrintsRefusal (cert_refusal fault) other printed) → (end ≡ other) × (out ≡ printed)
-  judged_once (Ok a) is end other out printed one two = JudgesAssigned-unique s sound a (is a refl) end other out
-      printed one two
-  judged_once (Err fault) is end other out printed one two = (one.0 ∙ sym two.0, one.1 ∙ sym two.1)
+  module _ (end other : End) (out printed : List ℕ) where
+    same_end : (r : Result Workqueues CertError) → IsKnown r
+        → MatchResult r (λ a. JudgesAssigned s a end out) (λ fault. PrintsRefusal (cert_refusal fault) end out)
+        → MatchResult r (λ a. JudgesAssigned s a other printed)
+        (λ fault. PrintsRefusal (cert_refusal fault) other printed) → end ≡ other
+    same_end (Ok a) is one two = JudgesAssigned-same_end s sound a (is a refl) end other out printed one two
+    same_end (Err fault) is one two = one.0 ∙ sym two.0
 
-  JudgesDeclared-unique : (text : List ℕ) (end other : End) (out printed : List ℕ) → JudgesDeclared s text end out →
-      JudgesDeclared s text other printed → (end ≡ other) × (out ≡ printed)
-  JudgesDeclared-unique text = judged_once (workqueues_of_text s.table.names s.partition text) (known text)
+    same_out : has_unsure s.table.waits ≡ false → (r : Result Workqueues CertError) → IsKnown r
+        → MatchResult r (λ a. JudgesAssigned s a end out) (λ fault. PrintsRefusal (cert_refusal fault) end out)
+        → MatchResult r (λ a. JudgesAssigned s a other printed)
+        (λ fault. PrintsRefusal (cert_refusal fault) other printed) → out ≡ printed
+    same_out sure (Ok a) is one two = JudgesAssigned-same_out s sound a (is a refl) sure end other out printed one two
+    same_out sure (Err fault) is one two = one.1 ∙ sym two.1
+
+    JudgesDeclared-same_end : (text : List ℕ) → JudgesDeclared s text end out → JudgesDeclared s text other printed
+        → end ≡ other
+    JudgesDeclared-same_end text = same_end (workqueues_of_text s.table.names s.partition text) (known text)
+
+    JudgesDeclared-same_out : has_unsure s.table.waits ≡ false → (text : List ℕ) → JudgesDeclared s text end out
+        → JudgesDeclared s text other printed → out ≡ printed
+    JudgesDeclared-same_out sure text =
+        same_out sure (workqueues_of_text s.table.names s.partition text) (known text)
 
   judged : (r : Result Workqueues CertError) → IsKnown r
       → (end : End) × (out : List ℕ) × MatchResult r (λ a. JudgesAssigned s a end out)
@@ -202,17 +298,32 @@ module _ (s : Declared) (sound : IsSound s) where
 abbrev IsSoundly : Result Declared Refusal → Type 0
 IsSoundly r = (s : Declared) → r ≡ Ok s → IsSound s
 
-judges_once : (r : Result Declared Refusal) → IsSoundly r → (text : List ℕ) (end other : End) (out printed : List ℕ)
-    → MatchResult r (λ s. JudgesDeclared s text end out) (λ refusal. PrintsRefusal refusal end out)
-    → MatchResult r (λ s. JudgesDeclared s text other printed) (λ refusal. PrintsRefusal refusal other printed) →
-    (end ≡ other) × (out ≡ printed)
-judges_once (Ok s) sound text end other out printed one two = JudgesDeclared-unique s (sound s refl) text end other out
-    printed one two
-judges_once (Err refusal) sound text end other out printed one two = (one.0 ∙ sym two.0, one.1 ∙ sym two.1)
+module _ (text : List ℕ) (end other : End) (out printed : List ℕ) where
+  judges_same_end : (r : Result Declared Refusal) → IsSoundly r
+      → MatchResult r (λ s. JudgesDeclared s text end out) (λ refusal. PrintsRefusal refusal end out)
+      → MatchResult r (λ s. JudgesDeclared s text other printed) (λ refusal. PrintsRefusal refusal other printed)
+      → end ≡ other
+  judges_same_end (Ok s) sound one two = JudgesDeclared-same_end s (sound s refl) end other out printed text one two
+  judges_same_end (Err refusal) sound one two = one.0 ∙ sym two.0
 
-pub Judges-unique : (declared text : List ℕ) (end other : End) (out printed : List ℕ) → Judges declared text end out →
-    Judges declared text other printed → (end ≡ other) × (out ≡ printed)
-Judges-unique declared = judges_once (declaration declared) (IsSound-declaration declared)
+  judges_same_out : (r : Result Declared Refusal) → IsSoundly r
+      → ((s : Declared) → r ≡ Ok s → has_unsure s.table.waits ≡ false)
+      → MatchResult r (λ s. JudgesDeclared s text end out) (λ refusal. PrintsRefusal refusal end out)
+      → MatchResult r (λ s. JudgesDeclared s text other printed) (λ refusal. PrintsRefusal refusal other printed)
+      → out ≡ printed
+  judges_same_out (Ok s) sound sure one two =
+      JudgesDeclared-same_out s (sound s refl) end other out printed (sure s refl) text one two
+  judges_same_out (Err refusal) sound sure one two = one.1 ∙ sym two.1
+
+pub Judges-same_end : (declared text : List ℕ) (end other : End) (out printed : List ℕ) → Judges declared text end out
+    → Judges declared text other printed → end ≡ other
+Judges-same_end declared text end other out printed =
+    judges_same_end text end other out printed (declaration declared) (IsSound-declaration declared)
+
+pub Judges-same_out : (declared text : List ℕ) (end other : End) (out printed : List ℕ) → DeclaresNoUnsure declared
+    → Judges declared text end out → Judges declared text other printed → out ≡ printed
+Judges-same_out declared text end other out printed sure =
+    judges_same_out text end other out printed (declaration declared) (IsSound-declaration declared) sure
 
 judges : (r : Result Declared Refusal) → IsSoundly r → (text : List ℕ)
     → (end : End) × (out : List ℕ) × MatchResult r (λ s. JudgesDeclared s text end out)

@@ -24,3 +24,7 @@ pub mod FoundLemmas
 mod StopLemmas
 mod SameTexts
 mod Telling
+pub mod SamePlaces
+pub mod ReadingLemmas
+pub mod FewestHangs
+pub mod VerdictPromises

@@ -20,7 +20,7 @@ use Rattle.wq_commands.specs.Deadlocking.{safe_text, Judges}
 use Rattle.wq_groups.specs.DeclaredGroups.{Declared}
 use Rattle.wq_commands.specs.Declaration.{declaration}
 use Rattle.wq_commands.specs.Shown.{ShowsPlan, ShowsDeclared}
-use Rattle.wq_commands.proofs.AllRescued.{Judges-rescued}
+use Rattle.wq_commands.proofs.AllRescued.{Judges-rescued_good}
 use Rattle.wq_commands.proofs.AnswerLemmas.{IsSound-declaration}
 use Rattle.wq_commands.proofs.CheckLemmas.{MatchResult-ok}
 use Rattle.wq_commands.proofs.PromiseLemmas.{ShowsAnswer-answers, IsReadAsGoodPlan-shown}
@@ -62,7 +62,7 @@ Judges-plan text out answers = chosen (declaration text) refl (ShowsAnswer-answe
     chosen : (r : Result Declared Refusal) → declaration text ≡ r → MatchResult r (λ s. ShowsDeclared s Good out) (λ refusal. Good ≡ Refused) → Judges text out Good safe_text
     chosen (Err refusal) is never = absurd (let bad : Good ≡ Refused = never in cc)
     chosen (Ok s) is shown =
-        (Judges-rescued out (none-plan s out shown) text Good safe_text).1 (
+        Judges-rescued_good out (none-plan s out shown) text safe_text (
         MatchResult-ok (declaration text) s
         (λ z. MatchResult (assignment_of_text z.table.names z.partition out) (λ a. JudgesAssignment z a Good safe_text) (λ fault. PrintsRefusal (cert_refusal fault) Good safe_text))
         (λ refusal. PrintsRefusal refusal Good safe_text) is (

@@ -54,7 +54,7 @@ use Rattle.wq_groups.specs.Declaration.{Declaration, IsDeclaration}
 use Rattle.wq_graph.specs.declared.arc.WaitArc.{WaitArc}
 use Rattle.wq_graph.specs.Graph.{IsArc, group_graph}
 use Rattle.wq_levels.specs.Walks.{IsWalkedCircle}
-use Rattle.wq_plan.specs.Plan.{IsPlan, chain_of}
+use Rattle.wq_plan.specs.Plan.{IsPlan, chain_of_plan}
 use Rattle.wq_plan.specs.LongestChain.{IsLongestChain}
 use Rattle.wq_plan.specs.CircleOfGroups.{IsCircleOfGroups}
 use Rattle.wq_plan.proofs.LongestChain.{chain_of-longest}
@@ -204,9 +204,9 @@ AllJoin-chain : (s : Declared) (a : Assignment) (chain : List WaitArc) → IsLon
 AllJoin-chain s a chain longest =
     let none : WaitArc = record { src = 0; dst = 0; head = 0; place = 0 } in
     let declared : All (IsArc s.table.waits s.partition.group_of) chain = λ k x within.
-    (longest.arcs k x within).declared in
-    AllJoin-printed s chain none declared longest.joined None
-    (λ some. waits_at s chain none declared longest.joined 0 some)
+    (longest.down.arcs k x within).declared in
+    AllJoin-printed s chain none declared longest.down.joined None
+    (λ some. waits_at s chain none declared longest.down.joined 0 some)
 
 -- ---- each flush falls
 
@@ -274,7 +274,7 @@ module _ (s : Declared) (sound : IsSound s) where
   ShowsPlan-printed a plan =
       let d = declared_waits s in
       let is = IsDeclaration-sound s sound in
-      let chain = chain_of (group_graph d) a.lane_of_group in
+      let chain = chain_of_plan d a.lane_of_group in
       let arcs = map ends_of chain in
       let longest : IsLongestChain d a chain = chain_of-longest d is a plan in
       let few : a.lanes ≤ d.groups = IsPlan-lanes d is a plan in
@@ -284,15 +284,15 @@ module _ (s : Declared) (sound : IsSound s) where
       let short : length arcs ≤ 4095 = omega (
         arith,
         many,
-        longest.count,
+        longest.down.count,
         few,
         is.partition.few_groups,
         is.partition.few_items,
       ) in
       let none : a.lanes ≡ 0 → arcs ≡ [] = λ zero_lanes. length_zero arcs
-      (omega (arith, many, longest.count, zero_lanes)) in
+      (omega (arith, many, longest.down.count, zero_lanes)) in
       let long : (if a.lanes == 0 then 0 else length arcs + 1) ≡ a.lanes = chain_length a.lanes (length arcs)
-      (omega (arith, many, longest.count)) in
+      (omega (arith, many, longest.down.count)) in
       let lanes : a.lanes ≤ 4096 = omega (arith, few, is.partition.few_groups, is.partition.few_items) in
       let said : PlanCertificate = record {
         assignment = a;

@@ -1,40 +1,51 @@
 -- A declaration, an assignment and a run have one answer.
-use Rattle.std.proofs.Common.{◌≡◌, ℕ, List, refl, sym, ap, ◌∙◌}
+use Rattle.std.proofs.Common.{◌≡◌, ℕ, List, Option, refl, sym, ap, ◌∙◌}
 use Rattle.wq_core.specs.declared.step.Step.{Step}
-use Rattle.wq_core.specs.Workqueues.{Workqueues, wiring_of}
+use Rattle.wq_core.specs.Workqueues.{Workqueues}
 use Rattle.wq_text.specs.LineText.{line_text}
-use Rattle.wq_cert.specs.Texts.{workqueues_of_text, run_of, cert_refusal}
+use Rattle.wq_cert.specs.Part.{made_of}
+use Rattle.wq_cert.specs.Texts.{workqueues_of_text, cert_refusal}
 use Rattle.wq_checker.specs.declared.run.RunEnd.{RunEnd}
 use Rattle.wq_checker.proofs.OneAnswer.{one_end}
 use Rattle.wq_checker.proofs.RunsDecided.{an_end}
 use Rattle.wq_commands.specs.declared.end.End.{End}
-use Rattle.wq_groups.specs.DeclaredGroups.{declared_waits, Declared}
+use Rattle.wq_groups.specs.DeclaredGroups.{Declared}
 use Rattle.wq_commands.specs.Answer.{PrintsRefusal}
 use Rattle.wq_commands.specs.Declaration.{declaration}
-use Rattle.wq_commands.specs.Replaying.{replay_words, replay_end, AnswersReplay, ReplaysAssigned, ReplaysDeclared, ReplaysRun}
+use Rattle.wq_commands.specs.Replaying.{wiring_read, replay_words, replay_end, AnswersReplay, ReplaysAssigned}
+use Rattle.wq_commands.specs.Replaying.{ReplaysDeclared, ReplaysRun}
 use Rattle.wq_commands.proofs.Refusals.{MatchResult-unique, MatchResult-exist, PrintsRefusal-unique, PrintsRefusal-exist}
 
-AnswersReplay-unique : (s : Declared) (a : Workqueues) (steps : List Step) (end other : End) (out printed : List ℕ) → AnswersReplay s a steps end out → AnswersReplay s a steps other printed
+AnswersReplay-unique : (s : Declared) (a : Workqueues) (kept : Option (List ℕ)) (steps : List Step) (end other : End)
+    (out printed : List ℕ) → AnswersReplay s a kept steps end out → AnswersReplay s a kept steps other printed
     → (end ≡ other) × (out ≡ printed)
-AnswersReplay-unique s a steps end other out printed one two =
-    let same : one.run_end ≡ two.run_end = one_end (wiring_of (declared_waits s) a) steps one.run_end two.run_end one.ends two.ends in
+AnswersReplay-unique s a kept steps end other out printed one two =
+    let same : one.run_end ≡ two.run_end =
+    one_end (wiring_read s a kept) steps one.run_end two.run_end one.ends two.ends in
     (one.status ∙ ap replay_end same ∙ sym two.status, one.printed ∙ ap (λ (e : RunEnd). line_text (replay_words e)) same ∙ sym two.printed)
 
-AnswersReplay-exist : (s : Declared) (a : Workqueues) (steps : List Step) → (end : End) × (out : List ℕ) × AnswersReplay s a steps end out
-AnswersReplay-exist s a steps =
-    let ended = an_end (wiring_of (declared_waits s) a) steps in
+AnswersReplay-exist : (s : Declared) (a : Workqueues) (kept : Option (List ℕ)) (steps : List Step) → (end : End)
+    × (out : List ℕ) × AnswersReplay s a kept steps end out
+AnswersReplay-exist s a kept steps =
+    let ended = an_end (wiring_read s a kept) steps in
     (replay_end ended.0, line_text (replay_words ended.0), record { run_end = ended.0; ends = ended.1; status = refl; printed = refl })
 
 module _ (steps : List ℕ) where
   ReplaysAssigned-unique : (s : Declared) (a : Workqueues) (end other : End) (out printed : List ℕ) → ReplaysAssigned s a steps end out → ReplaysAssigned s a steps other printed
       → (end ≡ other) × (out ≡ printed)
   ReplaysAssigned-unique s a end other out printed =
-      MatchResult-unique (run_of s.table.names steps) (AnswersReplay s a) (λ fault. PrintsRefusal (cert_refusal fault)) end other out printed
-      (λ made read. AnswersReplay-unique s a made end other out printed) (λ fault. PrintsRefusal-unique (cert_refusal fault) end other out printed)
+      MatchResult-unique (made_of s.table.names s.table.waits steps)
+      (λ (run : Option (List ℕ) × List Step). AnswersReplay s a run.0 run.1)
+      (λ fault. PrintsRefusal (cert_refusal fault)) end other out printed
+      (λ run read. AnswersReplay-unique s a run.0 run.1 end other out printed)
+      (λ fault. PrintsRefusal-unique (cert_refusal fault) end other out printed)
 
   ReplaysAssigned-exist : (s : Declared) (a : Workqueues) → (end : End) × (out : List ℕ) × ReplaysAssigned s a steps end out
   ReplaysAssigned-exist s a =
-      MatchResult-exist (run_of s.table.names steps) (AnswersReplay s a) (λ fault. PrintsRefusal (cert_refusal fault)) (λ made read. AnswersReplay-exist s a made) (λ fault. PrintsRefusal-exist (cert_refusal fault))
+      MatchResult-exist (made_of s.table.names s.table.waits steps)
+      (λ (run : Option (List ℕ) × List Step). AnswersReplay s a run.0 run.1)
+      (λ fault. PrintsRefusal (cert_refusal fault)) (λ run read. AnswersReplay-exist s a run.0 run.1)
+      (λ fault. PrintsRefusal-exist (cert_refusal fault))
 
   module _ (lanes : List ℕ) where
     ReplaysDeclared-unique : (s : Declared) (end other : End) (out printed : List ℕ) → ReplaysDeclared s lanes steps end out → ReplaysDeclared s lanes steps other printed

@@ -8,7 +8,7 @@ use Rattle.wq_groups.specs.Assignment.{Assignment, group_lane, item_lanes}
 use Rattle.wq_graph.specs.declared.arc.WaitArc.{WaitArc}
 use Rattle.wq_graph.specs.Graph.{group_graph}
 use Rattle.wq_levels.specs.Walks.{IsWalkedCircle}
-use Rattle.wq_plan.specs.Plan.{IsPlan, chain_of}
+use Rattle.wq_plan.specs.Plan.{IsPlan, chain_of_plan}
 use Rattle.wq_plan.proofs.Plans.{IsPlan-lanes}
 use Rattle.wq_core.specs.declared.step.Step.{Step}
 use Rattle.wq_core.specs.Wiring.{wiring, own_lanes}
@@ -28,7 +28,7 @@ module _ (s : Declared) (sound : IsSound s) where
 
   module _ (a : Assignment) (plan : IsPlan (declared_waits s) a) where
     abbrev chain : List (ℕ × ℕ)
-    chain = map ends_of (chain_of (group_graph (declared_waits s)) a.lane_of_group)
+    chain = map ends_of (chain_of_plan (declared_waits s) a.lane_of_group)
 
     arcs : ArePrintable s.table chain
     arcs = ArePrintable-plan s a sound plan

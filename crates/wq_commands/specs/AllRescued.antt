@@ -1,14 +1,16 @@
 -- The answers of `deadlock` and of `replay` to workqueues each of which has a rescuer: they speak of an assignment
 -- alone.
-use Rattle.std.specs.Prelude.{◌≡◌, ℕ, List, MatchResult}
+use Rattle.std.specs.Prelude.{◌≡◌, ℕ, List, Option, Some, None, MatchResult}
 use Rattle.wq_groups.specs.Assignment.{Assignment, IsAssignment}
 use Rattle.wq_core.specs.declared.step.Step.{Step}
-use Rattle.wq_core.specs.Wiring.{wiring}
+use Rattle.wq_core.specs.Readings.{reading}
+use Rattle.wq_core.specs.Wiring.{Wiring, wiring}
 use Rattle.wq_core.specs.Deadlock.{IsSafe}
 use Rattle.wq_deadlock.specs.Verdict.{IsDeadlock}
 use Rattle.wq_text.specs.LineText.{line_text}
+use Rattle.wq_cert.specs.Part.{made_of}
 use Rattle.wq_cert.specs.RunText.{run_text}
-use Rattle.wq_cert.specs.Texts.{assignment_of_text, run_of, cert_refusal}
+use Rattle.wq_cert.specs.Texts.{assignment_of_text, cert_refusal}
 use Rattle.wq_checker.specs.declared.run.RunEnd.{RunEnd}
 use Rattle.wq_checker.specs.RunEnds.{EndsAs}
 use Rattle.wq_commands.specs.declared.end.End.{End}
@@ -38,18 +40,25 @@ JudgesAllRescued declared text end out =
     (λ fault. PrintsRefusal (cert_refusal fault) end out))
     (λ r. PrintsRefusal r end out)
 
--- how these steps end under an assignment of a declaration is printed
-pub record ReplaysSteps (s : Declared) (a : Assignment) (steps : List Step) (end : End) (out : List ℕ) : Type 0 where
+-- what the machine sees: the reading that keeps the unsure flushes at these places, or all flushes
+abbrev pub wiring_made : Declared → Assignment → Option (List ℕ) → Wiring
+wiring_made s a None = wiring (declared_waits s) a
+wiring_made s a (Some kept) = reading (wiring (declared_waits s) a) kept
+
+-- how these steps end under an assignment of a declaration is printed, in the reading that keeps these unsure flushes,
+-- or of all flushes
+pub record ReplaysSteps (s : Declared) (a : Assignment) (kept : Option (List ℕ)) (steps : List Step) (end : End)
+    (out : List ℕ) : Type 0 where
   pub run_end : RunEnd
-  pub ends : EndsAs (wiring (declared_waits s) a) steps run_end
+  pub ends : EndsAs (wiring_made s a kept) steps run_end
   pub status : end ≡ replay_end run_end
   pub printed : out ≡ line_text (replay_words run_end)
 
 -- the answer to a run under an assignment of a declaration
 abbrev pub ReplaysAssignment : Declared → Assignment → List ℕ → End → List ℕ → Type 0
 ReplaysAssignment s a text end out =
-    MatchResult (run_of s.table.names text)
-    (λ steps. ReplaysSteps s a steps end out)
+    MatchResult (made_of s.table.names s.table.waits text)
+    (λ run. ReplaysSteps s a run.0 run.1 end out)
     (λ fault. PrintsRefusal (cert_refusal fault) end out)
 
 -- the answer to the texts of a declaration, an assignment and a run, or the refusal of the first that is refused

@@ -7,7 +7,7 @@ use Rattle.wq_graph.specs.Graph.{group_graph}
 use Rattle.wq_levels.specs.Walks.{IsWalkedCircle}
 use Rattle.wq_core.specs.declared.step.Step.{Step}
 use Rattle.wq_core.specs.Wiring.{wiring, own_lanes}
-use Rattle.wq_plan.specs.Plan.{IsPlan, chain_of}
+use Rattle.wq_plan.specs.Plan.{IsPlan, chain_of_plan}
 use Rattle.wq_deadlock.specs.CircleRun.{IsCircleRun}
 use Rattle.wq_commands.specs.declared.end.End.{End}
 use Rattle.wq_commands.specs.declared.end.End.TheVariants.{Good, Bad, Refused}
@@ -33,7 +33,7 @@ ends_of arc = (arc.src, arc.dst)
 abbrev pub text_of_plan : Declared → Assignment → List ℕ
 text_of_plan s a =
     plan_text s.table.names a.lanes (item_lanes a s.partition.group_of)
-    (map ends_of (chain_of (group_graph (declared_waits s)) a.lane_of_group))
+    (map ends_of (chain_of_plan (declared_waits s) a.lane_of_group))
 
 -- the text of a circle, with its run
 abbrev pub text_of_circle : Declared → List WaitArc → List Step → List ℕ

@@ -1,12 +1,13 @@
 -- The commands as functions of what is declared and of the texts behind it: what each finds, how it ends, and what it
 -- answers.
-use Rattle.std.specs.Prelude.{◌≡◌, Bool, true, false, ℕ, List, Some, None, Result}
+use Rattle.std.specs.Prelude.{◌≡◌, Bool, true, false, ℕ, List, Option, Some, None, Result, option_map}
 use Rattle.wq_meter.specs.declared.texts.Limits.{Limits}
 use Rattle.wq_core.specs.declared.step.Step.{Step}
-use Rattle.wq_core.specs.Workqueues.{Workqueues, wiring_of}
+use Rattle.wq_core.specs.Workqueues.{Workqueues}
 use Rattle.wq_text.specs.LineText.{line_text}
 use Rattle.wq_cert.specs.Certificate.{Certificate}
-use Rattle.wq_cert.specs.Texts.{answer_of, max_certificate, run_of, workqueues_of_text}
+use Rattle.wq_cert.specs.Part.{made_of}
+use Rattle.wq_cert.specs.Texts.{answer_of, max_certificate, workqueues_of_text}
 use Rattle.wq_checker.specs.Answers.{AnswersCertificate}
 use Rattle.wq_checker.specs.RunEnds.{EndsAs}
 use Rattle.wq_checker.specs.declared.answer.No.{No}
@@ -23,7 +24,7 @@ use Rattle.wq_commands.specs.Checking.{PrintsCheck}
 use Rattle.wq_commands.specs.Deadlocking.{JudgesAssigned}
 use Rattle.wq_commands.specs.Declaration.{max_declaration}
 use Rattle.wq_commands.specs.Found.{AnswersIn}
-use Rattle.wq_commands.specs.Replaying.{replay_end, replay_words}
+use Rattle.wq_commands.specs.Replaying.{replay_end, replay_words, wiring_read}
 
 -- ---- how many texts there are, and how long they may be
 
@@ -70,19 +71,20 @@ abbrev pub JudgesText : {A : Type 0} → Declared → List ℕ → Found (Verdic
 JudgesText s text = AnswersIn SecondText (workqueues_of_text s.table.names s.partition text) (λ ws. FindsVerdict s ws)
 
 -- how these steps end is found, and printed
-pub record FindsEnd {A : Type 0} (s : Declared) (ws : Workqueues) (steps : List Step) (found : Found (Replayed A))
-    (end : End) (out : List ℕ) : Type 0 where
+pub record FindsEnd {A : Type 0} (s : Declared) (ws : Workqueues) (kept : Option (List ℕ)) (steps : List Step)
+    (found : Found (Replayed A)) (end : End) (out : List ℕ) : Type 0 where
   pub replayed : Replayed A
   pub is : found ≡ Read replayed
   pub workqueues : replayed.workqueues ≡ ws
+  pub keeps : option_map (λ places. places.items) replayed.kept ≡ kept
   pub made : replayed.steps.items ≡ steps
-  pub ends : EndsAs (wiring_of (declared_waits s) ws) steps replayed.end
+  pub ends : EndsAs (wiring_read s ws kept) steps replayed.end
   pub status : end ≡ replay_end replayed.end
   pub printed : out ≡ line_text (replay_words replayed.end)
 
 -- how the run with this text ends on these workqueues
 abbrev pub ReplaysOn : {A : Type 0} → Declared → Workqueues → List ℕ → Found (Replayed A) → End → List ℕ → Type 0
-ReplaysOn s ws text = AnswersIn Run (run_of s.table.names text) (λ steps. FindsEnd s ws steps)
+ReplaysOn s ws text = AnswersIn Run (made_of s.table.names s.table.waits text) (λ run. FindsEnd s ws run.0 run.1)
 
 -- `replay`: how the run with the second of these texts ends on the workqueues with the first
 abbrev pub ReplaysTexts : {A : Type 0} → Declared → List ℕ → List ℕ → Found (Replayed A) → End → List ℕ → Type 0

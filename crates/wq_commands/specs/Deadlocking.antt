@@ -1,22 +1,36 @@
 -- The answer to a declaration and an assignment: that the assignment is safe, or else its deadlocking run.
-use Rattle.std.specs.Prelude.{◌≡◌, ℕ, List, [], ◌∷◌, codes, MatchResult}
+use Rattle.std.specs.Prelude.{◌≡◌, ℕ, Bool, true, false, List, [], ◌∷◌, codes, MatchResult}
 use Rattle.wq_groups.specs.Assignment.{IsAssignment}
 use Rattle.wq_core.specs.declared.step.Step.{Step}
 use Rattle.wq_core.specs.Workqueues.{Workqueues, wiring_of}
 use Rattle.wq_core.specs.Deadlock.{IsSafe}
 use Rattle.wq_deadlock.specs.Judging.{IsHang}
+use Rattle.wq_hang.specs.declared.hop.Hop.{Hop}
+use Rattle.wq_hang.specs.Answer.{IsHangOf}
+use Rattle.wq_hang.specs.Walk.{needs}
 use Rattle.wq_text.specs.LineText.{line_text}
+use Rattle.wq_cert.specs.Part.{has_unsure, reading_text}
 use Rattle.wq_cert.specs.RunText.{run_text}
 use Rattle.wq_cert.specs.Texts.{workqueues_of_text, cert_refusal}
 use Rattle.wq_commands.specs.declared.end.End.{End}
 use Rattle.wq_commands.specs.declared.end.End.TheVariants.{Good, Bad, Refused}
-use Rattle.wq_groups.specs.DeclaredGroups.{declared_waits, Declared}
+use Rattle.wq_groups.specs.DeclaredGroups.{declared_waits, reading_with_names, Declared}
 use Rattle.wq_commands.specs.Answer.{PrintsRefusal}
 use Rattle.wq_commands.specs.Declaration.{declaration}
 
 -- `safe`
 abbrev pub safe_text : List ℕ
 safe_text = line_text (codes "safe" ∷ [])
+
+-- the run is printed by which workqueues hang; if some flush is unsure, behind the fewest unsure flushes that are
+-- enough it is the run of the reading that keeps these: those of a walk that `hang` may print
+abbrev pub PrintsRun : Bool → Declared → Workqueues → List ℕ → Type 0
+PrintsRun false s ws out =
+    (steps : List Step) × IsHang (declared_waits s) ws steps × (out ≡ run_text s.table.names steps)
+PrintsRun true s ws out =
+    (hops : List Hop) × (soonest : List Step) × IsHangOf (declared_waits s) ws hops soonest
+    × (steps : List Step) × IsHang (declared_waits (reading_with_names s (needs hops))) ws steps
+    × (out ≡ reading_text s.table.names s.table.waits (needs hops) steps)
 
 -- the verdict on workqueues of a declaration's groups is printed: `safe` if no run ends stuck; else the run by which
 -- they hang. It ends stuck, with each item queued once and flushing as declared. If some flush leads from a workqueue
@@ -25,8 +39,7 @@ safe_text = line_text (codes "safe" ∷ [])
 abbrev pub JudgesAssigned : Declared → Workqueues → End → List ℕ → Type 0
 JudgesAssigned s ws Good out =
     IsAssignment s.partition.groups ws.assignment × IsSafe (wiring_of (declared_waits s) ws) × (out ≡ safe_text)
-JudgesAssigned s ws Bad out =
-    (steps : List Step) × IsHang (declared_waits s) ws steps × (out ≡ run_text s.table.names steps)
+JudgesAssigned s ws Bad out = PrintsRun (has_unsure s.table.waits) s ws out
 JudgesAssigned s ws Refused out = ⊥
 
 -- the verdict on the text of an assignment of a declaration, or its refusal

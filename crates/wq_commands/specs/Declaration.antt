@@ -1,5 +1,5 @@
 -- What a declaration text declares, pass by pass, or what it is refused for.
-use Rattle.std.specs.Prelude.{ℕ, List, Option, Some, None, Result, Ok, Err}
+use Rattle.std.specs.Prelude.{◌≡◌, ℕ, false, List, Option, Some, None, Result, Ok, Err}
 use Rattle.wq_decl.specs.declared.directive.Directive.{Directive}
 use Rattle.wq_text.specs.Lines.{lines_of}
 use Rattle.wq_text.specs.Limits.{limit_fault, text_refusal}
@@ -11,6 +11,7 @@ use Rattle.wq_items.specs.Building.{table_of, item_refusal}
 use Rattle.wq_groups.specs.declared.fault.GroupError.{GroupError}
 use Rattle.wq_groups.specs.DeclaredGroups.{Declared}
 use Rattle.wq_groups.specs.Partition.{Partition}
+use Rattle.wq_cert.specs.Part.{has_unsure}
 use Rattle.wq_groups.specs.Grouping.{groups_of, group_refusal}
 
 -- how many bytes a declaration may have at most
@@ -42,3 +43,7 @@ declaration text =
     unless_refused text_refusal (limit_fault max_declaration max_declaration_line text)
     (unless_refused decl_refusal (first_fault (lines_of text))
     (by_table (directives (lines_of text)) (table_of (directives (lines_of text)))))
+
+-- no flush that the text declares is unsure
+abbrev pub DeclaresNoUnsure : List ℕ → Type 0
+DeclaresNoUnsure text = (s : Declared) → declaration text ≡ Ok s → has_unsure s.table.waits ≡ false

@@ -23,13 +23,22 @@ use Rattle.wq_commands.specs.Declaration.{max_declaration, max_declaration_line}
 abbrev pub words_in : List ℕ → List (List ℕ)
 words_in line = filter (λ word. nat_lt 0 (length word)) (slice_split is_blank (before_comment line))
 
--- the keyword takes so many names: one for `item`, two or more for `flush`, two for `flushwq`, and one or more for
--- `ordered`. No other word is a keyword
+-- of the keywords of lines that declare flushes, `flushwq` and `flushwq?` are of whole workqueues
+abbrev pub is_of_workqueue : List ℕ → Bool
+is_of_workqueue keyword = bytes_eq keyword (codes "flushwq") || bytes_eq keyword (codes "flushwq?")
+
+-- and `flush?` and `flushwq?` are unsure
+abbrev pub is_unsure : List ℕ → Bool
+is_unsure keyword = bytes_eq keyword (codes "flush?") || bytes_eq keyword (codes "flushwq?")
+
+-- the keyword takes so many names: one for `item`, two or more for `flush`, two for `flushwq`, `flush?` and `flushwq?`,
+-- and one or more for `ordered`. No other word is a keyword
 abbrev pub takes : List ℕ → ℕ → Bool
 takes keyword n =
     if bytes_eq keyword (codes "item") then n == 1
     else (if bytes_eq keyword (codes "flush") then nat_le 2 n
-    else (if bytes_eq keyword (codes "flushwq") then n == 2 else bytes_eq keyword (codes "ordered") && nat_le 1 n))
+    else (if is_of_workqueue keyword || is_unsure keyword then n == 2
+    else bytes_eq keyword (codes "ordered") && nat_le 1 n))
 
 -- no words, or a keyword and as many names as it takes
 abbrev pub is_directive : List (List ℕ) → Bool
@@ -60,26 +69,27 @@ add_item t names =
 
 -- the items, of which the first that is listed now flushes the rest of the list, or
 -- their whole workqueues, unless that makes too many flushes
-abbrev pub add_flushes : Items → Bool → List ℕ → Option Items
-add_flushes t whole [] = Some t
-add_flushes t whole (i ∷ items) =
+abbrev pub add_flushes : Items → Bool → Bool → List ℕ → Option Items
+add_flushes t whole unsure [] = Some t
+add_flushes t whole unsure (i ∷ items) =
     if nat_lt max_flushes (flush_count t.waits + length items) then None
     else Some
     (record t {
       waits =
-          slice_set t.waits i (targets_of t.waits i ++ targets_from whole (flush_count t.waits) items);
+          slice_set t.waits i (targets_of t.waits i
+          ++ targets_from (record { whole = whole; unsure = unsure }) (flush_count t.waits) items);
     })
 
 -- the items after a line of these words, if it may come next: each name on it, but for
 -- that of a new item, must be an item's. The words are a directive or none (`is_read`),
--- so a keyword that is neither `item` nor `ordered` is `flush` or `flushwq`
+-- so a keyword that is neither `item` nor `ordered` is that of flushes
 abbrev pub after_line : Items → List (List ℕ) → Option Items
 after_line t [] = Some t
 after_line t (keyword ∷ names) =
     if bytes_eq keyword (codes "item") then add_item t names
     else (if not (list_all (is_item t.names) names) then None
     else (if bytes_eq keyword (codes "ordered") then Some t
-    else add_flushes t (bytes_eq keyword (codes "flushwq")) (filter_map (item_named t.names) names)))
+    else add_flushes t (is_of_workqueue keyword) (is_unsure keyword) (filter_map (item_named t.names) names)))
 
 -- the items after these lines, if each may come next
 abbrev pub after_lines : Items → List (List (List ℕ)) → Option Items

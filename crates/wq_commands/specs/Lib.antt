@@ -11,6 +11,7 @@ pub use Rattle.wq_plan.specs.Plan
 pub mod Answer
 pub mod DeclaredIn
 pub mod Promise
+pub mod HangPromise
 pub mod Shown
 pub mod PromiseRead
 pub mod PrintedChecked

@@ -1,9 +1,12 @@
 -- The answer to a declaration, an assignment and a run: how the run ends.
-use Rattle.std.specs.Prelude.{◌≡◌, ℕ, List, [], ◌∷◌, codes, decimal, MatchResult}
+use Rattle.std.specs.Prelude.{◌≡◌, ℕ, List, [], ◌∷◌, codes, decimal, MatchResult, Option, Some, None}
 use Rattle.wq_core.specs.declared.step.Step.{Step}
 use Rattle.wq_core.specs.Workqueues.{Workqueues, wiring_of}
+use Rattle.wq_core.specs.Readings.{reading}
+use Rattle.wq_core.specs.Wiring.{Wiring}
 use Rattle.wq_text.specs.LineText.{line_text}
-use Rattle.wq_cert.specs.Texts.{workqueues_of_text, run_of, cert_refusal}
+use Rattle.wq_cert.specs.Part.{made_of}
+use Rattle.wq_cert.specs.Texts.{workqueues_of_text, cert_refusal}
 use Rattle.wq_checker.specs.declared.run.RunEnd.{RunEnd}
 use Rattle.wq_checker.specs.declared.run.RunEnd.TheVariants.{NotLawful, Deadlock, Stuck, Free}
 use Rattle.wq_checker.specs.RunEnds.{EndsAs}
@@ -27,18 +30,25 @@ replay_end Deadlock = Bad
 replay_end Stuck = Bad
 replay_end (NotLawful n) = Bad
 
--- how these steps end under an assignment of a declaration is printed
-pub record AnswersReplay (s : Declared) (ws : Workqueues) (steps : List Step) (end : End) (out : List ℕ) : Type 0 where
+-- what the machine sees: the reading that keeps the unsure flushes at these places, or all flushes
+abbrev pub wiring_read : Declared → Workqueues → Option (List ℕ) → Wiring
+wiring_read s ws None = wiring_of (declared_waits s) ws
+wiring_read s ws (Some kept) = reading (wiring_of (declared_waits s) ws) kept
+
+-- how these steps end under an assignment of a declaration is printed, in the reading that keeps these unsure flushes,
+-- or of all flushes
+pub record AnswersReplay (s : Declared) (ws : Workqueues) (kept : Option (List ℕ)) (steps : List Step) (end : End)
+    (out : List ℕ) : Type 0 where
   pub run_end : RunEnd
-  pub ends : EndsAs (wiring_of (declared_waits s) ws) steps run_end
+  pub ends : EndsAs (wiring_read s ws kept) steps run_end
   pub status : end ≡ replay_end run_end
   pub printed : out ≡ line_text (replay_words run_end)
 
 -- the answer to a run under an assignment of a declaration
 abbrev pub ReplaysAssigned : Declared → Workqueues → List ℕ → End → List ℕ → Type 0
 ReplaysAssigned s ws text end out =
-    MatchResult (run_of s.table.names text)
-    (λ steps. AnswersReplay s ws steps end out)
+    MatchResult (made_of s.table.names s.table.waits text)
+    (λ run. AnswersReplay s ws run.0 run.1 end out)
     (λ fault. PrintsRefusal (cert_refusal fault) end out)
 
 -- the answer to an assignment of a declaration and a run

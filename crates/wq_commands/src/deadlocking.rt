@@ -1,12 +1,17 @@
 //! The answer to a declaration and an assignment, built in full in memory.
 //!
-//! The rule is that of "Deadlocking runs" in docs/FORMAT.md. It takes the time and the memory of reading the two texts
-//! and of the verdict, whose run has 45,056 steps at most.
+//! The rules are those of "Deadlocking runs" and "Unsure lines" in docs/FORMAT.md. It takes the time and the memory of
+//! reading the two texts and of the verdict, whose run has 45,056 steps at most; and if a flush is unsure, of the
+//! search for the fewest that are enough.
 
-ghost use Rattle.std.specs.Prelude.{◌≡◌, length, IfOk};
+ghost use Rattle.std.specs.Prelude.{◌≡◌, true, false, length, IfOk};
+ghost use Rattle.wq_cert.specs.Part.{has_unsure};
 ghost use Rattle.wq_cert.specs.RunText.{run_text};
+ghost use Rattle.wq_core.specs.Deadlock.{IsSafe};
+ghost use Rattle.wq_core.specs.Readings.{reading};
+ghost use Rattle.wq_core.specs.Workqueues.{wiring_of};
 ghost use Rattle.wq_deadlock.specs.Judging.{IsHang, IsJudged};
-ghost use Rattle.wq_groups.specs.DeclaredGroups.{declared_waits};
+ghost use Rattle.wq_groups.specs.DeclaredGroups.{declared_waits, reading_with_names};
 ghost use Rattle.wq_commands.specs.Commands.{FindsVerdict, JudgesText};
 ghost use Rattle.wq_commands.specs.Deadlocking.{safe_text, JudgesAssigned};
 
@@ -15,10 +20,11 @@ use crate::end::End;
 use crate::found::{Found, Which};
 use crate::shell::Answered;
 use std::alloc::{AllocError, Allocator};
-use wq_cert::run_text;
+use wq_cert::{has_unsure, reading_text, run_text};
 use wq_core::{Assigned, Step, Workqueues};
 use wq_deadlock::{Judged, judge as judge_workqueues};
 use wq_groups::Declaration;
+use wq_hang::{Answer, hang, needed_places};
 use wq_text::{put, put_end};
 
 /// Workqueues, and the verdict on them: good if they are safe, and bad if they can hang.
@@ -52,13 +58,55 @@ fn deadlock_text<A: Allocator + Copy>(
     run_text(alloc, assigned.table(), steps)
 }
 
+/// The deadlocking run of the reading that keeps the unsure flushes at these places; no step where it is safe.
+fn deadlock_of_reading<A: Allocator + Copy>(
+    alloc: A,
+    assigned: &Assigned<'_, '_, A>,
+    kept: &[u32],
+) -> Result<Vec<Step, A>, AllocError>
+    requires { ¬ IsSafe (reading (wiring_of (declared_waits assigned.now.declared) assigned.now.workqueues) kept.now) }
+    ensures { IfOk result (λ steps. IsHang (declared_waits (reading_with_names assigned.now.declared kept.now))
+        assigned.now.workqueues steps.items) }
+{
+    let declared = assigned.declared.reading(alloc, kept)?;
+    match judge_workqueues(alloc, &Assigned::new(&declared, assigned.workqueues()))? {
+        Judged::Safe => Ok(Vec::new(alloc)),
+        Judged::Deadlock(steps) => Ok(steps),
+    }
+}
+
+/// What is printed of workqueues of groups that declare an unsure flush: the fewest that are enough, and the
+/// deadlocking run of the reading that keeps these.
+fn judge_unsure<A: Allocator + Copy>(
+    alloc: A,
+    assigned: &Assigned<'_, '_, A>,
+) -> Result<(End, Vec<u8, A>), AllocError>
+    requires { has_unsure assigned.now.declared.table.waits ≡ true }
+    ensures { IfOk result (λ printed.
+        JudgesAssigned assigned.now.declared assigned.now.workqueues printed.0 printed.1.items) }
+{
+    match hang(alloc, assigned)? {
+        Answer::Safe => {
+            let text = safe_text(alloc)?;
+            Ok((End::Good, text))
+        }
+        Answer::Hang(hops, _) => {
+            let kept = needed_places(alloc, hops.as_slice())?;
+            let steps = deadlock_of_reading(alloc, assigned, kept.as_slice())?;
+            let text = reading_text(alloc, assigned.table(), kept.as_slice(), steps.as_slice())?;
+            Ok((End::Bad, text))
+        }
+    }
+}
+
 /// What is printed of this verdict on workqueues.
 fn print_verdict<A: Allocator + Copy>(
     alloc: A,
     assigned: &Assigned<'_, '_, A>,
     judged: &Judged<A>,
 ) -> Result<(End, Vec<u8, A>), AllocError>
-    requires { IsJudged (declared_waits assigned.now.declared) assigned.now.workqueues judged.now }
+    requires judged { IsJudged (declared_waits assigned.now.declared) assigned.now.workqueues judged.now }
+    requires sure { has_unsure assigned.now.declared.table.waits ≡ false }
     ensures { IfOk result (λ printed.
         JudgesAssigned assigned.now.declared assigned.now.workqueues printed.0 printed.1.items) }
 {
@@ -82,6 +130,9 @@ fn judge_assigned<A: Allocator + Copy>(
     ensures { IfOk result (λ printed.
         JudgesAssigned assigned.now.declared assigned.now.workqueues printed.0 printed.1.items) }
 {
+    if has_unsure(assigned.table()) {
+        return judge_unsure(alloc, assigned);
+    }
     let judged = judge_workqueues(alloc, assigned)?;
     print_verdict(alloc, assigned, &judged)
 }

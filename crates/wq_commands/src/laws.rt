@@ -48,7 +48,9 @@ ghost use Rattle.wq_commands.specs.declared.found.Found.{Found};
 ghost use Rattle.wq_commands.specs.declared.replaying.Replayed.{Replayed};
 ghost use Rattle.wq_meter.specs.Meter.{WritesWhole};
 ghost use Rattle.wq_meter.specs.Shell.{AreFrom, Given, GivesIf, Tells};
-ghost use Rattle.wq_commands.specs.Declaration.{declaration, max_declaration};
+ghost use Rattle.wq_commands.specs.HangPromise.{KeepsVerdict};
+ghost use Rattle.wq_commands.specs.Declaration.{DeclaresNoUnsure, declaration, max_declaration};
+ghost use Rattle.wq_cert.specs.Part.{has_unsure};
 ghost use Rattle.wq_commands.specs.declared.end.End.{End};
 ghost use Rattle.wq_commands.specs.declared.end.End.TheVariants.{Good, Bad, Refused};
 
@@ -194,13 +196,22 @@ pub fn a_flush_within_an_ordered_line_is_a_circle()
         (codes "circle 1\narc a b\nrun 4\nqueue a\nqueue b\nstart 0 a\nwait 0 b\n") }
 {}
 
-/// A declaration and an assignment have only one verdict: one end, and one text that is printed.
+/// A declaration and an assignment have only one verdict: one end, and, where no flush is unsure, one text that is
+/// printed. (Where some are, several sets of them may be the fewest that are enough.)
 pub fn an_assignment_has_one_verdict()
     ensures one { (declared text : List ℕ) → (end : End) × (out : List ℕ) × Judges declared text end out }
     ensures end { (declared text : List ℕ) (end other : End) (out printed : List ℕ) → Judges declared text end out →
         Judges declared text other printed → end ≡ other }
-    ensures out { (declared text : List ℕ) (end other : End) (out printed : List ℕ) → Judges declared text end out →
-        Judges declared text other printed → out ≡ printed }
+    ensures out { (declared text : List ℕ) (end other : End) (out printed : List ℕ) → DeclaresNoUnsure declared →
+        Judges declared text end out → Judges declared text other printed → out ≡ printed }
+{}
+
+/// A verdict keeps what it promises of all readings. Beside `safe` no run ends stuck, whatever the unsure flushes turn
+/// out to be. A run that is printed deadlocks in the reading that keeps the unsure flushes printed with it, and no
+/// reading that keeps fewer hangs.
+pub fn a_verdict_keeps_its_promise()
+    ensures { (declared lanes : List ℕ) (end : End) (out : List ℕ) → Judges declared lanes end out →
+        KeepsVerdict declared lanes end out }
 {}
 
 /// The run that `deadlock` prints is read back: given the same declaration and
@@ -237,12 +248,13 @@ pub fn a_replay_has_an_answer()
 {}
 
 /// Each of `plan`, `check`, `deadlock` and `replay` has at most one answer to its texts: one end, and one text that is
-/// printed. So `what_is_said_changes_no_answer` holds of it.
+/// printed; `deadlock` where no flush is unsure. So `what_is_said_changes_no_answer` holds of it.
 pub fn each_command_has_one_answer<A: Allocator>()
     ensures plan { HasOneAnswer (λ s _ found end out. FindsPlan s found end out) }
     ensures check { HasOneAnswer (λ s texts found end out. ChecksText s texts.second found end out) }
     ensures deadlock { HasOneAnswer
-        (λ s texts (found : Found (Verdict A)) end out. JudgesText s texts.second found end out) }
+        (λ s texts (found : Found (Verdict A)) end out. (has_unsure s.table.waits ≡ false)
+        × JudgesText s texts.second found end out) }
     ensures replay { HasOneAnswer
         (λ s texts (found : Found (Replayed A)) end out. ReplaysTexts s texts.second texts.third found end out) }
 {}
@@ -325,7 +337,7 @@ pub fn workqueues_that_have_rescuers_are_an_assignment()
 pub fn a_text_without_norescuer_lines_keeps_its_answers()
     ensures deadlock { (declared text : List ℕ) (end : End) (out : List ℕ) →
         list_any is_bare_line (cert_lines (lines_of text)) ≡ false →
-        (Judges declared text end out ↔ JudgesAllRescued declared text end out) }
+        DeclaresNoUnsure declared → (Judges declared text end out ↔ JudgesAllRescued declared text end out) }
     ensures replay { (declared text steps : List ℕ) (end : End) (out : List ℕ) →
         list_any is_bare_line (cert_lines (lines_of text)) ≡ false →
         (ReplaysRun declared text steps end out ↔ ReplaysAllRescued declared text steps end out) }

@@ -2,20 +2,20 @@
 //!
 //! It takes the time and the memory of reading the three texts and of making the steps.
 
-ghost use Rattle.std.specs.Prelude.{◌≡◌, ◌∷◌, [], ◌<◌, IfOk, length, codes, decimal};
+ghost use Rattle.std.specs.Prelude.{◌≡◌, ◌∷◌, [], ◌<◌, IfOk, length, codes, decimal, option_map};
 ghost use Rattle.wq_core.specs.Workqueues.{wiring_of};
 ghost use Rattle.wq_text.specs.LineText.{line_text};
 ghost use Rattle.wq_checker.specs.RunEnds.{EndsAs};
 ghost use Rattle.wq_groups.specs.DeclaredGroups.{declared_waits};
 ghost use Rattle.wq_commands.specs.Commands.{FindsEnd, ReplaysOn, ReplaysTexts};
-ghost use Rattle.wq_commands.specs.Replaying.{replay_words, replay_end};
+ghost use Rattle.wq_commands.specs.Replaying.{replay_words, replay_end, wiring_read};
 
 use crate::assigned::workqueues_of;
 use crate::end::End;
 use crate::found::{Found, Which};
 use crate::shell::Answered;
 use std::alloc::{AllocError, Allocator};
-use wq_cert::read_run;
+use wq_cert::{ReadRun, read_made};
 use wq_checker::{RunEnd, check_run_on};
 use wq_core::{Assigned, Step, Workqueues};
 use wq_groups::Declaration;
@@ -25,6 +25,8 @@ use wq_text::{put, put_end, put_number};
 #[derive(Drop)]
 pub struct Replayed<A: Allocator> {
     pub workqueues: Workqueues<A>,
+    /// The places of the unsure flushes of the reading in which the steps were made; nothing where all flushes count.
+    pub kept: Option<Vec<u32, A>>,
     pub steps: Vec<Step, A>,
     pub end: RunEnd,
 }
@@ -72,23 +74,25 @@ fn replay_end(end: RunEnd) -> End
     }
 }
 
-/// The answer to a run that makes these steps on workqueues of the declared groups.
-fn replay_steps<A: Allocator + Copy>(
+/// The answer to a run that was read, on workqueues of the declared groups.
+fn replay_run<A: Allocator + Copy>(
     alloc: A,
     declared: &Declaration<'_, A>,
     workqueues: Workqueues<A>,
-    steps: Vec<Step, A>,
+    run: ReadRun<A>,
 ) -> Result<Answered<A, Found<Replayed<A>>>, AllocError>
     requires assigned { length workqueues.assignment.lane_of_group ≡ declared.now.partition.groups }
-    requires few { length steps.items < 4294967295 }
-    ensures { IfOk result (λ a. FindsEnd declared.now workqueues steps.items a.found a.end a.text.items) }
+    requires few { length run.steps.items < 4294967295 }
+    ensures { IfOk result (λ a. FindsEnd declared.now workqueues (option_map (λ places. places.items) run.kept)
+        run.steps.items a.found a.end a.text.items) }
 {
-    let assigned = Assigned::new(declared, &workqueues);
-    let end = end_of_steps(alloc, &assigned, steps.as_slice())?;
+    let ReadRun { kept, steps } = run;
+    let end = end_in_reading(alloc, declared, &workqueues, &kept, steps.as_slice())?;
     let text = replay_text(alloc, end)?;
     Ok(Answered {
         found: Found::Read(Replayed {
             workqueues,
+            kept,
             steps,
             end,
         }),
@@ -116,6 +120,29 @@ fn end_of_steps<A: Allocator + Copy>(
     )
 }
 
+/// How these steps end on workqueues of the declared groups, in the reading that keeps the unsure flushes at these
+/// places, or of all flushes.
+fn end_in_reading<A: Allocator + Copy>(
+    alloc: A,
+    declared: &Declaration<'_, A>,
+    workqueues: &Workqueues<A>,
+    kept: &Option<Vec<u32, A>>,
+    steps: &[Step],
+) -> Result<RunEnd, AllocError>
+    requires assigned { length workqueues.now.assignment.lane_of_group ≡ declared.now.partition.groups }
+    requires few { length steps.now < 4294967295 }
+    ensures { IfOk result (EndsAs
+        (wiring_read declared.now workqueues.now (option_map (λ places. places.items) kept.now)) steps.now) }
+{
+    match kept {
+        Some(kept) => {
+            let reading = declared.reading(alloc, kept.as_slice())?;
+            end_of_steps(alloc, &Assigned::new(&reading, workqueues), steps)
+        }
+        None => end_of_steps(alloc, &Assigned::new(declared, workqueues), steps),
+    }
+}
+
 /// The answer to workqueues of the declared groups and the text of a run.
 fn replay_on<A: Allocator + Copy>(
     alloc: A,
@@ -126,8 +153,8 @@ fn replay_on<A: Allocator + Copy>(
     requires { length workqueues.assignment.lane_of_group ≡ declared.now.partition.groups }
     ensures { IfOk result (λ a. ReplaysOn declared.now workqueues text.now a.found a.end a.text.items) }
 {
-    match read_run(alloc, text, &declared.table) {
-        Ok(steps) => replay_steps(alloc, declared, workqueues, steps),
+    match read_made(alloc, text, &declared.table) {
+        Ok(read) => replay_run(alloc, declared, workqueues, read),
         Err(fault) => {
             let answer = Answered::unread(alloc, Which::Run, fault);
             // Written as a call, so that the proof has one step for it.

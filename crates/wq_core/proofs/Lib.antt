@@ -36,3 +36,4 @@ pub mod Padding
 pub mod Starts
 pub mod Places
 pub mod HelpSteps
+pub mod MoreFlushes

@@ -8,6 +8,7 @@ pub mod State
 pub mod Rules
 pub mod Runs
 pub mod Deadlock
+pub mod Readings
 pub mod Played
 pub mod Work
 pub mod Held

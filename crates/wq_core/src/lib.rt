@@ -17,6 +17,7 @@ pub mod laws;
 mod machine;
 mod pending;
 mod questions;
+pub mod reading_laws;
 mod step;
 mod targets;
 mod work;

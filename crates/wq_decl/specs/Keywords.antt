@@ -2,7 +2,8 @@
 use Rattle.std.specs.Prelude.{ℕ, if◌then◌else◌, List, [], ◌∷◌, Option, Some, None, bytes_eq, codes}
 use Rattle.wq_text.specs.Words.{WordView}
 use Rattle.wq_decl.specs.declared.keyword.Keyword.{Keyword}
-use Rattle.wq_decl.specs.declared.keyword.Keyword.TheVariants.{Item, Flush, FlushWq, Ordered}
+use Rattle.wq_decl.specs.declared.keyword.Keyword.TheVariants.{Item, Flush, FlushWq, FlushUnsure, FlushWqUnsure}
+use Rattle.wq_decl.specs.declared.keyword.Keyword.TheVariants.{Ordered}
 
 -- the keyword that a word is, byte by byte
 abbrev pub keyword_of : List ℕ → Option Keyword
@@ -10,7 +11,9 @@ keyword_of word =
     if bytes_eq word (codes "item") then Some Item
     else (if bytes_eq word (codes "flush") then Some Flush
     else (if bytes_eq word (codes "flushwq") then Some FlushWq
-    else (if bytes_eq word (codes "ordered") then Some Ordered else None)))
+    else (if bytes_eq word (codes "flush?") then Some FlushUnsure
+    else (if bytes_eq word (codes "flushwq?") then Some FlushWqUnsure
+    else (if bytes_eq word (codes "ordered") then Some Ordered else None)))))
 
 -- words cut after the first: it as a keyword, if it is one, and the others; nothing if there are none
 abbrev pub keyword_cut : List WordView → Option (Option Keyword × List WordView)

@@ -8,7 +8,7 @@ use Rattle.wq_text.specs.Comments.{before_comment}
 use Rattle.wq_text.specs.Words.{WordView, words_of}
 use Rattle.wq_text.specs.Refusal.{Refusal}
 use Rattle.wq_decl.specs.declared.directive.Directive.{Directive}
-use Rattle.wq_decl.specs.declared.directive.Directive.TheVariants.{Item, Flush, FlushWq, Ordered}
+use Rattle.wq_decl.specs.declared.directive.Directive.TheVariants.{Item, Flush, FlushWq, Unsure, Ordered}
 use Rattle.wq_decl.specs.declared.fault.DeclError.{DeclError}
 use Rattle.wq_decl.specs.declared.fault.DeclError.TheVariants.{BadByte, UnknownWord, MissingName, ExtraWord, BadName}
 use Rattle.wq_decl.specs.declared.keyword.Keyword.{Keyword}
@@ -41,6 +41,14 @@ flushwq_reading n (name ∷ target ∷ []) =
     if are_names (name ∷ target ∷ []) then Ok (Some (FlushWq name target)) else Err (BadName n)
 flushwq_reading n (name ∷ target ∷ extra ∷ others) = Err (ExtraWord n)
 
+-- the words after `flush?` on line n, or after `flushwq?`, of a whole workqueue: two names
+abbrev pub unsure_reading : ℕ → Bool → List WordView → Result (Option Directive) DeclError
+unsure_reading n whole [] = Err (MissingName n)
+unsure_reading n whole (name ∷ []) = Err (MissingName n)
+unsure_reading n whole (name ∷ target ∷ []) =
+    if are_names (name ∷ target ∷ []) then Ok (Some (Unsure name target whole)) else Err (BadName n)
+unsure_reading n whole (name ∷ target ∷ extra ∷ others) = Err (ExtraWord n)
+
 -- the words after `ordered` on line n: at least one name
 abbrev pub ordered_reading : ℕ → List WordView → Result (Option Directive) DeclError
 ordered_reading n [] = Err (MissingName n)
@@ -52,6 +60,8 @@ reading_after None n words = Err (UnknownWord n)
 reading_after (Some keyword.Item) n words = item_reading n words
 reading_after (Some keyword.Flush) n words = flush_reading n words
 reading_after (Some keyword.FlushWq) n words = flushwq_reading n words
+reading_after (Some keyword.FlushUnsure) n words = unsure_reading n false words
+reading_after (Some keyword.FlushWqUnsure) n words = unsure_reading n true words
 reading_after (Some keyword.Ordered) n words = ordered_reading n words
 
 -- the words of line n: none on a blank line, else what follows its keyword says
@@ -89,6 +99,7 @@ abbrev pub is_ordered : Directive → Bool
 is_ordered (Item name) = false
 is_ordered (Flush name targets) = false
 is_ordered (FlushWq name target) = false
+is_ordered (Unsure name target whole) = false
 is_ordered (Ordered names) = true
 
 -- some line is an `ordered` line
@@ -100,6 +111,7 @@ abbrev pub ordered_line : ℕ × Directive → Option (ℕ × List WordView)
 ordered_line (n, Item name) = None
 ordered_line (n, Flush name targets) = None
 ordered_line (n, FlushWq name target) = None
+ordered_line (n, Unsure name target whole) = None
 ordered_line (n, Ordered names) = Some (n, names)
 
 -- the `ordered` lines among directives, in order
@@ -112,6 +124,7 @@ HasNames (Item name) = IsTrue (is_name name.bytes)
 HasNames (Flush name targets) =
     IsTrue (is_name name.bytes) × AllByRecursion (λ (w : WordView). IsTrue (is_name w.bytes)) targets
 HasNames (FlushWq name target) = IsTrue (is_name name.bytes) × IsTrue (is_name target.bytes)
+HasNames (Unsure name target whole) = IsTrue (is_name name.bytes) × IsTrue (is_name target.bytes)
 HasNames (Ordered names) = AllByRecursion (λ (w : WordView). IsTrue (is_name w.bytes)) names
 
 -- code 3, 4, 5, 12 or 6, with the line

@@ -20,19 +20,26 @@ IsUnknown first others =
     (first.bytes ≢ codes "item")
     × (first.bytes ≢ codes "flush")
     × (first.bytes ≢ codes "flushwq")
+    × (first.bytes ≢ codes "flush?")
+    × (first.bytes ≢ codes "flushwq?")
     × (first.bytes ≢ codes "ordered")
 
--- no word follows `item` or `ordered`, or fewer than two follow `flush` or `flushwq`
+-- the first word is one that exactly two names follow
+abbrev pub TakesTwo : WordView → Type 0
+TakesTwo first =
+    (first.bytes ≡ codes "flushwq") ⊎ ((first.bytes ≡ codes "flush?") ⊎ (first.bytes ≡ codes "flushwq?"))
+
+-- no word follows `item` or `ordered`, or fewer than two follow `flush`, `flushwq`, `flush?` or `flushwq?`
 abbrev pub LacksName : WordView → List WordView → Type 0
 LacksName first others =
     (((first.bytes ≡ codes "item") ⊎ (first.bytes ≡ codes "ordered")) × (length others < 1))
-    ⊎ (((first.bytes ≡ codes "flush") ⊎ (first.bytes ≡ codes "flushwq")) × (length others < 2))
+    ⊎ (((first.bytes ≡ codes "flush") ⊎ TakesTwo first) × (length others < 2))
 
--- more than one word follows `item`, or more than two follow `flushwq`
+-- more than one word follows `item`, or more than two follow `flushwq`, `flush?` or `flushwq?`
 abbrev pub HasExtraWord : WordView → List WordView → Type 0
 HasExtraWord first others =
     ((first.bytes ≡ codes "item") × (1 < length others))
-    ⊎ ((first.bytes ≡ codes "flushwq") × (2 < length others))
+    ⊎ (TakesTwo first × (2 < length others))
 
 -- some word after the first isn't a name
 abbrev pub HasBadName : WordView → List WordView → Type 0

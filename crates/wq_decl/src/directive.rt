@@ -17,6 +17,9 @@ pub enum Directive<'a> {
     /// `flushwq NAME TARGET`: the item with this name may flush the whole workqueue
     /// of the target each time that it runs.
     FlushWq(Word<'a>, Word<'a>),
+    /// `flush? NAME TARGET`, or `flushwq? NAME TARGET` where the flag is set: whether the item with this name may flush
+    /// the target, or its whole workqueue, isn't decided.
+    Unsure(Word<'a>, Word<'a>, bool),
     /// `ordered NAME..`: the items with these names share one ordered workqueue.
     Ordered(Words<'a>),
 }

@@ -1,9 +1,9 @@
 //! The keyword of a line: its first word, which says which directive the line holds.
 //!
 //! The directives are those of "Directives" in docs/FORMAT.md. Each reader of a declaration asks here which of them a
-//! line holds, and nobody else looks at a first word. Most lines begin with `flush`, `item` or `ordered`, without a
-//! blank before it and with a space after it. Of these the word isn't cut: it is compared where it would be. A call
-//! takes time in the bytes up to the end of the first word.
+//! line holds, and nobody else looks at a first word. Most lines begin with `flush`, `flush?`, `item` or `ordered`,
+//! without a blank before it and with a space after it. Of these the word isn't cut: it is compared where it would be.
+//! A call takes time in the bytes up to the end of the first word.
 
 ghost use Rattle.std.specs.Prelude.{◌≡◌};
 ghost use Rattle.wq_text.specs.Words.{words_of};
@@ -20,6 +20,10 @@ pub enum Keyword {
     Flush,
     /// `flushwq`, of `Directive::FlushWq`.
     FlushWq,
+    /// `flush?`, of `Directive::Unsure`.
+    FlushUnsure,
+    /// `flushwq?`, of `Directive::Unsure`, too.
+    FlushWqUnsure,
     /// `ordered`, of `Directive::Ordered`.
     Ordered,
 }
@@ -35,6 +39,10 @@ impl Keyword {
             Some(Keyword::Flush)
         } else if word == b"flushwq".as_slice() {
             Some(Keyword::FlushWq)
+        } else if word == b"flush?".as_slice() {
+            Some(Keyword::FlushUnsure)
+        } else if word == b"flushwq?".as_slice() {
+            Some(Keyword::FlushWqUnsure)
         } else if word == b"ordered".as_slice() {
             Some(Keyword::Ordered)
         } else {
@@ -63,6 +71,9 @@ fn cut_other<'a>(line: &Line<'a>) -> Option<(Option<Keyword>, Words<'a>)>
     }
     if let Some(words) = line.words_after(b"ordered") {
         return Some((Some(Keyword::Ordered), words));
+    }
+    if let Some(words) = line.words_after(b"flush?") {
+        return Some((Some(Keyword::FlushUnsure), words));
     }
     cut_first(line)
 }

@@ -21,6 +21,8 @@ fn read_known_after<'a>(keyword: Option<Keyword>, mut words: Words<'a>) -> Optio
             Some(Directive::Flush(name, words))
         }
         Keyword::FlushWq => Some(Directive::FlushWq(words.next()?, words.next()?)),
+        Keyword::FlushUnsure => Some(Directive::Unsure(words.next()?, words.next()?, false)),
+        Keyword::FlushWqUnsure => Some(Directive::Unsure(words.next()?, words.next()?, true)),
         Keyword::Ordered => Some(Directive::Ordered(words)),
     }
 }

@@ -22,7 +22,11 @@ fn read_ordered_line<'a>(line: &Line<'a>) -> Option<(u32, Words<'a>)>
 {
     let (keyword, names) = cut_keyword(line)?;
     match keyword? {
-        Keyword::Item | Keyword::Flush | Keyword::FlushWq => None,
+        Keyword::Item
+        | Keyword::Flush
+        | Keyword::FlushWq
+        | Keyword::FlushUnsure
+        | Keyword::FlushWqUnsure => None,
         Keyword::Ordered => Some((line.no(), names)),
     }
 }

@@ -8,7 +8,7 @@ ghost use Rattle.std.specs.List.{list_all};
 ghost use Rattle.wq_text.specs.Words.{words_of};
 ghost use Rattle.wq_decl.specs.Names.{is_name_byte, is_name, are_names};
 ghost use Rattle.wq_decl.specs.Reading.{is_text_byte, item_reading, flush_reading, flushwq_reading, ordered_reading};
-ghost use Rattle.wq_decl.specs.Reading.{reading_after, words_reading, reading};
+ghost use Rattle.wq_decl.specs.Reading.{unsure_reading, reading_after, words_reading, reading};
 
 use crate::directive::Directive;
 use crate::fault::DeclError;
@@ -134,6 +134,29 @@ fn read_flushwq<'a>(line: u32, mut words: Words<'a>) -> Result<Option<Directive<
     Ok(Some(Directive::FlushWq(name, target)))
 }
 
+/// The words after `flush?` on this line, or after `flushwq?`, whose flush is of a whole workqueue.
+fn read_unsure<'a>(
+    line: u32,
+    whole: bool,
+    mut words: Words<'a>,
+) -> Result<Option<Directive<'a>>, DeclError>
+    ensures { result ≡ unsure_reading line whole words.entry }
+{
+    let Some(name) = words.next() else {
+        return Err(DeclError::MissingName { line });
+    };
+    let Some(target) = words.next() else {
+        return Err(DeclError::MissingName { line });
+    };
+    if words.next().is_some() {
+        return Err(DeclError::ExtraWord { line });
+    }
+    if !is_name(name.bytes()) || !is_name(target.bytes()) {
+        return Err(DeclError::BadName { line });
+    }
+    Ok(Some(Directive::Unsure(name, target, whole)))
+}
+
 /// The words after `ordered` on this line.
 fn read_ordered<'a>(line: u32, mut words: Words<'a>) -> Result<Option<Directive<'a>>, DeclError>
     ensures { result ≡ ordered_reading line words.entry }
@@ -161,6 +184,8 @@ fn read_after<'a>(
         Some(Keyword::Item) => read_item(line, words),
         Some(Keyword::Flush) => read_flush(line, words),
         Some(Keyword::FlushWq) => read_flushwq(line, words),
+        Some(Keyword::FlushUnsure) => read_unsure(line, false, words),
+        Some(Keyword::FlushWqUnsure) => read_unsure(line, true, words),
         Some(Keyword::Ordered) => read_ordered(line, words),
         None => Err(DeclError::UnknownWord { line }),
     }

@@ -13,9 +13,7 @@ use Rattle.wq_core.specs.Rules.{Lawful, effect}
 use Rattle.wq_core.specs.Runs.{after, IsRun, IsRunFrom, end_of, IsHelp, HasNoHelp}
 use Rattle.wq_core.specs.Held.{Machine, AreDone, IsRefusal, UsesUp}
 use Rattle.wq_core.proofs.RunLemmas.{next-effect}
-use Rattle.wq_cert.specs.Ranges.{IsStepOf}
-use Rattle.wq_cert.specs.Texts.{run_of}
-use Rattle.wq_cert.proofs.ReadRanges.{IsRunOf-run_of}
+use Rattle.wq_cert.specs.Ranges.{IsRunOf, IsStepOf}
 use Rattle.wq_checker.specs.declared.run.RunEnd.TheVariants as ends
 use Rattle.wq_checker.specs.RunEnds.{IsFirstUnlawful}
 use Rattle.wq_checker.proofs.OneAnswer.{one_end}
@@ -51,14 +49,14 @@ no_help-at (x ∷ steps) zero step none stands =
 no_help-at (x ∷ steps) (suc k) step none stands = no_help-at steps k step (All-tail NotHelp x steps none) stands
 
 -- no step that a text of a run says is a helper's
-pub no_help : (names : List (List ℕ)) (text : List ℕ) (steps : List Step) → run_of names text ≡ Ok steps → HasNoHelp steps
-no_help names text steps read = weaken steps (IsRunOf-run_of names text steps read).known
+pub no_help : (items : ℕ) (steps : List Step) → IsRunOf items steps → HasNoHelp steps
+no_help items steps run = weaken steps run.known
   where
-    weaken : (steps : List Step) → All (IsStepOf (length names)) steps → HasNoHelp steps
+    weaken : (steps : List Step) → All (IsStepOf items) steps → HasNoHelp steps
     weaken [] known = All-nil NotHelp
     weaken (step ∷ steps) known =
-        All-cons NotHelp step steps (All-head (IsStepOf (length names)) step steps known).2
-        (weaken steps (All-tail (IsStepOf (length names)) step steps known))
+        All-cons NotHelp step steps (All-head (IsStepOf items) step steps known).2
+        (weaken steps (All-tail (IsStepOf items) step steps known))
 
 -- ---- the first that isn't lawful
 

@@ -3,11 +3,12 @@
 //! The form is that of "Diagnoses" in docs/FORMAT.md. It takes the time of making the steps, and the memory of the
 //! machine that makes them.
 
-ghost use Rattle.std.specs.Prelude.{◌≡◌, ◌∷◌, ◌<◌, ℕ, Ok, IfNone, IfOk, IfSome, length, map, option_map};
+ghost use Rattle.std.specs.Prelude.{◌≡◌, ◌∷◌, ◌<◌, ℕ, List, Ok, Option, IfNone, IfOk, IfSome, length, map, option_map};
 ghost use Rattle.wq_core.specs.Runs.{HasNoHelp};
 ghost use Rattle.wq_core.specs.State.{empty_state};
 ghost use Rattle.wq_checker.specs.RunEnds.{IsFirstUnlawful};
-ghost use Rattle.wq_cert.specs.Texts.{run_of};
+ghost use Rattle.wq_cert.specs.Part.{made_of};
+ghost use Rattle.wq_items.specs.declared.target.Target.{Target};
 ghost use Rattle.wq_diagnosis.specs.Diagnosis.{shown_lines};
 ghost use Rattle.wq_diagnosis.specs.Reasons.{IsUnlawfulText, SaysStep, reason_words, unlawful_head};
 ghost use Rattle.wq_diagnosis.specs.Unlawful.{IsFirstFor};
@@ -52,16 +53,27 @@ fn find<A: Allocator>(core: &mut Core<A>, steps: &[Step]) -> Option<UnlawfulStep
     })
 }
 
-/// The line of a run's step: that before which this many lines have words, the one with the number of steps among them.
-fn step_line<'a>(text: &Text<'a>, before: u32) -> Option<Line<'a>> {
-    let mut left = before;
+/// Whether a line has the number of steps.
+fn is_run_line(line: &Line<'_>) -> bool {
+    match line.words().next() {
+        Some(word) => word.bytes() == b"run".as_slice(),
+        None => false,
+    }
+}
+
+/// The line of a run's step: the one of this number, counted from 1, of the lines with words below that with the number
+/// of steps. Above that there may be an unsure part.
+fn step_line<'a>(text: &Text<'a>, number: u32) -> Option<Line<'a>> {
+    let mut left = number;
+    let mut is_below = false;
     for line in text.lines() {
-        if line.words().next().is_some() {
+        if is_below && line.words().next().is_some() {
+            left = left.saturating_sub(1);
             if left == 0 {
                 return Some(line);
             }
-            left -= 1;
         }
+        is_below = is_below || is_run_line(&line);
     }
     None
 }
@@ -223,7 +235,8 @@ pub fn of_unlawful<A: Allocator + Copy>(
     run: Source<'_>,
     number: u32,
 ) -> Result<Option<Vec<u8, A>>, AllocError>
-    requires read { run_of assigned.now.declared.table.names run.text.now ≡ Ok steps.now }
+    requires read { (waits : List (List Target)) × (kept : Option (List ℕ))
+        × (made_of assigned.now.declared.table.names waits run.text.now ≡ Ok (kept, steps.now)) }
     ensures { IfOk result (λ said. SaysStep run.entry.file.now assigned.now.declared assigned.now.workqueues
         (map (λ n. n.now) names.now) steps.now number (option_map (λ text. text.items) said)) }
 {

@@ -47,6 +47,7 @@ use Rattle.wq_decl.specs.Reading.{
   is_text_byte,
   reading,
   reading_after,
+  unsure_reading,
   words_reading,
 }
 use Rattle.wq_items.specs.Building.{table_of}
@@ -85,6 +86,24 @@ taken false d fault found e = absurd cc
 never_ok : (fault : DeclError) (found : Option Directive) → Err fault ≡ Ok found → ⊥
 never_ok fault found e = cc
 
+-- a `flush` line declares a flush of each target
+of_targets : (n : ℕ) (name : WordView) (targets : List WordView)
+    → length (line_flushes (n, directive.Flush name targets)) ≡ length targets
+of_targets n name [] = refl
+of_targets n name (target ∷ others) =
+    let rest : length (line_flushes (n, directive.Flush name others)) ≡ length others = of_targets n name others in
+    omega (arith, rest)
+
+of_unsure : (whole : Bool) (n : ℕ) (ws : List WordView) (found : Option Directive) → unsure_reading n whole ws ≡ Ok
+    found → length ws - 1 ≡ declared_by n found
+of_unsure whole n [] found e = absurd (never_ok (MissingName n) found e)
+of_unsure whole n (name ∷ []) found e = absurd (never_ok (MissingName n) found e)
+of_unsure whole n (name ∷ target ∷ []) found e =
+    let one : length (name ∷ target ∷ []) - 1 ≡ 1 = omega arith in
+    one ∙ ap (declared_by n) (taken (are_names (name ∷ target ∷ [])) (directive.Unsure name target whole) (BadName n)
+    found e)
+of_unsure whole n (name ∷ target ∷ extra ∷ others) found e = absurd (never_ok (ExtraWord n) found e)
+
 of_after : (k : Option Keyword) (n : ℕ) (ws : List WordView) (found : Option Directive) → reading_after k n ws ≡ Ok
     found → flushes_cut (Some (k, ws)) ≡ declared_by n found
 of_after None n ws found e = absurd (never_ok (UnknownWord n) found e)
@@ -96,9 +115,7 @@ of_after (Some keyword.Flush) n [] found e = absurd (never_ok (MissingName n) fo
 of_after (Some keyword.Flush) n (name ∷ []) found e = absurd (never_ok (MissingName n) found e)
 of_after (Some keyword.Flush) n (name ∷ target ∷ others) found e =
     let many : length (name ∷ target ∷ others) - 1 ≡ length (target ∷ others) = omega arith in
-    many
-    ∙ sym (length-map {B = List ℕ × (Bool × List ℕ)} (target ∷ others)
-    (λ (w : WordView). (name.bytes, (false, w.bytes))))
+    many ∙ sym (of_targets n name (target ∷ others))
     ∙ ap (declared_by n) (taken (are_names (name ∷ target ∷ others)) (directive.Flush name (target ∷ others))
     (BadName n) found e)
 of_after (Some keyword.FlushWq) n [] found e = absurd (never_ok (MissingName n) found e)
@@ -108,6 +125,8 @@ of_after (Some keyword.FlushWq) n (name ∷ target ∷ []) found e =
     one ∙ ap (declared_by n) (taken (are_names (name ∷ target ∷ [])) (directive.FlushWq name target) (BadName n) found
     e)
 of_after (Some keyword.FlushWq) n (name ∷ target ∷ extra ∷ others) found e = absurd (never_ok (ExtraWord n) found e)
+of_after (Some keyword.FlushUnsure) n ws found e = of_unsure false n ws found e
+of_after (Some keyword.FlushWqUnsure) n ws found e = of_unsure true n ws found e
 of_after (Some keyword.Ordered) n [] found e = absurd (never_ok (MissingName n) found e)
 of_after (Some keyword.Ordered) n (name ∷ rest) found e = ap (declared_by n)
     (taken (are_names (name ∷ rest)) (directive.Ordered (name ∷ rest)) (BadName n) found e)

@@ -2,7 +2,6 @@ pub mod Pieces
 pub mod Lines
 pub mod Workqueues
 pub mod Arrows
-pub mod Wholes
 pub mod Sums
 pub mod Counts
 pub mod Marked

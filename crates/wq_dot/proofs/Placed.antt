@@ -31,7 +31,7 @@ place_of-below d vertex_of a declaration arc = place-below d.waits vertex_of dec
 pub AreMarkable-planned : (d : Declaration) (a : Assignment) (chain : List WaitArc) → IsDeclaration d → IsPlanned d a chain → AreMarkable (flush_count d.waits) chain
 AreMarkable-planned d a chain declaration planned =
     let longest : IsLongestChain d a chain = subst (IsLongestChain d a) (sym planned.longest) (chain_of-longest d declaration a planned.plan) in
-    λ k e within. place_of-below d d.group_of _ declaration (longest.arcs k e within).declared
+    λ k e within. place_of-below d d.group_of _ declaration (longest.down.arcs k e within).declared
 
 -- ---- components
 

@@ -10,13 +10,12 @@ use Rattle.wq_items.specs.Table.{flush_count}
 use Rattle.wq_groups.specs.Declaration.{Declaration, GroupWaits}
 use Rattle.wq_groups.specs.Assignment.{Assignment}
 use Rattle.wq_graph.specs.declared.arc.WaitArc.{WaitArc}
-use Rattle.wq_graph.specs.Graph.{group_graph}
 use Rattle.wq_core.specs.declared.step.Step.{Step}
 use Rattle.wq_core.specs.Wiring.{own_lanes}
 use Rattle.wq_core.specs.Workqueues.{Workqueues, all_rescued, wiring_of}
 use Rattle.wq_core.specs.Deadlock.{IsSafe}
 use Rattle.wq_deadlock.specs.Judging.{bare_waits}
-use Rattle.wq_plan.specs.Plan.{IsPlan, chain_of}
+use Rattle.wq_plan.specs.Plan.{IsPlan, chain_of_plan}
 use Rattle.wq_hang.specs.declared.hop.Hop.{Hop}
 use Rattle.wq_hang.specs.Answer.{IsHangOf}
 use Rattle.wq_cert.specs.Texts.{workqueues_of_text, cert_refusal}
@@ -35,6 +34,7 @@ use Rattle.wq_circles.specs.Components.{AreComponents}
 use Rattle.wq_dot.specs.declared.dotting.Drawn.{Drawn}
 use Rattle.wq_dot.specs.declared.look.FlushLook.{FlushLook}
 use Rattle.wq_dot.specs.declared.look.FlushLook.TheVariants.{Bold}
+use Rattle.wq_voice.specs.Unsure.{unsure_count}
 use Rattle.wq_dot.specs.Tooltips.{comments_of}
 use Rattle.wq_dot.specs.Drawing.{drawing_text}
 use Rattle.wq_dot.specs.Flushes.{all_arcs, bold_red, looks_of, marked, red_looks_of}
@@ -45,15 +45,31 @@ use Rattle.wq_dot.specs.Flushes.{all_arcs, bold_red, looks_of, marked, red_looks
 abbrev pub counted : ℕ → List ℕ → List ℕ
 counted n thing = spaced (decimal n) ++ codes " " ++ thing ++ cond (n == 1) [] (codes "s")
 
--- what is said of so many bold waits, and the legend, each line of which ends with `\l`, as Graphviz wants it
+-- so many waits are bold
 abbrev pub bold_text : ℕ → List ℕ
-bold_text n =
-    if n == 0 then []
-    else codes "," ++ counted n (codes "wait") ++ codes " in bold\\lBold: the chain that needs so many workqueues.\\l"
+bold_text n = if n == 0 then [] else codes "," ++ counted n (codes "wait") ++ codes " in bold"
 
--- `plan of K workqueues`, and what is said of the bold waits
-abbrev pub plan_title : ℕ → ℕ → List ℕ
-plan_title workqueues bold = codes "plan of" ++ counted workqueues (codes "workqueue") ++ bold_text bold
+-- so many flushes are unsure
+abbrev pub unsure_text : ℕ → List ℕ
+unsure_text unsure = if unsure == 0 then [] else codes "," ++ spaced (decimal unsure) ++ codes " not sure"
+
+-- the legend of bold waits of a plan, if there are any. Each line of a legend ends with `\l`, as Graphviz wants it
+abbrev pub bold_legend : ℕ → List ℕ
+bold_legend n = if n == 0 then [] else codes "\\lBold: the chain that needs so many workqueues."
+
+-- the legend of dotted arrows, if so many flushes are unsure
+abbrev pub dotted_legend : ℕ → List ℕ
+dotted_legend unsure = if unsure == 0 then [] else codes "\\lDotted: not sure."
+
+-- the end of the last line of the legend of a plan, if there is one
+abbrev pub plan_end : ℕ → ℕ → List ℕ
+plan_end bold unsure = if (bold == 0) && (unsure == 0) then [] else codes "\\l"
+
+-- `plan of K workqueues`, and what is said of the bold waits and the unsure flushes
+abbrev pub plan_title : ℕ → ℕ → ℕ → List ℕ
+plan_title workqueues bold unsure =
+    codes "plan of" ++ counted workqueues (codes "workqueue") ++ bold_text bold ++ unsure_text unsure
+    ++ bold_legend bold ++ dotted_legend unsure ++ plan_end bold unsure
 
 -- how many of the red waits lead to no rescuer
 abbrev pub leading_text : ℕ → List ℕ
@@ -79,12 +95,16 @@ abbrev pub red_legend : ℕ → ℕ → List ℕ
 red_legend leading red =
     codes "\\lRed: while memory is short, a worker may wait for work\\lthat " ++ awaited leading red ++ codes "."
 
--- `safe` if no wait is red, else what hangs, the number of red waits and their legend
+-- `safe` if no wait is red, else what hangs and the number of red waits
 abbrev pub red_text : List ℕ → ℕ → ℕ → ℕ → List ℕ
 red_text hanging leading red bold =
     if red == 0 then codes "safe"
     else hanging ++ codes "," ++ counted red (codes "wait") ++ codes " in red" ++ leading_text leading
-    ++ shortest_text red bold ++ red_legend leading red ++ shortest_legend red bold
+    ++ shortest_text red bold
+
+-- the legend of red waits and of bold ones, if there are any
+abbrev pub red_legends : ℕ → ℕ → ℕ → List ℕ
+red_legends leading red bold = if red == 0 then [] else red_legend leading red ++ shortest_legend red bold
 
 -- some workqueue has no rescuer
 abbrev pub some_bare : List Bool → Bool
@@ -97,13 +117,15 @@ dashed_legend bare =
     then codes "\\lDashed: no rescuer. While memory is short, nothing\\lguarantees that work there runs." else []
 
 -- the end of the last line of a legend, if there is one
-abbrev pub legend_end : List Bool → ℕ → List ℕ
-legend_end bare red = if red == 0 && not (some_bare bare) then [] else codes "\\l"
+abbrev pub legend_end : List Bool → ℕ → ℕ → List ℕ
+legend_end bare red unsure = if red == 0 && (not (some_bare bare) && (unsure == 0)) then [] else codes "\\l"
 
--- the title of a drawing in which so many waits are red, of which so many lead to no rescuer, and so many are bold
-abbrev pub circles_title : List ℕ → ℕ → List Bool → ℕ → ℕ → List ℕ
-circles_title hanging leading bare red bold =
-    red_text hanging leading red bold ++ dashed_legend bare ++ legend_end bare red
+-- the title of a drawing in which so many waits are red, of which so many lead to no rescuer, and so many are bold; and
+-- so many flushes are unsure
+abbrev pub circles_title : List ℕ → ℕ → List Bool → ℕ → ℕ → ℕ → List ℕ
+circles_title hanging leading bare red bold unsure =
+    red_text hanging leading red bold ++ unsure_text unsure ++ red_legends leading red bold ++ dashed_legend bare
+    ++ dotted_legend unsure ++ legend_end bare red unsure
 
 -- ---- drawings
 
@@ -123,8 +145,8 @@ pub record DrawsPlan (s : Declared) (comments : List (List ℕ)) (out : List ℕ
   pub plan : IsPlan (declared_waits s) assignment
   pub drawn : out
       ≡ drawing_of s (all_rescued assignment) []
-      (λ looks. plan_title assignment.lanes (marked looks))
-      (declared_looks s Bold (chain_of (group_graph (declared_waits s)) assignment.lane_of_group)) comments
+      (λ looks. plan_title assignment.lanes (marked looks) (unsure_count s.table.waits))
+      (declared_looks s Bold (chain_of_plan (declared_waits s) assignment.lane_of_group)) comments
 
 -- the flushes that are on a circle, of these components, and those that lead to a workqueue without a rescuer
 abbrev pub hanging_arcs : Declared → Workqueues → List (List WaitArc) → List WaitArc
@@ -151,7 +173,8 @@ pub record DrawsCircles (s : Declared) (comments : List (List ℕ)) (ws : Workqu
   pub drawn : out
       ≡ drawing_of s ws called
       (λ looks.
-      circles_title hanging (length (bare_waits (declared_waits s) ws)) ws.bare (marked looks) (bold_red looks))
+      circles_title hanging (length (bare_waits (declared_waits s) ws)) ws.bare (marked looks) (bold_red looks)
+      (unsure_count s.table.waits))
       (hanging_looks s hops (hanging_arcs s ws components)) comments
 
 -- the groups of a declaration are drawn, with the comments of its flushes: on the workqueues of their plan or, if they

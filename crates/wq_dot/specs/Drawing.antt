@@ -13,6 +13,7 @@ use Rattle.wq_core.specs.Workqueues.{Workqueues}
 use Rattle.wq_dot.specs.declared.look.FlushLook.{FlushLook}
 use Rattle.wq_dot.specs.declared.look.FlushLook.TheVariants.{Plain, Red, BoldRed, Bold}
 use Rattle.wq_cert.specs.PlanText.{name_of}
+use Rattle.wq_circles.specs.ComponentsText.{is_unsure_arc}
 use Rattle.wq_dot.specs.Labels.{is_shared, label_text, numbered}
 use Rattle.wq_dot.specs.Tooltips.{tooltip_text}
 
@@ -96,12 +97,16 @@ abbrev pub is_turned : List (List Target) → WaitArc → Bool
 is_turned waits flush =
     nat_lt flush.dst flush.src && list_any (λ (t : Target). t.item == flush.src) (targets_of waits flush.dst)
 
--- the line and the colour of an arrow
-abbrev pub look_text : FlushLook → List ℕ
-look_text Plain = []
-look_text Red = codes " [color=red, style=bold]"
-look_text BoldRed = codes " [color=red, penwidth=4]"
-look_text Bold = codes " [style=bold]"
+-- the line and the colour of an arrow, of a flush that is unsure or not
+abbrev pub look_text : FlushLook → Bool → List ℕ
+look_text Plain false = []
+look_text Red false = codes " [color=red, style=bold]"
+look_text BoldRed false = codes " [color=red, penwidth=4]"
+look_text Bold false = codes " [style=bold]"
+look_text Plain true = codes " [style=dotted]"
+look_text Red true = codes " [color=red, style=\"bold,dotted\"]"
+look_text BoldRed true = codes " [color=red, penwidth=4, style=dotted]"
+look_text Bold true = codes " [style=\"bold,dotted\"]"
 
 -- the head of an arrow that is drawn from its target or not, of a flush of a whole workqueue or not
 abbrev pub head_text : Bool → Bool → List ℕ
@@ -119,7 +124,7 @@ abbrev pub arrow_line : List (List ℕ) → List (List Target) → FlushLook →
 arrow_line names waits look comment flush =
     let turned = is_turned waits flush in
     ends_text names (cond turned flush.dst flush.src) (cond turned flush.src flush.dst)
-    ++ look_text look
+    ++ look_text look (is_unsure_arc waits flush)
     ++ head_text turned (is_whole_at waits flush)
     ++ tooltip_text comment
     ++ codes ";"

@@ -4,7 +4,8 @@ use Rattle.std.specs.Prelude.{length, take, replicate, flat_map, codes}
 use Rattle.wq_text.specs.Lines.{LineView, lines_of}
 use Rattle.wq_text.specs.Words.{WordView, words_of}
 use Rattle.wq_decl.specs.declared.keyword.Keyword.{Keyword}
-use Rattle.wq_decl.specs.declared.keyword.Keyword.TheVariants.{Item, Flush, FlushWq, Ordered}
+use Rattle.wq_decl.specs.declared.keyword.Keyword.TheVariants.{Item, Flush, FlushWq, FlushUnsure, FlushWqUnsure}
+use Rattle.wq_decl.specs.declared.keyword.Keyword.TheVariants.{Ordered}
 use Rattle.wq_decl.specs.Keywords.{keyword_cut}
 use Rattle.wq_names.specs.Comments.{comment_body}
 
@@ -24,6 +25,8 @@ comment_of bytes = take max_comment (comment_body bytes)
 abbrev pub flushes_cut : Option (Option Keyword × List WordView) → ℕ
 flushes_cut (Some (Some Flush, names)) = length names - 1
 flushes_cut (Some (Some FlushWq, names)) = length names - 1
+flushes_cut (Some (Some FlushUnsure, names)) = length names - 1
+flushes_cut (Some (Some FlushWqUnsure, names)) = length names - 1
 flushes_cut (Some (Some Item, names)) = 0
 flushes_cut (Some (Some Ordered, names)) = 0
 flushes_cut (Some (None, names)) = 0

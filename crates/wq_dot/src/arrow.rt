@@ -12,6 +12,7 @@ ghost use Rattle.wq_dot.specs.Drawing.{arrow_line, ended, ends_text, head_text, 
 use crate::look::FlushLook;
 use crate::tooltip::put_tooltip;
 use std::alloc::{AllocError, Allocator};
+use wq_circles::is_unsure;
 use wq_graph::WaitArc;
 use wq_items::{ItemId, ItemTable, Target};
 use wq_text::put;
@@ -61,15 +62,19 @@ fn tip(flush: &WaitArc, turned: bool) -> ItemId
     if turned { flush.src } else { flush.dst }
 }
 
-/// The line and the colour of an arrow.
-fn look_text(look: FlushLook) -> &'static [u8]
-    ensures { result.now ≡ look_text look }
+/// The line and the colour of an arrow. `unsure` says whether the flush is unsure.
+fn look_text(look: FlushLook, unsure: bool) -> &'static [u8]
+    ensures { result.now ≡ look_text look unsure }
 {
-    match look {
-        FlushLook::Plain => b"",
-        FlushLook::Red => b" [color=red, style=bold]",
-        FlushLook::BoldRed => b" [color=red, penwidth=4]",
-        FlushLook::Bold => b" [style=bold]",
+    match (look, unsure) {
+        (FlushLook::Plain, false) => b"",
+        (FlushLook::Red, false) => b" [color=red, style=bold]",
+        (FlushLook::BoldRed, false) => b" [color=red, penwidth=4]",
+        (FlushLook::Bold, false) => b" [style=bold]",
+        (FlushLook::Plain, true) => b" [style=dotted]",
+        (FlushLook::Red, true) => b" [color=red, style=\"bold,dotted\"]",
+        (FlushLook::BoldRed, true) => b" [color=red, penwidth=4, style=dotted]",
+        (FlushLook::Bold, true) => b" [style=\"bold,dotted\"]",
     }
 }
 
@@ -118,7 +123,7 @@ pub(crate) fn put_flush<A: Allocator + Copy>(
 {
     let turned = is_turned(table, &flush);
     put_ends(out, table, tail(&flush, turned), tip(&flush, turned))?;
-    put(out, look_text(look))?;
+    put(out, look_text(look, is_unsure(table, flush)))?;
     put(out, head_text(turned, is_whole(table, flush)))?;
     put_tooltip(out, comment)?;
     put(out, b";\n")

@@ -50,6 +50,8 @@ fn flushes_on(line: &Line<'_>) -> usize
     match cut_keyword(line) {
         Some((Some(Keyword::Flush), names)) => after_first(names),
         Some((Some(Keyword::FlushWq), names)) => after_first(names),
+        Some((Some(Keyword::FlushUnsure), names)) => after_first(names),
+        Some((Some(Keyword::FlushWqUnsure), names)) => after_first(names),
         _ => 0,
     }
 }

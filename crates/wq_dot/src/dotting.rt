@@ -33,6 +33,7 @@ use wq_groups::{Assignment, Declaration};
 use wq_hang::Hop;
 use wq_names::workqueue_names;
 use wq_plan::{Answer, solve};
+use wq_voice::unsure_count;
 
 /// What `dot` finds besides its drawing.
 #[derive(Drop)]
@@ -77,7 +78,8 @@ fn draw_plan<A: Allocator + Copy>(
 {
     let looks = bold_flushes(alloc, assigned.table(), chain)?;
     let workqueues = assigned.workqueues().assignment().lanes();
-    let title = plan_title(alloc, workqueues, marked(looks.as_slice()))?;
+    let unsure = unsure_count(assigned.table());
+    let title = plan_title(alloc, workqueues, marked(looks.as_slice()), unsure)?;
     drawing_text(
         alloc,
         assigned,
@@ -111,7 +113,8 @@ fn draw_components<A: Allocator + Copy>(
     let looks = hanging_flushes(alloc, assigned.table(), components, waits, hops)?;
     let red = marked(looks.as_slice());
     let bold = bold_red(looks.as_slice());
-    let title = circles_title(alloc, hanging, waits.len() as u32, bare, red, bold)?;
+    let unsure = unsure_count(assigned.table());
+    let title = circles_title(alloc, hanging, waits.len() as u32, bare, red, bold, unsure)?;
     drawing_text(
         alloc,
         assigned,

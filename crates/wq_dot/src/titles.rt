@@ -3,7 +3,8 @@
 //! They are those of "The command `dot`" in docs/FORMAT.md. Making one takes time and memory in its length.
 
 ghost use Rattle.std.specs.Prelude.{◌≡◌, ◌==◌, ◌++◌, [], codes, cond, IfOk, OnOk};
-ghost use Rattle.wq_dot.specs.Dotting.{awaited, bold_text, circles_title, counted, dashed_legend, leading_text};
+ghost use Rattle.wq_dot.specs.Dotting.{awaited, bold_legend, bold_text, circles_title, counted, dashed_legend};
+ghost use Rattle.wq_dot.specs.Dotting.{dotted_legend, leading_text, plan_end, red_legends, unsure_text};
 ghost use Rattle.wq_dot.specs.Dotting.{legend_end, plan_title, red_legend, red_text, shortest_legend, shortest_text};
 ghost use Rattle.wq_dot.specs.Dotting.{some_bare};
 
@@ -30,7 +31,7 @@ fn put_counted<A: Allocator + Copy>(
     put(out, plural_end(number))
 }
 
-/// Adds what is said of so many bold waits.
+/// Adds how many waits are bold.
 fn put_bold<A: Allocator + Copy>(out: &mut Vec<u8, A>, bold: u32) -> Result<(), AllocError>
     ensures { OnOk result (out.new.items ≡ out.old.items ++ bold_text bold) }
 {
@@ -39,24 +40,71 @@ fn put_bold<A: Allocator + Copy>(out: &mut Vec<u8, A>, bold: u32) -> Result<(), 
     }
     put(out, b",")?;
     put_counted(out, bold, b"wait")?;
-    put(
-        out,
-        b" in bold\\lBold: the chain that needs so many workqueues.\\l",
-    )
+    put(out, b" in bold")
 }
 
-/// The title of a plan with this many workqueues, and so many bold waits.
+/// Adds how many flushes are unsure.
+fn put_unsure<A: Allocator + Copy>(out: &mut Vec<u8, A>, unsure: u32) -> Result<(), AllocError>
+    ensures { OnOk result (out.new.items ≡ out.old.items ++ unsure_text unsure) }
+{
+    if unsure == 0 {
+        return Ok(());
+    }
+    put(out, b",")?;
+    put_number(out, unsure)?;
+    put(out, b" not sure")
+}
+
+/// The legend of bold waits of a plan, if there are any.
+fn bold_legend(bold: u32) -> &'static [u8]
+    ensures { result.now ≡ bold_legend bold }
+{
+    if bold == 0 {
+        b""
+    } else {
+        b"\\lBold: the chain that needs so many workqueues."
+    }
+}
+
+/// The legend of dotted arrows, if so many flushes are unsure.
+fn dotted_legend(unsure: u32) -> &'static [u8]
+    ensures { result.now ≡ dotted_legend unsure }
+{
+    if unsure == 0 {
+        b""
+    } else {
+        b"\\lDotted: not sure."
+    }
+}
+
+/// The end of the last line of the legend of a plan, if there is one.
+fn plan_end(bold: u32, unsure: u32) -> &'static [u8]
+    ensures { result.now ≡ plan_end bold unsure }
+{
+    if bold == 0 && unsure == 0 {
+        b""
+    } else {
+        b"\\l"
+    }
+}
+
+/// The title of a plan with this many workqueues, so many bold waits and so many unsure flushes.
 pub(crate) fn plan_title<A: Allocator + Copy>(
     alloc: A,
     workqueues: u16,
     bold: u32,
+    unsure: u32,
 ) -> Result<Vec<u8, A>, AllocError>
-    ensures { IfOk result (λ title. title.items ≡ plan_title workqueues bold) }
+    ensures { IfOk result (λ title. title.items ≡ plan_title workqueues bold unsure) }
 {
     let mut title = Vec::new(alloc);
     put(&mut title, b"plan of")?;
     put_counted(&mut title, u32::from(workqueues), b"workqueue")?;
     put_bold(&mut title, bold)?;
+    put_unsure(&mut title, unsure)?;
+    put(&mut title, bold_legend(bold))?;
+    put(&mut title, dotted_legend(unsure))?;
+    put(&mut title, plan_end(bold, unsure))?;
     Ok(title)
 }
 
@@ -128,7 +176,23 @@ fn put_red_legend<A: Allocator + Copy>(
     put(out, b".")
 }
 
-/// Adds what hangs, with the red waits and their legend, or that nothing does.
+/// Adds the legend of red waits and of bold ones, if there are any.
+fn put_red_legends<A: Allocator + Copy>(
+    out: &mut Vec<u8, A>,
+    leading: u32,
+    red: u32,
+    bold: u32,
+) -> Result<(), AllocError>
+    ensures { OnOk result (out.new.items ≡ out.old.items ++ red_legends leading red bold) }
+{
+    if red == 0 {
+        return Ok(());
+    }
+    put_red_legend(out, leading, red)?;
+    put(out, shortest_legend(red, bold))
+}
+
+/// Adds what hangs, with the red waits, or that nothing does.
 fn put_red<A: Allocator + Copy>(
     out: &mut Vec<u8, A>,
     hanging: &[u8],
@@ -146,9 +210,7 @@ fn put_red<A: Allocator + Copy>(
     put_counted(out, red, b"wait")?;
     put(out, b" in red")?;
     put_leading(out, leading)?;
-    put_shortest(out, red, bold)?;
-    put_red_legend(out, leading, red)?;
-    put(out, shortest_legend(red, bold))
+    put_shortest(out, red, bold)
 }
 
 /// Whether some workqueue has no rescuer.
@@ -170,10 +232,10 @@ fn dashed_legend(bare: &[bool]) -> &'static [u8]
 }
 
 /// The end of the last line of a legend, if there is one.
-fn legend_end(bare: &[bool], red: u32) -> &'static [u8]
-    ensures { result.now ≡ legend_end bare.now red }
+fn legend_end(bare: &[bool], red: u32, unsure: u32) -> &'static [u8]
+    ensures { result.now ≡ legend_end bare.now red unsure }
 {
-    if red == 0 && !some_bare(bare) {
+    if red == 0 && !some_bare(bare) && unsure == 0 {
         b""
     } else {
         b"\\l"
@@ -181,7 +243,7 @@ fn legend_end(bare: &[bool], red: u32) -> &'static [u8]
 }
 
 /// The title of a drawing with so many red waits, so many of which lead to no rescuer, and so many of which are bold:
-/// what hangs, or that nothing does. `bare` says which workqueues have no rescuer.
+/// what hangs, or that nothing does; and with so many unsure flushes. `bare` says which workqueues have no rescuer.
 pub(crate) fn circles_title<A: Allocator + Copy>(
     alloc: A,
     hanging: &[u8],
@@ -189,12 +251,16 @@ pub(crate) fn circles_title<A: Allocator + Copy>(
     bare: &[bool],
     red: u32,
     bold: u32,
+    unsure: u32,
 ) -> Result<Vec<u8, A>, AllocError>
-    ensures { IfOk result (λ title. title.items ≡ circles_title hanging.now leading bare.now red bold) }
+    ensures { IfOk result (λ title. title.items ≡ circles_title hanging.now leading bare.now red bold unsure) }
 {
     let mut title = Vec::new(alloc);
     put_red(&mut title, hanging, leading, red, bold)?;
+    put_unsure(&mut title, unsure)?;
+    put_red_legends(&mut title, leading, red, bold)?;
     put(&mut title, dashed_legend(bare))?;
-    put(&mut title, legend_end(bare, red))?;
+    put(&mut title, dotted_legend(unsure))?;
+    put(&mut title, legend_end(bare, red, unsure))?;
     Ok(title)
 }

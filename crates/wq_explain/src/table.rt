@@ -78,7 +78,7 @@ const UNKNOWN_WORD: Explanation = (
     "4 UnknownWord\n",
     "\
 `refused 4 line N`: the first word of line N is none of `item`, `flush`,
-`flushwq` and `ordered`. `Item` isn't `item`.
+`flushwq`, `flush?`, `flushwq?` and `ordered`. `Item` isn't `item`.
 
 The rule: docs/FORMAT.md, \"Directives\"
 
@@ -86,7 +86,7 @@ To see it:
     printf 'Item a\\n' | wqplan plan
 
 To mend it:
-Begin the line with one of the four words, in lower case. Put a `#` before it if
+Begin the line with one of the six words, in lower case. Put a `#` before it if
 it is a comment.
 ",
 );
@@ -97,8 +97,9 @@ const MISSING_NAME: Explanation = (
     "5 MissingName\n",
     "\
 `refused 5 line N`: line N has too few words. `item` and `ordered` need at least
-one name, `flush` needs an item and at least one target, and `flushwq` an item
-and another one, whose workqueue it flushes.
+one name, `flush` needs an item and at least one target, `flushwq` and
+`flushwq?` need an item and another one, whose workqueue it flushes, and
+`flush?` needs an item and one target.
 
 The rule: docs/FORMAT.md, \"Directives\"
 
@@ -106,8 +107,9 @@ To see it:
     printf 'item\\n' | wqplan plan
 
 To mend it:
-Add the name, or take out the line. An item that flushes nothing has no `flush`
-or `flushwq` line. What follows a `#` is a comment, not a name.
+Add the name, or take out the line. An item that flushes nothing has no `flush`,
+`flushwq`, `flush?` or `flushwq?` line. What follows a `#` is a comment, not a
+name.
 ",
 );
 
@@ -153,9 +155,10 @@ const UNKNOWN_ITEM: Explanation = (
     "UnknownItem",
     "8 UnknownItem\n",
     "\
-`refused 8 line N`: line N, a `flush`, `flushwq` or `ordered` line, has a name
-that no `item` line above it declares. An `item` line below it doesn't count.
-`refused 8 line 0`: a NAME behind the files of `repair` is that of no item.
+`refused 8 line N`: line N, a `flush`, `flushwq`, `flush?`, `flushwq?` or
+`ordered` line, has a name that no `item` line above it declares. An `item` line
+below it doesn't count. `refused 8 line 0`: a NAME behind the files of `repair`
+is that of no item.
 
 The rule: docs/FORMAT.md, \"Items and groups\"
 
@@ -193,7 +196,8 @@ const TOO_MANY_FLUSHES: Explanation = (
     "10 TooManyFlushes\n",
     "\
 `refused 10 line N`: with those of line N there are more than 16,384 flushes.
-Each target of each `flush` line is one, and so is each `flushwq` line.
+Each target of each `flush` line is one, and so is each `flushwq`, `flush?` or
+`flushwq?` line.
 
 The rule: docs/FORMAT.md, \"Limits\"
 
@@ -232,7 +236,7 @@ const EXTRA_WORD: Explanation = (
     "12 ExtraWord\n",
     "\
 `refused 12 line N`: line N has too many words: more than one after `item`, or
-more than two after `flushwq`.
+more than two after `flushwq`, `flush?` or `flushwq?`.
 
 The rule: docs/FORMAT.md, \"Directives\"
 
@@ -241,8 +245,9 @@ To see it:
     printf 'item a\\nitem b\\nflushwq a b b\\n' | wqplan plan
 
 To mend it:
-Write an `item` line for each item, and a `flushwq` line for each workqueue that
-is flushed. A comment begins with `#`.
+Write an `item` line for each item, a `flushwq` line for each workqueue that is
+flushed, and a `flush?` line for each target of which you aren't sure. A comment
+begins with `#`.
 ",
 );
 
@@ -254,8 +259,9 @@ const BAD_CERT_LINE: Explanation = (
 `refused 40 line N`: line N of a plan, a circle, an assignment or a run doesn't
 have the form that is expected there: it has another first word, too few or too
 many words, no number where one belongs, or a name that isn't declared; it comes
-after the end; or it is too long. With line 0 the text is too long, or ends too
-early.
+after the end; or it is too long. Or a run says of a line of the declaration
+that it is unsure, and it isn't any more. With line 0 the text is too long, or
+ends too early.
 
 The rule: docs/FORMAT.md, \"Certificates\"
 
@@ -266,8 +272,8 @@ To see it:
 
 To mend it:
 Compare the line with its form. Numbers have no sign and no leading zero, and
-those of `plan`, `chain`, `circle` and `run` say how many lines follow. See that
-the text was made for this declaration.
+those of `plan`, `chain`, `circle`, `unsure` and `run` say how many lines
+follow. See that the text was made for this declaration as it is now.
 ",
 );
 
@@ -320,8 +326,8 @@ const NUMBER_OUT_OF_RANGE: Explanation = (
     "\
 `refused 43 line N`: a number of line N is out of its range. The `wq` lines are
 numbered 0, 1, 2 and so on, in an assignment together with `norescuer` lines;
-`plan`, `chain` and `circle` have at most 4,096, `circle` at least 1; and no
-step is on a workqueue above 4,095.
+`plan`, `chain` and `circle` have at most 4,096, `circle` at least 1, `unsure`
+at most 16,384; and no step is on a workqueue above 4,095.
 
 The rule: docs/FORMAT.md, \"Certificates\"
 

@@ -139,6 +139,29 @@ that it can't happen, and `wqplan plan` other workqueues on which it can't.
 ",
 );
 
+const UNSURE: Explanation = (
+    None,
+    "unsure",
+    "unsure answer\n",
+    "\
+`unsure M`: the workqueues can hang if the M lines below it are so, and the run
+behind them shows how. If fewer than M unsure lines of the declaration are so,
+they can't. `unsure 0`: they hang for sure, whatever the unsure lines turn out
+to be.
+
+The rule: docs/FORMAT.md, \"Unsure lines\"
+
+To see it:
+    printf 'item a\\nitem b\\nflush? a b\\n' > decl
+    printf 'wq 0 a b\\n' > assign
+    wqplan hang decl assign
+
+What to do:
+Read the code of these M lines. If one isn't so, take it out of the declaration;
+if it is, take its `?` away. Then ask again.
+",
+);
+
 const YES: Explanation = (
     None,
     "yes",
@@ -329,6 +352,27 @@ in red.
 ",
 );
 
+const ARC_UNSURE: Explanation = (
+    None,
+    "arc?",
+    "arc? answer\n",
+    "\
+`arc? NAME TARGET`: as `arc`, of a `flush?` or `flushwq?` line: it isn't decided
+whether NAME flushes TARGET. Unsure lines that `circles` doesn't print make no
+difference on these workqueues.
+
+The rule: docs/FORMAT.md, \"The command `circles`\"
+
+To see it:
+    printf 'item a\\nflush? a a\\n' > decl
+    wqplan circles decl
+
+What to do:
+Ask `wqplan hang` first: it prints the fewest such lines that are enough for a
+hang. All that `circles` prints may matter.
+",
+);
+
 const NORESCUER: Explanation = (
     None,
     "norescuer",
@@ -419,7 +463,7 @@ const ITEM: Explanation = (
     "item directive\n",
     "\
 `item NAME`: the driver has a work item, and here it is called NAME. An item
-without a `flush` or `flushwq` line waits for nothing.
+without a line that says what it flushes waits for nothing.
 
 The rule: docs/FORMAT.md, \"Directives\"
 
@@ -472,6 +516,49 @@ no names of workqueues. Any of its items will do.
 ",
 );
 
+const FLUSH_UNSURE: Explanation = (
+    None,
+    "flush?",
+    "flush? directive\n",
+    "\
+`flush? NAME TARGET`: nobody has decided yet whether NAME may wait for TARGET.
+`hang` says whether that matters: the workqueues are safe whatever is so, or
+they hang for sure, or only if some of these lines are so, which it prints.
+
+The rule: docs/FORMAT.md, \"Items and groups\"
+
+To see it:
+    printf 'item a\\nitem b\\nflush? a b\\n' > decl
+    printf 'wq 0 a b\\n' > assign
+    wqplan hang decl assign
+
+What to do:
+Read the code of those lines that `hang` prints. Take the line away if it isn't
+so, or its `?` if it is, and ask again.
+",
+);
+
+const FLUSHWQ_UNSURE: Explanation = (
+    None,
+    "flushwq?",
+    "flushwq? directive\n",
+    "\
+`flushwq? NAME ITEM`: nobody has decided yet whether NAME may wait for the whole
+workqueue on which ITEM is. It is one question, as a `flush?` line is.
+
+The rule: docs/FORMAT.md, \"Items and groups\"
+
+To see it:
+    printf 'item a\\nflushwq? a a\\n' > decl
+    printf 'wq 0 a\\n' > assign
+    wqplan hang decl assign
+
+What to do:
+Read the code of those lines that `hang` prints. Take the line away if it isn't
+so, or its `?` if it is, and ask again.
+",
+);
+
 const ORDERED: Explanation = (
     None,
     "ordered",
@@ -492,7 +579,31 @@ at once. An assignment doesn't say which workqueues are ordered.
 );
 
 /// The explanations of the words of answers and of the directives, in the order of docs/FORMAT.md.
-pub static WORDS: [Explanation; 22] = [
-    PLAN, WQ, CHAIN, ARC, CIRCLE, RUN, YES, NO, NOT_LAWFUL, DEADLOCK, STUCK, OPEN, SAFE,
-    COMPONENTS, NORESCUER, WORKQUEUES, REFUSED, FAULT, ITEM, FLUSH, FLUSHWQ, ORDERED,
+pub static WORDS: [Explanation; 26] = [
+    PLAN,
+    WQ,
+    CHAIN,
+    ARC,
+    CIRCLE,
+    RUN,
+    UNSURE,
+    YES,
+    NO,
+    NOT_LAWFUL,
+    DEADLOCK,
+    STUCK,
+    OPEN,
+    SAFE,
+    COMPONENTS,
+    ARC_UNSURE,
+    NORESCUER,
+    WORKQUEUES,
+    REFUSED,
+    FAULT,
+    ITEM,
+    FLUSH,
+    FLUSHWQ,
+    FLUSH_UNSURE,
+    FLUSHWQ_UNSURE,
+    ORDERED,
 ];

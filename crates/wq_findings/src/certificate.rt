@@ -12,7 +12,7 @@ use crate::quoted::Quoted;
 use crate::refused::Refused;
 use crate::stage::{Shape, Stage, line_and_stage, stray_line};
 use crate::token::{Mark, Token, bytes_at, first_mark, word_at};
-use crate::what::{Unplaced, What};
+use crate::what::{Unplaced, What, Words};
 use crate::workqueue::is_workqueue;
 use std::alloc::{AllocError, Allocator};
 use wq_cert::{MAX_CERTIFICATE, MAX_CERTIFICATE_LINE, MAX_COUNT};
@@ -122,6 +122,7 @@ fn out_of_range<'a>(line: &Line<'a>, stage: Stage) -> Finding<'a> {
         Stage::Plan => "a plan has at most 4,096 workqueues",
         Stage::Chain => "a chain has at most 4,096 groups",
         Stage::Circle => "a circle has 1 to 4,096 arcs",
+        Stage::Part => "a declaration has at most 16,384 flushes",
         _ => "the number of a workqueue is at most 4,095",
     };
     Finding::marked(mark, What::Said(what), Hint::Nothing)
@@ -140,9 +141,35 @@ fn wrong_line<'a, A: Allocator + Copy>(
         Ok(Finding::too_long(line, limit, "the line has more than 524,288 bytes"))
     } else if !stage.may_begin_with(word) {
         other_line(alloc, line, stage)
+    } else if matches!(stage, Stage::Unsure { .. }) {
+        Ok(not_unsure(refused.declaration, line))
     } else {
         wrong_words(alloc, refused, line, stage, stage.shape(word))
     }
+}
+
+/// Whether two lines have the same words.
+fn have_same_words(line: &Line<'_>, other: &Line<'_>) -> bool {
+    let mut others = other.words();
+    for word in line.words() {
+        match others.next() {
+            Some(next) if next.bytes() == word.bytes() => {}
+            _ => return false,
+        }
+    }
+    others.next().is_none()
+}
+
+/// A line of an unsure part that stands for no unsure line of the declaration.
+fn not_unsure<'a>(declaration: &Text<'a>, line: &Line<'a>) -> Finding<'a> {
+    let mut count: u32 = 0;
+    for other in declaration.lines() {
+        if have_same_words(line, &other) {
+            count = count.saturating_add(1);
+        }
+    }
+    let what = What::NotUnsure(Words(line.content()), count);
+    Finding::marked(first_mark(line), what, Hint::ASK_AGAIN)
 }
 
 /// A line with another first word, or after the last line of the text.

@@ -119,20 +119,21 @@ fn unknown_word<'a, A: Allocator + Copy>(
     line: &Line<'a>,
 ) -> Result<Finding<'a>, AllocError> {
     let word = bytes_at(line, 0);
-    let hint = directive_hint(alloc, text, word)?;
+    let hint = directive_hint(alloc, text, word, bytes_at(line, 1))?;
     let what = What::NoDirective(Quoted(word));
     Ok(Finding::marked(first_mark(line), what, hint))
 }
 
-/// What a word that isn't a directive was most likely meant to be.
+/// What a word that isn't a directive was most likely meant to be, in front of that second one.
 fn directive_hint<A: Allocator + Copy>(
     alloc: A,
     text: &Text<'_>,
     word: &[u8],
+    second: &[u8],
 ) -> Result<Hint<'static>, AllocError> {
-    Ok(match guess_at(alloc, text, word)? {
+    Ok(match guess_at(alloc, text, word, second)? {
         Guess::Comment => Hint::COMMENT,
-        Guess::Call(hint) => hint,
+        Guess::Call(hint) | Guess::Mark(hint) => hint,
         Guess::OtherText(text) => Hint::LooksLike(text),
         Guess::OtherLine(text) => Hint::OwnFile(text),
         Guess::Directive(directive) => Hint::Directive(directive),
@@ -145,6 +146,8 @@ fn form_of(line: &Line<'_>) -> &'static str {
     match Keyword::of(bytes_at(line, 0)) {
         Some(Keyword::Item) => "item NAME",
         Some(Keyword::FlushWq) => "flushwq NAME ITEM",
+        Some(Keyword::FlushUnsure) => "flush? NAME TARGET",
+        Some(Keyword::FlushWqUnsure) => "flushwq? NAME ITEM",
         Some(Keyword::Ordered) => "ordered NAME..",
         Some(Keyword::Flush) | None => "flush NAME TARGET..",
     }
@@ -156,13 +159,23 @@ fn missing_name<'a>(line: &Line<'a>) -> Finding<'a> {
     Finding::marked(Mark::behind(line), what, Hint::Form(form_of(line)))
 }
 
-/// An `item` line with more than one name, or a `flushwq` line with more than two.
+/// An `item` line with more than one name, or a `flushwq`, `flush?` or `flushwq?` line with more than two.
 fn extra_word<'a>(line: &Line<'a>) -> Finding<'a> {
     let (at, what, hint) = match Keyword::of(bytes_at(line, 0)) {
         Some(Keyword::FlushWq) => (
             3,
             "a `flushwq` line has two names",
             "each workqueue has a `flushwq` line of its own",
+        ),
+        Some(Keyword::FlushUnsure) => (
+            3,
+            "a `flush?` line has two names",
+            "one line is one question: each target has a line of its own",
+        ),
+        Some(Keyword::FlushWqUnsure) => (
+            3,
+            "a `flushwq?` line has two names",
+            "one line is one question: each target has a line of its own",
         ),
         Some(Keyword::Item | Keyword::Flush | Keyword::Ordered) | None => (
             2,
@@ -191,16 +204,25 @@ fn name_hint(word: &[u8]) -> Hint<'static> {
     }
 }
 
+/// To which word of a line the mark of this one belongs, if it is a line of flushes and the word has such a mark.
+fn misplaced_mark(line: &Line<'_>, word: &[u8]) -> Option<Hint<'static>> {
+    if !word.starts_with(b"?") && !word.ends_with(b"?") {
+        return None;
+    }
+    match Keyword::of(bytes_at(line, 0)) {
+        Some(Keyword::Flush | Keyword::FlushUnsure) => Some(Hint::MARK_OF_FLUSH),
+        Some(Keyword::FlushWq | Keyword::FlushWqUnsure) => Some(Hint::MARK_OF_FLUSHWQ),
+        Some(Keyword::Item | Keyword::Ordered) | None => None,
+    }
+}
+
 /// The first word of a line that should be a name and isn't one.
 fn bad_name<'a>(line: &Line<'a>) -> Finding<'a> {
     for word in line.words().skip(1) {
         if !is_name(word.bytes()) {
             let word = Token::of(line, &word);
-            return Finding::marked(
-                word.mark,
-                What::NoName(word.quoted()),
-                name_hint(word.bytes),
-            );
+            let hint = misplaced_mark(line, word.bytes).unwrap_or(name_hint(word.bytes));
+            return Finding::marked(word.mark, What::NoName(word.quoted()), hint);
         }
     }
     Finding::whole(What::Said("a word of the line isn't a name"))
@@ -272,10 +294,12 @@ fn undeclared_hint<'a, A: Allocator + Copy>(
     })
 }
 
-/// Whether a word stands for the workqueue that a `flushwq` line flushes.
+/// Whether a word stands for the workqueue that a `flushwq` or `flushwq?` line flushes.
 fn is_flushed_whole(line: &Line<'_>, word: &[u8]) -> bool {
-    matches!(Keyword::of(bytes_at(line, 0)), Some(Keyword::FlushWq))
-        && bytes_at(line, 2) == word
+    matches!(
+        Keyword::of(bytes_at(line, 0)),
+        Some(Keyword::FlushWq | Keyword::FlushWqUnsure)
+    ) && bytes_at(line, 2) == word
         && bytes_at(line, 1) != word
 }
 

@@ -117,8 +117,16 @@ pub(crate) fn text_with(word: &[u8]) -> Option<&'static str> {
         "plan" | "wq" | "chain" => Some("a plan or an assignment"),
         "norescuer" => Some("an assignment"),
         "circle" => Some("a circle"),
-        "run" | "queue" | "cancel" | "start" | "wait" | "over" | "waitwq" | "overwq" | "finish" =>
-            Some("a run"),
+        "run"
+        | "unsure"
+        | "queue"
+        | "cancel"
+        | "start"
+        | "wait"
+        | "over"
+        | "waitwq"
+        | "overwq"
+        | "finish" => Some("a run"),
         "refused" => Some("a refusal, written here in place of an answer"),
         _ => None,
     }
@@ -131,6 +139,8 @@ pub(crate) enum Guess {
     Comment,
     /// A call of the kernel, and the hint for it.
     Call(Hint<'static>),
+    /// A mark of what isn't sure, in a place where none belongs, and the hint for it.
+    Mark(Hint<'static>),
     /// It begins a line of such a text, and no line of this one begins with a directive.
     OtherText(&'static str),
     /// It begins a line of such a text, which is in the file of a declaration.
@@ -141,11 +151,36 @@ pub(crate) enum Guess {
     Unknown,
 }
 
-/// What the first word of a line of this declaration most likely is, if it isn't a directive.
+/// The hint for a mark of what isn't sure that doesn't belong to the first word of a line, or to no line of this kind,
+/// where these are its first two words.
+fn mark_hint(word: &[u8], second: &[u8]) -> Option<Hint<'static>> {
+    if word == b"?flush".as_slice() {
+        return Some(Hint::Directive("flush?"));
+    }
+    if word == b"?flushwq".as_slice() {
+        return Some(Hint::Directive("flushwq?"));
+    }
+    if word == b"item?".as_slice() || word == b"ordered?".as_slice() {
+        return Some(Hint::ONLY_FLUSHES);
+    }
+    if word != b"?".as_slice() {
+        return None;
+    }
+    Some(if second == b"flush".as_slice() {
+        Hint::Directive("flush?")
+    } else if second == b"flushwq".as_slice() {
+        Hint::Directive("flushwq?")
+    } else {
+        Hint::UNDECIDED
+    })
+}
+
+/// What the first word of a line of this declaration most likely is, if it isn't a directive; the second one is this.
 pub(crate) fn guess_at<A: Allocator + Copy>(
     alloc: A,
     text: &Text<'_>,
     word: &[u8],
+    second: &[u8],
 ) -> Result<Guess, AllocError> {
     if begins_comment(word) {
         return Ok(Guess::Comment);
@@ -153,6 +188,9 @@ pub(crate) fn guess_at<A: Allocator + Copy>(
     let is_among_directives = has_directive(text);
     if let Some(hint) = call_hint(word, is_among_directives) {
         return Ok(Guess::Call(hint));
+    }
+    if let Some(hint) = mark_hint(word, second) {
+        return Ok(Guess::Mark(hint));
     }
     if let Some(text) = text_with(word) {
         return Ok(other_text(text, is_among_directives));
@@ -192,7 +230,11 @@ pub(crate) fn directive_like<A: Allocator + Copy>(
     alloc: A,
     word: &[u8],
 ) -> Result<Option<&'static str>, AllocError> {
-    most_like(alloc, word, &["item", "flush", "flushwq", "ordered"])
+    most_like(
+        alloc,
+        word,
+        &["item", "flush", "flushwq", "flush?", "flushwq?", "ordered"],
+    )
 }
 
 /// The one of these words that a word of a text is most like, if it is like one; of several the first.

@@ -56,6 +56,29 @@ impl Hint<'_> {
     /// The hint for a call that waits for a whole workqueue, in the place of a directive.
     pub(crate) const FLUSHWQ: Hint<'static> = Hint::Directive("flushwq");
 
+    /// The hint for a mark of what isn't sure on a line that isn't one of flushes.
+    pub(crate) const ONLY_FLUSHES: Hint<'static> = Hint::Said(
+        "only a `flush` or `flushwq` line can be unsure",
+    );
+
+    /// The hint for a place in a draft at which it isn't known what is waited for.
+    pub(crate) const UNDECIDED: Hint<'static> = Hint::Said(
+        "a site of a draft that isn't decided: write who ends the wait, or take it out",
+    );
+
+    /// The hint for a mark at a name on a line of flushes.
+    pub(crate) const MARK_OF_FLUSH: Hint<'static> = Hint::Said(
+        "the mark belongs to the first word: `flush?`",
+    );
+
+    /// The hint for a mark at a name on a line of a flush of a whole workqueue.
+    pub(crate) const MARK_OF_FLUSHWQ: Hint<'static> = Hint::Said(
+        "the mark belongs to the first word: `flushwq?`",
+    );
+
+    /// The hint for a line of an unsure part that isn't unsure in the declaration.
+    pub(crate) const ASK_AGAIN: Hint<'static> = Hint::Said("ask `hang` again");
+
     /// The hint for a word in which names are parted by something else.
     pub(crate) const BLANKS: Hint<'static> = Hint::Said("only blanks come between names");
 

@@ -8,7 +8,7 @@ use crate::declaration::not_above;
 use crate::guess::{Guess, begins_comment, encoding_hint, guess_at, text_with};
 use crate::hint::Hint;
 use crate::names::{LineNames, declared_on};
-use crate::token::{Mark, first_word, line_at, word_at};
+use crate::token::{Mark, bytes_at, first_word, line_at, word_at};
 use std::alloc::{AllocError, Allocator};
 use wq_decl::{Keyword, is_name};
 use wq_text::{Line, Text};
@@ -189,7 +189,13 @@ impl<A: Allocator + Copy> Mending<A> {
     /// Takes this line out, which may declare an item unless it has another directive.
     fn out<'a>(&mut self, line: &Line<'a>) -> Mend<'a> {
         match Keyword::of(first_word(line)) {
-            Some(Keyword::Flush | Keyword::FlushWq | Keyword::Ordered) => {}
+            Some(
+                Keyword::Flush
+                | Keyword::FlushWq
+                | Keyword::FlushUnsure
+                | Keyword::FlushWqUnsure
+                | Keyword::Ordered,
+            ) => {}
             Some(Keyword::Item) | None => self.knows_items = false,
         }
         Mend::Out(line.no())
@@ -227,9 +233,15 @@ impl<A: Allocator + Copy> Mending<A> {
         line: &Line<'a>,
     ) -> Result<Option<Mend<'a>>, AllocError> {
         let word = first_word(line);
-        Ok(match guess_at(alloc, text, word)? {
-            Guess::Call(Hint::Directive(directive)) | Guess::Directive(directive) => {
-                Some(Mend::EachBegins(word, directive))
+        Ok(match guess_at(alloc, text, word, bytes_at(line, 1))? {
+            Guess::Call(Hint::Directive(directive))
+            | Guess::Mark(Hint::Directive(directive))
+            | Guess::Directive(directive) => Some(Mend::EachBegins(word, directive)),
+            Guess::Mark(_) => {
+                if word == b"item?".as_slice() {
+                    self.knows_items = false;
+                }
+                Some(Mend::EachOut(word))
             }
             Guess::Comment | Guess::Call(_) => Some(Mend::EachOut(word)),
             Guess::OtherLine(_) => Some(Mend::OtherLinesOut),

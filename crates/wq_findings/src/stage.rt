@@ -37,6 +37,10 @@ pub enum Stage {
     ChainArc { left: u32 },
     /// An arc of a circle; this many are left to come.
     CircleArc { left: u32 },
+    /// `unsure M`.
+    Part,
+    /// A line of an unsure part; this many are left to come.
+    Unsure { left: u32 },
     /// `run M`.
     Run,
     /// A step; this many are left to come.
@@ -54,6 +58,7 @@ impl Stage {
     /// What the first line should be, judging by its first word.
     pub(crate) fn first(kind: CertificateKind, word: &[u8]) -> Stage {
         match kind {
+            CertificateKind::Run if word == b"unsure".as_slice() => Stage::Part,
             CertificateKind::Run => Stage::Run,
             CertificateKind::Answer if word == b"circle".as_slice() => Stage::Circle,
             CertificateKind::Assignment if word != b"plan".as_slice() => Stage::Workqueue {
@@ -91,6 +96,14 @@ impl Stage {
         Stage::CircleArc { left }
     }
 
+    /// The stage with this many lines of an unsure part to come.
+    fn unsure_lines(left: u32) -> Stage {
+        if left == 0 {
+            return Stage::Run;
+        }
+        Stage::Unsure { left }
+    }
+
     /// The stage with this many steps to come.
     fn steps(left: u32) -> Stage {
         if left == 0 {
@@ -115,6 +128,8 @@ impl Stage {
             Stage::Chain => Stage::chain_arcs(count_on(line).saturating_sub(1)),
             Stage::ChainArc { left } => Stage::chain_arcs(left.saturating_sub(1)),
             Stage::CircleArc { left } => Stage::circle_arcs(left.saturating_sub(1)),
+            Stage::Part => Stage::unsure_lines(count_on(line)),
+            Stage::Unsure { left } => Stage::unsure_lines(left.saturating_sub(1)),
             Stage::Run => Stage::steps(count_on(line)),
             Stage::Step { left } => Stage::steps(left.saturating_sub(1)),
             Stage::End => Stage::End,
@@ -140,6 +155,8 @@ impl Stage {
             Stage::Workqueue { .. } => b"wq",
             Stage::Chain => b"chain",
             Stage::ChainArc { .. } | Stage::CircleArc { .. } => b"arc",
+            Stage::Part => b"unsure",
+            Stage::Unsure { .. } => return is_unsure(word),
             Stage::Run => b"run",
             Stage::Step { .. } => return is_step(word),
             Stage::End => return false,
@@ -150,7 +167,7 @@ impl Stage {
     /// What is after the first word of such a line.
     pub(crate) fn shape(self, word: &[u8]) -> Shape {
         match self {
-            Stage::Plan | Stage::Circle | Stage::Chain | Stage::Run => Shape {
+            Stage::Plan | Stage::Circle | Stage::Chain | Stage::Part | Stage::Run => Shape {
                 has_number: true,
                 names: Some(0),
             },
@@ -158,10 +175,11 @@ impl Stage {
                 has_number: true,
                 names: None,
             },
-            Stage::ChainArc { .. } | Stage::CircleArc { .. } | Stage::End => Shape {
-                has_number: false,
-                names: Some(2),
-            },
+            Stage::ChainArc { .. } | Stage::CircleArc { .. } | Stage::Unsure { .. } | Stage::End =>
+                Shape {
+                    has_number: false,
+                    names: Some(2),
+                },
             Stage::Step { .. } => Shape {
                 has_number: !is_call(word),
                 names: Some(1),
@@ -181,6 +199,8 @@ impl fmt::Display for Stage {
             Stage::Workqueue { next, .. } => write!(f, "`wq {next} NAME..`"),
             Stage::Chain => f.write_str("`chain N`"),
             Stage::ChainArc { .. } | Stage::CircleArc { .. } => f.write_str("`arc NAME TARGET`"),
+            Stage::Part => f.write_str("`unsure M`"),
+            Stage::Unsure { .. } => f.write_str("`flush? NAME TARGET`"),
             Stage::Run => f.write_str("`run M`"),
             Stage::Step { .. } => f.write_str("a step"),
             Stage::End => f.write_str("nothing"),
@@ -211,6 +231,11 @@ impl Shape {
 /// Whether a word begins a step that names no workqueue.
 fn is_call(word: &[u8]) -> bool {
     word == b"queue".as_slice() || word == b"cancel".as_slice()
+}
+
+/// Whether a word begins a line of an unsure part.
+fn is_unsure(word: &[u8]) -> bool {
+    word == b"flush?".as_slice() || word == b"flushwq?".as_slice()
 }
 
 /// Whether a word begins a step.

@@ -36,6 +36,8 @@ pub enum What<'a> {
     TwiceOnLine(Quoted<'a>),
     /// The line that should be where a text ends.
     EndsAt(Stage),
+    /// The words of a line of an unsure part, and how many unsure lines of the declaration have these.
+    NotUnsure(Words<'a>, u32),
     /// A first word, and the line that should be there.
     Other(Quoted<'a>, Stage),
     /// The first word of the line of a workqueue, and the number that should be there.
@@ -69,6 +71,7 @@ impl fmt::Display for What<'_> {
             What::NoItem(name) => say(f, "no item ", name, " is declared"),
             What::OnTwoLines(name) => say(f, "", name, " is on two `ordered` lines"),
             What::TwiceOnLine(word) => say(f, "", word, " is on this line twice"),
+            What::NotUnsure(words, count) => not_unsure(f, words, count),
             What::EndsAt(stage) => write!(f, "expected {stage}, but the text ends"),
             What::Other(word, stage) => write!(f, "expected {stage}, found `{word}`"),
             What::OutOfOrder(word, next) => write!(f, "expected `{word} {next}`"),
@@ -92,6 +95,22 @@ fn say<W: fmt::Write>(
     behind: &str,
 ) -> fmt::Result {
     write!(f, "{before}`{word}`{behind}")
+}
+
+/// Writes that a line isn't unsure in the declaration, or not as often.
+fn not_unsure<W: fmt::Write>(
+    f: &mut fmt::Formatter<W>,
+    words: Words<'_>,
+    count: u32,
+) -> fmt::Result {
+    match count {
+        0 => write!(f, "`{words}` isn't unsure in the declaration"),
+        1 => write!(f, "`{words}` is unsure only once in the declaration"),
+        _ => write!(
+            f,
+            "`{words}` is unsure only {count} times in the declaration"
+        ),
+    }
 }
 
 /// Writes what is wrong with a byte.
@@ -151,6 +170,29 @@ fn wrong_arc<W: fmt::Write>(
     say(f, "", item, " doesn't flush ")?;
     say(f, "", target, ", or isn't in the group of the target ")?;
     f.write_str(before)
+}
+
+/// The words of a line, of which these are the bytes before its comment, with one space between each two.
+#[derive(Clone, Copy)]
+pub struct Words<'a>(pub(crate) &'a [u8]);
+
+impl fmt::Display for Words<'_> {
+    ghost output = { λ _. None };
+
+    fn fmt<W: fmt::Write>(&self, f: &mut fmt::Formatter<W>) -> fmt::Result {
+        let mut is_first = true;
+        for word in self.0.split(|byte| matches!(*byte, b' ' | b'\t')) {
+            if word.is_empty() {
+                continue;
+            }
+            if !is_first {
+                f.write_str(" ")?;
+            }
+            is_first = false;
+            write!(f, "{}", Quoted(word))?;
+        }
+        Ok(())
+    }
 }
 
 /// The items that are on no workqueue: how many there are, and the names of the first three.

@@ -84,7 +84,7 @@ pub fn workqueue_at<'a>(text: &Text<'a>, number: u16) -> Option<(Line<'a>, Mark)
 fn declares_flushes(line: &Line<'_>) -> bool {
     matches!(
         Keyword::of(first_word(line)),
-        Some(Keyword::Flush | Keyword::FlushWq)
+        Some(Keyword::Flush | Keyword::FlushWq | Keyword::FlushUnsure | Keyword::FlushWqUnsure)
     )
 }
 

@@ -3,6 +3,7 @@ use Rattle.std.specs.Prelude.{◌≡◌, ℕ, ◌≤◌, List, length, IsPermuta
 use Rattle.std.specs.List.{All, range_with_len}
 use Rattle.wq_items.specs.declared.target.Target.{Target}
 use Rattle.wq_items.specs.Table.{Table, VertexWaits, TargetsBelow, PlacesRise, max_flushes, flush_count, places}
+use Rattle.wq_items.specs.Readings.{compact}
 use Rattle.wq_groups.specs.Partition.{Partition, IsPartition}
 
 -- for each item in turn the targets of its flushes and the number of its group; and how many groups there are
@@ -14,6 +15,10 @@ pub record Declaration : Type 0 where
 -- what a table and the groups of its items declare
 abbrev pub declaration_of : Table → Partition → Declaration
 declaration_of t p = record { waits = t.waits; group_of = p.group_of; groups = p.groups }
+
+-- what is declared in the reading that keeps the unsure flushes at these places
+abbrev pub reading_declared : Declaration → List ℕ → Declaration
+reading_declared d kept = record d { waits = compact kept d.waits }
 
 -- a group waits for a group, which may be the same: an item of the first declares a flush of an item of the second
 abbrev pub GroupWaits : Declaration → ℕ → ℕ → Type 0

@@ -7,7 +7,7 @@ use Rattle.std.specs.Option.{unwrap_or}
 use Rattle.wq_text.specs.Refusal.{Refusal}
 use Rattle.wq_text.specs.Words.{WordView}
 use Rattle.wq_decl.specs.declared.directive.Directive.{Directive}
-use Rattle.wq_decl.specs.declared.directive.Directive.TheVariants.{Item, Flush, FlushWq, Ordered}
+use Rattle.wq_decl.specs.declared.directive.Directive.TheVariants.{Item, Flush, FlushWq, Unsure, Ordered}
 use Rattle.wq_groups.specs.declared.fault.GroupError.{GroupError}
 use Rattle.wq_groups.specs.declared.fault.GroupError.TheVariants.{GroupedTwice, OutOfMemory}
 use Rattle.wq_groups.specs.Partition.{Partition}
@@ -17,6 +17,7 @@ abbrev pub names_ordered : ℕ × Directive → List (List ℕ)
 names_ordered (n, Item name) = []
 names_ordered (n, Flush name targets) = []
 names_ordered (n, FlushWq name target) = []
+names_ordered (n, Unsure name target whole) = []
 names_ordered (n, Ordered names) = map (λ (word : WordView). word.bytes) names
 
 -- ---- the first fault

@@ -1,11 +1,12 @@
 //! What is declared: items with their flushes, and the groups of these items.
 //!
-//! One value holds both, so that whoever has it knows that each item is in a group. Its functions take constant time.
+//! One value holds both, so that whoever has it knows that each item is in a group. `new` takes constant time.
 
-ghost use Rattle.std.specs.Prelude.{◌≡◌, length};
+ghost use Rattle.std.specs.Prelude.{◌≡◌, length, IfOk};
+ghost use Rattle.wq_groups.specs.DeclaredGroups.{reading_with_names};
 
 use crate::groups::Groups;
-use std::alloc::Allocator;
+use std::alloc::{AllocError, Allocator};
 use std::marker::Model;
 use wq_items::ItemTable;
 
@@ -36,5 +37,16 @@ impl<'a, A: Allocator + Copy> Declaration<'a, A> {
         let _items = table.len();
         let _groups = groups.len();
         Declaration { table, groups }
+    }
+
+    /// What is declared in the reading that keeps the unsure flushes at these places. Other places mean nothing.
+    ///
+    /// It takes time and memory in the number of items and flushes, and time in the number of these places.
+    pub fn reading(&self, alloc: A, kept: &[u32]) -> Result<Self, AllocError>
+        ensures { IfOk result (λ d. d ≡ reading_with_names self.now kept.now) }
+    {
+        let table = self.table.reading(alloc, kept)?;
+        let groups = self.groups.again(alloc)?;
+        Ok(Declaration::new(table, groups))
     }
 }

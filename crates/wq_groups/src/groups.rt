@@ -18,7 +18,7 @@ use crate::group_id::GroupId;
 use crate::members::Members;
 use crate::numbering::number;
 use crate::reading::first_members;
-use std::alloc::Allocator;
+use std::alloc::{AllocError, Allocator};
 use std::marker::Model;
 use wq_decl::DeclView;
 use wq_items::{ItemId, ItemTable};
@@ -75,6 +75,16 @@ impl<A: Allocator + Copy> Groups<A> {
     {
         let first = first_members(view, table, guesses)?;
         let (group_of, groups) = number(alloc, first.as_slice())?;
+        let members = Members::new(alloc, group_of.as_slice(), groups)?;
+        Ok(Groups { group_of, members })
+    }
+
+    /// The same groups again.
+    pub(crate) fn again(&self, alloc: A) -> Result<Self, AllocError>
+        ensures { IfOk result (λ groups. groups ≡ self.now) }
+    {
+        let groups = self.len();
+        let group_of = Vec::from_slice(alloc, self.group_of.as_slice())?;
         let members = Members::new(alloc, group_of.as_slice(), groups)?;
         Ok(Groups { group_of, members })
     }

@@ -1,13 +1,17 @@
 -- What is declared is of items, and what a hop costs.
-use Rattle.std.proofs.Common.{◌≡◌, ◌≢◌, ℕ, ◌<◌, ◌≤◌, ◌⊎◌, inl, inr, Bool, true, false, eqb, List, [], ◌∷◌, length, refl, ap, subst, arith}
-use Rattle.std.specs.Prelude.{Contains, if◌then◌else◌, ◌||◌}
+use Rattle.std.proofs.Common.{◌≡◌, ◌≢◌, ℕ, zero, suc, ◌+◌, ◌<◌, ◌≤◌, ◌⊎◌, inl, inr, Bool, true, false, eqb, List, []}
+use Rattle.std.proofs.Common.{◌∷◌}
+use Rattle.std.proofs.Common.{length, refl, ap, subst, ◌∙◌, arith}
+use Rattle.std.specs.Prelude.{Contains, if◌then◌else◌, ◌||◌, not}
+use Rattle.std.specs.List.{list_any}
 use Rattle.std.proofs.lemmas.Bool.{cases_lt, eqb-true, eq-eqb, both_ways}
 use Rattle.std.proofs.lemmas.List.{get_or_past}
 use Rattle.wq_items.specs.declared.target.Target.{Target}
 use Rattle.wq_items.proofs.Tables.{targets_of-below}
 use Rattle.wq_core.specs.Wiring.{Wiring, IsWiring, items, declared_by}
 use Rattle.wq_hang.specs.declared.hop.Hop.{Hop}
-use Rattle.wq_hang.specs.Walk.{target_beside}
+use Rattle.wq_hang.specs.Walk.{target_beside, unsure_part}
+use Rattle.wq_hang.specs.Search.{hop_cost, least_hop}
 
 pub declared-item : (w : Wiring) (i : ℕ) (t : Target) → Contains (declared_by w i) t → i < items w
 declared-item w i t there = elim (cases_lt i (items w)) [
@@ -37,3 +41,36 @@ target_beside-most h = by (h.flush.whole || eqb h.flush.item h.next)
     by : (b : Bool) → length (if b then [] else h.flush.item ∷ []) ≤ 1
     by true = omega arith
     by false = omega arith
+
+pub unsure_part-most : (t : Target) → unsure_part t ≤ 32768
+unsure_part-most t = by t.unsure
+  where
+    by : (b : Bool) → (if b then 32768 else 0) ≤ 32768
+    by true = omega arith
+    by false = omega arith
+
+-- ---- what each hop of an item costs at least
+
+any_has : {X : Type 0} (p : X → Bool) (xs : List X) (x : X) → Contains xs x → p x ≡ true → list_any p xs ≡ true
+any_has p [] x there passes = absurd (omega (arith, there.1))
+any_has {X} p (y ∷ ys) x (zero, lt, at) passes = ap (λ (b : Bool). b || list_any p ys) (ap p at ∙ passes)
+any_has {X} p (y ∷ ys) x (suc k, lt, at) passes = by (p y) (any_has p ys x (k, omega arith, at) passes)
+  where
+    by : (b : Bool) → list_any p ys ≡ true → (b || list_any p ys) ≡ true
+    by true later = refl
+    by false later = later
+
+pub least_hop-enough : (w : Wiring) (h : Hop) → Contains (declared_by w h.item) h.flush
+    → least_hop w h.item ≤ hop_cost h
+least_hop-enough w h there = by h.flush.unsure refl
+    (list_any (λ (t : Target). not t.unsure) (declared_by w h.item)) refl
+  where
+    by : (u : Bool) → h.flush.unsure ≡ u → (any : Bool)
+        → list_any (λ (t : Target). not t.unsure) (declared_by w h.item) ≡ any
+        → (if any then 3 else 32768 + 3) ≤ (if u then 32768 else 0) + (3 + length (target_beside h))
+    by true is true some = omega arith
+    by true is false some = omega arith
+    by false is true some = omega arith
+    by false is false some =
+        absurd (both_ways (list_any (λ (t : Target). not t.unsure) (declared_by w h.item)) some
+        (any_has (λ (t : Target). not t.unsure) (declared_by w h.item) h.flush there (ap not is)))

@@ -1,12 +1,13 @@
 -- The first flush that leads to a bare lane, item by item and flush by flush.
-use Rattle.std.proofs.Common.{◌≡◌, ℕ, ◌+◌, ◌<◌, ◌≤◌, ◌⊎◌, inl, inr, List, [], Option, Some, None, sym, ap, subst, arith}
+use Rattle.std.proofs.Common.{◌≡◌, ℕ, ◌+◌, ◌<◌, ◌≤◌, ◌⊎◌, inl, inr, List, [], Option, Some, None, sym, subst, ◌∙◌}
+use Rattle.std.proofs.Common.{arith}
 use Rattle.std.specs.Prelude.{Contains, IfSome, IfNone}
 use Rattle.std.proofs.lemmas.Bool.{cases_eq}
 use Rattle.wq_items.specs.declared.target.Target.{Target}
 use Rattle.wq_core.specs.Wiring.{Wiring, HasRescuer, items, lane_of, declared_by}
 use Rattle.wq_core.proofs.Wirings.{cases_rescuer}
 use Rattle.wq_hang.specs.declared.hop.Hop.{Hop}
-use Rattle.wq_hang.specs.Walk.{IsHop, IsToBare, IsFirstToBare}
+use Rattle.wq_hang.specs.Walk.{ComesNoLater, IsHop, IsToBare, IsFirstToBare}
 use Rattle.wq_hang.specs.Bare.{IsNotAfter, IsFirstBelow}
 use Rattle.wq_hang.proofs.Declared.{declared-item}
 
@@ -32,9 +33,17 @@ IsFirstWith-kept w i before after t found is rescuer more = record {
   ];
 }
 
-not_after : (found : Option Hop) (n g : Hop) → IfSome found (λ f. n.flush.place ≤ f.flush.place) → IsNotAfter found g → n.flush.place ≤ g.flush.place
+-- the first of three comes before the last
+ComesNoLater-trans : (t u v : Target) → ComesNoLater t u → ComesNoLater u v → ComesNoLater t v
+ComesNoLater-trans t u v (inl one) (inl two) = inl (one.0 ∙ two.0, omega (arith, one.1, two.1))
+ComesNoLater-trans t u v (inl one) (inr two) = inr (one.0 ∙ two.0, two.1)
+ComesNoLater-trans t u v (inr one) (inl two) = inr (one.0, λ sure. one.1 (two.0 ∙ sure))
+ComesNoLater-trans t u v (inr one) (inr two) = absurd (one.1 two.0)
+
+not_after : (found : Option Hop) (n g : Hop) → IfSome found (λ f. ComesNoLater n.flush f.flush) → IsNotAfter found g
+    → ComesNoLater n.flush g.flush
 not_after None n g le is = absurd is
-not_after (Some f) n g le is = omega (arith, le, is)
+not_after (Some f) n g le is = ComesNoLater-trans n.flush f.flush g.flush le is
 
 to_bare : (w : Wiring) (found : Option Hop) (h n : Hop) → IfSome found (IsToBare w) → IsToBare w h → (n ≡ h) ⊎ (found ≡ Some n) → IsToBare w n
 to_bare w found h n some is (inl same) = subst (IsToBare w) (sym same) is
@@ -42,13 +51,14 @@ to_bare w found h n some is (inr same) = subst (λ (o : Option Hop). IfSome o (I
 
 -- a hop by a flush that leads to a bare lane, of which and what was found before this one is declared first
 pub IsFirstWith-more : (w : Wiring) (i : ℕ) (before after : List Target) (h n : Hop) (found : Option Hop) → IsFirstWith w i before found → IsToBare w h
-    → ((u : Target) → Contains after u → Contains before u ⊎ (h.flush ≡ u)) → (n ≡ h) ⊎ (found ≡ Some n) → n.flush.place ≤ h.flush.place → IfSome found (λ f. n.flush.place ≤ f.flush.place) → IsFirstWith w i after (Some n)
+    → ((u : Target) → Contains after u → Contains before u ⊎ (h.flush ≡ u)) → (n ≡ h) ⊎ (found ≡ Some n)
+    → ComesNoLater n.flush h.flush → IfSome found (λ f. ComesNoLater n.flush f.flush) → IsFirstWith w i after (Some n)
 IsFirstWith-more w i before after h n found is to more either first least = record {
   some = to_bare w found h n is.some to either;
   below = λ g hop bare item. not_after found n g least (is.below g hop bare item);
   own = λ g hop bare item there. elim (more g.flush there) [
     | inl old ↦ not_after found n g least (is.own g hop bare item old)
-    | inr same ↦ omega (arith, first, ap (λ (u : Target). u.place) same)
+    | inr same ↦ subst (λ (u : Target). ComesNoLater n.flush u) same first
   ];
 }
 

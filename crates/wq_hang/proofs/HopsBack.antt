@@ -1,5 +1,5 @@
 -- Rounds of one hop.
-use Rattle.std.proofs.Common.{◌≡◌, ℕ, ◌<◌, ◌≤◌, ◌⊎◌, inl, inr, List, [], ◌∷◌, length, Option, Some, None}
+use Rattle.std.proofs.Common.{◌≡◌, ℕ, ◌+◌, ◌<◌, ◌≤◌, ◌⊎◌, inl, inr, List, [], ◌∷◌, length, Option, Some, None}
 use Rattle.std.proofs.Common.{refl, sym, ap, subst, ◌∙◌, arith}
 use Rattle.std.specs.Prelude.{Contains, IfSome, IfNone}
 use Rattle.wq_items.specs.declared.target.Target.{Target}
@@ -7,6 +7,8 @@ use Rattle.wq_core.specs.Wiring.{Wiring, lane_of, declared_by}
 use Rattle.wq_hang.specs.declared.hop.Hop.{Hop}
 use Rattle.wq_hang.specs.Walk.{IsHop, IsPath}
 use Rattle.wq_hang.specs.Search.{hop_cost, hops_cost, hop_to, IsHopBack, IsCheapestBack, IsBetter, IsNoBetter}
+use Rattle.wq_hang.specs.Search.{least_hop}
+use Rattle.wq_hang.proofs.Declared.{least_hop-enough}
 
 -- the cheapest of the hops back by these flushes, and what it costs; or none costs less than the limit
 abbrev pub IsFoundBack : Wiring → ℕ → ℕ → ℕ → Option Hop → Type 0
@@ -90,19 +92,20 @@ IfNone-back w i limit least (Some h) so_far = tt
 
 -- ---- as a round
 
--- any round costs what its one hop costs, or 6 and more
-round-cost : (w : Wiring) (i cost : ℕ) → cost ≤ 6 → ((h : Hop) → IsHopBack w i h → cost ≤ hop_cost h)
+-- any round costs what its one hop costs, or what the item's cheapest hop does and 3 more
+round-cost : (w : Wiring) (i cost : ℕ) → cost ≤ least_hop w i + 3 → ((h : Hop) → IsHopBack w i h → cost ≤ hop_cost h)
     → (hops : List Hop) → 0 < length hops → IsPath w i hops i → cost ≤ hops_cost hops
 round-cost w i cost low least [] some path = absurd (omega arith)
 round-cost w i cost low least (h ∷ []) some path = omega (arith, least h path)
-round-cost w i cost low least (h ∷ g ∷ hops) some path = omega (arith, low)
+round-cost w i cost low least (h ∷ g ∷ hops) some path =
+    omega (arith, low, least_hop-enough w h path.1.declared, ap (least_hop w) path.0)
 
-pub IsNoBetter-back : (w : Wiring) (i least : ℕ) → least ≤ 6 → ((h : Hop) → IsHopBack w i h → least ≤ hop_cost h) →
-    IsNoBetter w i least
+pub IsNoBetter-back : (w : Wiring) (i least : ℕ) → least ≤ least_hop w i + 3
+    → ((h : Hop) → IsHopBack w i h → least ≤ hop_cost h) → IsNoBetter w i least
 IsNoBetter-back w i least low none hops some path = round-cost w i least low none hops some path
 
-pub IsBetter-back : (w : Wiring) (i least : ℕ) (h : Hop) → least ≤ 6 → IsCheapestBack w i least h → IsBetter w i least
-    (hop_cost (hop_to i h.flush i)) (h ∷ [])
+pub IsBetter-back : (w : Wiring) (i least : ℕ) (h : Hop) → least ≤ least_hop w i + 3 → IsCheapestBack w i least h
+    → IsBetter w i least (hop_cost (hop_to i h.flush i)) (h ∷ [])
 IsBetter-back w i least h low is =
     let same = back-cost w i h is.back in
     record {

@@ -1,17 +1,25 @@
 -- The best round so far, and the least walk in the end.
-use Rattle.std.proofs.Common.{◌≡◌, ℕ, ◌*◌, ◌<◌, ◌≤◌, ◌⊎◌, inl, inr, Bool, true, false, List, [], ◌∷◌, length, Option, Some, None, refl, sym, ap, subst, ◌∙◌, arith}
+use Rattle.std.proofs.Common.{◌≡◌, ℕ, zero, suc, ◌+◌, ◌*◌, ◌<◌, ◌≤◌, ◌⊎◌, inl, inr, Bool, true, false, cond, List, []}
+use Rattle.std.proofs.Common.{◌∷◌}
+use Rattle.std.proofs.Common.{length, Option, Some, None, refl, sym, ap, subst, ◌∙◌, arith}
 use Rattle.std.specs.Prelude.{flat_map, slice_index, slice_index_or, option_map, MatchOption, IfSome, IfNone, Contains}
+use Rattle.std.specs.Prelude.{if◌then◌else◌}
 use Rattle.std.specs.List.{All}
 use Rattle.std.proofs.lemmas.List.Elements.{All-nil, All-cons}
+use Rattle.wq_items.specs.declared.target.Target.{Target}
 use Rattle.wq_core.specs.Wiring.{Wiring, IsWiring, HasRescuer, items, lane_of, declared_by}
 use Rattle.wq_core.specs.Deadlock.{IsSafe}
+use Rattle.wq_core.proofs.Wirings.{lane_of-within}
 use Rattle.wq_hang.specs.declared.hop.Hop.{Hop}
-use Rattle.wq_hang.specs.Walk.{IsHop, IsPath, IsRound, IsWalk, IsLeastWalk, IsRoundOrFirst, target_beside, walk_cost}
+use Rattle.wq_hang.specs.Walk.{IsHop, IsPath, IsRound, IsWalk, IsLeastWalk, IsRoundOrFirst, IsFirstToBare, ComesNoLater}
+use Rattle.wq_hang.specs.Walk.{BeginsUnsure, AreAlike, AreFirstAlike, target_beside, unsure_part, walk_cost}
 use Rattle.wq_hang.specs.Search.{hops_cost, Reach, IsSearched, IsBetter, IsNoBetter, IsLeastRound, ArePassed, AreMarked}
-use Rattle.wq_hang.proofs.Declared.{declared-item}
+use Rattle.wq_hang.specs.Search.{least_hop}
+use Rattle.wq_hang.proofs.Declared.{declared-item, least_hop-enough, unsure_part-most}
 use Rattle.wq_hang.proofs.Rotations.{round_turned}
 use Rattle.wq_hang.proofs.StuckRounds.{walk_cost-hops}
-use Rattle.wq_hang.proofs.Shortest.{IsSafe-no_cheap_walk}
+use Rattle.wq_hang.proofs.LeastWalks.{no_round}
+use Rattle.wq_hang.proofs.Shortest.{IsSafe-no_walk}
 
 -- what a round is, if one was found that costs less than the limit: it costs at most this
 abbrev pub IsFound : Wiring → ℕ → ℕ → Option (List Hop) → Type 0
@@ -69,10 +77,11 @@ IsNoBetter-still w first least none (h ∷ hops) some path =
     subst (λ (k : ℕ). Contains (declared_by w k) h.flush) path.0 path.1.declared in
     absurd (omega (arith, there.1, none))
 
--- no round costs less than 3
-pub IsNoBetter-low : (w : Wiring) (first least : ℕ) → least ≤ 3 → IsNoBetter w first least
+-- no round costs less than the item's cheapest hop
+pub IsNoBetter-low : (w : Wiring) (first least : ℕ) → least ≤ least_hop w first → IsNoBetter w first least
 IsNoBetter-low w first least low [] some path = absurd (omega arith)
-IsNoBetter-low w first least low (h ∷ hops) some path = omega arith
+IsNoBetter-low w first least low (h ∷ hops) some path =
+    omega (arith, low, least_hop-enough w h path.1.declared, ap (least_hop w) path.0)
 
 pub IsNoBetter-searched : (w : Wiring) (first least : ℕ) (s : Reach) → IsSearched w first least s → least ≤ slice_index s.costs first → IsNoBetter w first least
 IsNoBetter-searched w first least s searched enough hops some path = omega (arith, searched.least hops some path, enough)
@@ -136,60 +145,155 @@ ArePassed-marked w numbers marks passed marked all hops round =
 
 -- ---- the least walk
 
--- a walk costs 4 if it leads to a bare lane
-bare_cost : (w : Wiring) (others : List Hop) (more : List ℕ) → (h : Hop) → others ≡ h ∷ [] → more ≡ h.flush.item ∷ [] → walk_cost others more ≡ 4
-bare_cost w others more h one other = omega (arith, ap (λ (l : List Hop). length l) one, ap (λ (l : List ℕ). length l) other)
+-- what a walk costs that leads to a bare lane
+pub bare_cost : (h : Hop) (beside : List ℕ) → length beside ≡ 1 → walk_cost (h ∷ []) beside ≡ unsure_part h.flush + 4
+bare_cost h beside one = by h.flush.unsure
+  where
+    by : (u : Bool) → 32768 * length (cond u (h ∷ []) []) + (3 * 1 + length beside) ≡ (if u then 32768 else 0) + 4
+    by true = omega (arith, one)
+    by false = omega (arith, one)
 
--- where flushes lead to bare lanes only if the limit is 4
-pub IsLeastWalk-round : (w : Wiring) (limit : ℕ) (hops : List Hop) (beside : List ℕ) → ((h : Hop) → IsHop w h → (¬ HasRescuer w (lane_of w h.flush.item)) → limit ≤ 4) → IsLeastRound w limit hops → beside ≡ flat_map target_beside hops → IsLeastWalk w hops beside
+bare_walk_cost : (h : Hop) (others : List Hop) (more : List ℕ) → others ≡ h ∷ [] → more ≡ h.flush.item ∷ []
+    → walk_cost others more ≡ unsure_part h.flush + 4
+bare_walk_cost h others more one other =
+    ap (λ (l : List Hop). walk_cost l more) one ∙ bare_cost h more (ap (λ (l : List ℕ). length l) other)
+
+-- what comes no later costs no more
+unsure_part-later : (t u : Target) → ComesNoLater t u → unsure_part t ≤ unsure_part u
+unsure_part-later t u (inl same) = omega (arith, ap {B = ℕ} (λ (b : Bool). if b then 32768 else 0) same.0)
+unsure_part-later t u (inr first) = omega (arith, ap {B = ℕ} (λ (b : Bool). if b then 32768 else 0) first.0)
+
+-- each flush that leads to a bare lane costs at least the limit
+abbrev pub BareCostsMore : Wiring → ℕ → Type 0
+BareCostsMore w limit = (h : Hop) → IsHop w h → (¬ HasRescuer w (lane_of w h.flush.item))
+    → limit ≤ unsure_part h.flush + 4
+
+cost-round : (hops : List Hop) (beside : List ℕ) → beside ≡ flat_map target_beside hops
+    → walk_cost hops beside ≡ hops_cost hops
+cost-round hops beside same = ap (walk_cost hops) same ∙ walk_cost-hops hops
+
+pub IsLeastWalk-round : (w : Wiring) (limit : ℕ) (hops : List Hop) (beside : List ℕ) → BareCostsMore w limit
+    → IsLeastRound w limit hops → beside ≡ flat_map target_beside hops → IsLeastWalk w hops beside
 IsLeastWalk-round w limit hops beside bare is same = record { walk = inl (is.round, same); least = least }
   where
-    cost : walk_cost hops beside ≡ hops_cost hops
-    cost = ap (walk_cost hops) same ∙ walk_cost-hops hops
-
     least : (others : List Hop) (more : List ℕ) → IsWalk w others more → walk_cost hops beside ≤ walk_cost others more
-    least others more (inl (round, with_targets)) = omega (arith, cost, is.least others round, ap (walk_cost others) with_targets, walk_cost-hops others)
-    least others more (inr (h, hop, leads, one, other)) = omega (arith, cost, is.less, bare h hop leads, bare_cost w others more h one other)
+    least others more (inl (round, with_targets)) =
+        omega (arith, cost-round hops beside same, is.least others round, cost-round others more with_targets)
+    least others more (inr (h, hop, leads, one, other)) =
+        omega (arith, cost-round hops beside same, is.less, bare h hop leads, bare_walk_cost h others more one other)
 
--- it costs less than 4 where a flush leads to a bare lane
-pub IsRoundOrFirst-round : (w : Wiring) (limit : ℕ) (hops : List Hop) (beside : List ℕ) → ((h : Hop) → IsHop w h → (¬ HasRescuer w (lane_of w h.flush.item)) → limit ≤ 4) → IsLeastRound w limit hops → beside ≡ flat_map target_beside hops → IsRoundOrFirst w hops beside
-IsRoundOrFirst-round w limit hops beside bare is same = inl (is.round, λ g hop leads. omega (arith, is.less, bare g hop leads, cost))
-  where
-    cost : walk_cost hops beside ≡ hops_cost hops
-    cost = ap (walk_cost hops) same ∙ walk_cost-hops hops
+-- it costs less than each walk that leads to a bare lane
+pub IsRoundOrFirst-round : (w : Wiring) (limit : ℕ) (hops : List Hop) (beside : List ℕ) → BareCostsMore w limit
+    → IsLeastRound w limit hops → beside ≡ flat_map target_beside hops → IsRoundOrFirst w hops beside
+IsRoundOrFirst-round w limit hops beside bare is same = inl (
+  is.round,
+  λ g hop leads. omega (
+    arith,
+    is.less,
+    bare g hop leads,
+    cost-round hops beside same,
+    bare_cost g (g.flush.item ∷ []) refl,
+  ),
+)
 
-pub IsLeastWalk-bare : (w : Wiring) (h : Hop) (hops : List Hop) (beside : List ℕ) → IsHop w h → (¬ HasRescuer w (lane_of w h.flush.item)) → ((others : List Hop) → IsRound w others → 4 ≤ hops_cost others)
+pub IsLeastWalk-bare : (w : Wiring) (limit : ℕ) (h : Hop) (hops : List Hop) (beside : List ℕ) → IsFirstToBare w h
+    → limit ≡ unsure_part h.flush + 4 → ((others : List Hop) → IsRound w others → limit ≤ hops_cost others)
     → hops ≡ h ∷ [] → beside ≡ h.flush.item ∷ [] → IsLeastWalk w hops beside
-IsLeastWalk-bare w h hops beside hop bare rounds one other = record { walk = inr (h, hop, bare, one, other); least = least }
+IsLeastWalk-bare w limit h hops beside first is rounds one other =
+    record { walk = inr (h, first.to_bare.hop, first.to_bare.bare, one, other); least = least }
   where
     least : (others : List Hop) (more : List ℕ) → IsWalk w others more → walk_cost hops beside ≤ walk_cost others more
-    least others more (inl (round, with_targets)) = omega (arith, bare_cost w hops beside h one other, rounds others round, ap (walk_cost others) with_targets, walk_cost-hops others)
-    least others more (inr (g, leads, to_bare, just, target)) = omega (arith, bare_cost w hops beside h one other, bare_cost w others more g just target)
+    least others more (inl (round, with_targets)) = omega (
+      arith,
+      is,
+      bare_walk_cost h hops beside one other,
+      rounds others round,
+      cost-round others more with_targets,
+    )
+    least others more (inr (g, leads, to_bare, just, target)) = omega (
+      arith,
+      bare_walk_cost h hops beside one other,
+      bare_walk_cost g others more just target,
+      unsure_part-later h.flush g.flush (first.first g leads to_bare),
+    )
 
-pub IsSafe-no_round : (w : Wiring) (limit : ℕ) → IsWiring w → 4 * w.lanes < limit → ((h : Hop) → IsHop w h → HasRescuer w (lane_of w h.flush.item)) → ((hops : List Hop) → IsRound w hops → limit ≤ hops_cost hops) → IsSafe w
-IsSafe-no_round w limit wiring few rescued rounds = IsSafe-no_cheap_walk w wiring cheap
+-- the first flush that leads to a bare lane is the first with its words, too
+pub AreFirstAlike-bare : (w : Wiring) (h : Hop) (hops : List Hop) → IsFirstToBare w h → hops ≡ h ∷ []
+    → AreFirstAlike w hops
+AreFirstAlike-bare w h hops first one = subst (AreFirstAlike w) (sym one) (λ g there. the_one g there)
   where
-    cheap : (hops : List Hop) (beside : List ℕ) → IsWalk w hops beside → 4 * w.lanes < walk_cost hops beside
-    cheap hops beside (inl (round, with_targets)) = omega (arith, few, rounds hops round, ap (walk_cost hops) with_targets, walk_cost-hops hops)
-    cheap hops beside (inr (h, hop, bare, one, other)) = absurd (bare (rescued h hop))
+    by : (t : Target) → AreAlike t h.flush → ComesNoLater h.flush t → h.flush.place ≤ t.place
+    by t alike (inl is) = is.1
+    by t alike (inr is) = absurd (is.1 (alike.unsure ∙ is.0))
 
--- the limit is 4 where a flush leads to a bare lane
-pub limit-enough : (w : Wiring) (bare : Option Hop) (limit : ℕ) → MatchOption bare (limit ≡ 16388) (λ _. limit ≡ 4) → IfNone bare ((h : Hop) → IsHop w h → HasRescuer w (lane_of w h.flush.item))
-    → (h : Hop) → IsHop w h → (¬ HasRescuer w (lane_of w h.flush.item)) → limit ≤ 4
-limit-enough w None limit is none h hop bare = absurd (bare (none h hop))
-limit-enough w (Some x) limit is none h hop bare = omega (arith, is)
+    own : (t : Target) → Contains (declared_by w h.item) t → AreAlike t h.flush → h.flush.place ≤ t.place
+    own t there alike =
+        let g : Hop = record { item = h.item; flush = t; next = h.next } in
+        let hop : IsHop w g = record { declared = there; rescuer = first.to_bare.hop.rescuer } in
+        let bare : ¬ HasRescuer w (lane_of w t.item) =
+        λ has. first.to_bare.bare (subst (λ (i : ℕ). HasRescuer w (lane_of w i)) alike.item has) in
+        by t alike (first.first g hop bare)
+
+    the_one : (g : Hop) → Contains (h ∷ []) g → (t : Target) → Contains (declared_by w g.item) t → AreAlike t g.flush
+        → g.flush.place ≤ t.place
+    the_one g (zero, lt, at) = subst
+        (λ (x : Hop). (t : Target) → Contains (declared_by w x.item) t → AreAlike t x.flush → x.flush.place ≤ t.place)
+        at
+        own
+    the_one g (suc k, lt, at) = absurd (omega arith)
+
+pub BeginsUnsure-one : (h : Hop) (hops : List Hop) → hops ≡ h ∷ [] → BeginsUnsure hops
+BeginsUnsure-one h hops one = subst BeginsUnsure (sym one) (λ sure. refl)
+
+pub IsSafe-no_round : (w : Wiring) (limit : ℕ) → IsWiring w → 32772 * w.lanes + 32772 ≤ limit
+    → ((h : Hop) → IsHop w h → HasRescuer w (lane_of w h.flush.item))
+    → ((hops : List Hop) → IsRound w hops → limit ≤ hops_cost hops) → IsSafe w
+IsSafe-no_round w limit wiring few rescued rounds = IsSafe-no_walk w wiring none
+  where
+    none : (hops : List Hop) (beside : List ℕ) → ¬ IsWalk w hops beside
+    none hops beside (inl (round, with_targets)) = no_round w limit wiring few rounds hops round
+    none hops beside (inr (h, hop, bare, one, other)) = bare (rescued h hop)
+
+-- the limit where a flush leads to a bare lane is what the first costs
+pub limit-bare : (bare : Option Hop) (h : Hop) (limit : ℕ) → bare ≡ Some h
+    → MatchOption bare (limit ≡ 134266884) (λ h. limit ≡ walk_cost (h ∷ []) (h.flush.item ∷ []))
+    → limit ≡ unsure_part h.flush + 4
+limit-bare None h limit one is = absurd cc
+limit-bare (Some g) h limit one is =
+    let same : g ≡ h = cc in
+    is ∙ bare_cost g (g.flush.item ∷ []) refl ∙ ap (λ (x : Hop). unsure_part x.flush + 4) same
+
+pub limit-enough : (w : Wiring) (bare : Option Hop) (limit : ℕ)
+    → MatchOption bare (limit ≡ 134266884) (λ h. limit ≡ walk_cost (h ∷ []) (h.flush.item ∷ []))
+    → IfSome bare (IsFirstToBare w) → IfNone bare ((h : Hop) → IsHop w h → HasRescuer w (lane_of w h.flush.item))
+    → BareCostsMore w limit
+limit-enough w None limit is some none h hop bare = absurd (bare (none h hop))
+limit-enough w (Some x) limit is some none h hop bare = omega (
+  arith,
+  is,
+  bare_cost x (x.flush.item ∷ []) refl,
+  unsure_part-later x.flush h.flush (some.first h hop bare),
+)
 
 -- where there is no lane, nothing runs
 pub IsSafe-no_lane : (w : Wiring) → IsWiring w → w.lanes ≡ 0 → IsSafe w
-IsSafe-no_lane w wiring none = IsSafe-no_cheap_walk w wiring cheap
+IsSafe-no_lane w wiring none = IsSafe-no_walk w wiring no_walk
   where
-    cheap : (hops : List Hop) (beside : List ℕ) → IsWalk w hops beside → 4 * w.lanes < walk_cost hops beside
-    cheap hops beside (inl (round, with_targets)) = omega (arith, none, round.some)
-    cheap hops beside (inr (h, hop, bare, one, other)) = omega (arith, none, bare_cost w hops beside h one other)
+    no_hop : (h : Hop) → ¬ IsHop w h
+    no_hop h hop = omega (arith, none, lane_of-within w wiring h.item (declared-item w h.item h.flush hop.declared))
 
-pub limit-low : (bare : Option Hop) (limit : ℕ) → MatchOption bare (limit ≡ 16388) (λ _. limit ≡ 4) → limit ≤ 16388
+    no_path : (i j : ℕ) (hops : List Hop) → 0 < length hops → ¬ IsPath w i hops j
+    no_path i j [] some path = omega arith
+    no_path i j (h ∷ hops) some path = no_hop h path.1
+
+    no_walk : (hops : List Hop) (beside : List ℕ) → ¬ IsWalk w hops beside
+    no_walk hops beside (inl (round, with_targets)) = no_path round.first round.first hops round.some round.path
+    no_walk hops beside (inr (h, hop, bare, one, other)) = no_hop h hop
+
+pub limit-low : (bare : Option Hop) (limit : ℕ)
+    → MatchOption bare (limit ≡ 134266884) (λ h. limit ≡ walk_cost (h ∷ []) (h.flush.item ∷ [])) → limit ≤ 134266884
 limit-low None limit is = omega (arith, is)
-limit-low (Some h) limit is = omega (arith, is)
+limit-low (Some h) limit is = omega (arith, is, bare_cost h (h.flush.item ∷ []) refl, unsure_part-most h.flush)
 
 -- the items that wait exist
 path_items : (w : Wiring) (i j : ℕ) (hops : List Hop) → IsPath w i hops j → All (λ (h : Hop). h.item < items w) hops

@@ -8,12 +8,15 @@ pub mod StuckRounds
 pub mod LeastWalks
 pub mod WalkRuns
 pub mod Shortest
+pub mod Fewest
 pub mod Sizes
 pub mod Reaching
 pub mod Searching
 pub mod LaneItems
 pub mod RoundsFound
 pub mod Rotations
+pub mod SettledHops
+pub mod NeededPlaces
 pub mod LeastFound
 pub mod FirstHops
 pub mod SomeLanes

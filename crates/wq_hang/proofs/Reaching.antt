@@ -1,6 +1,6 @@
 -- What a search finds: each step keeps what holds at each time, and no cost rises.
 use Rattle.std.proofs.Common.{◌≡◌, ◌≢◌, ℕ, zero, suc, ◌+◌, ◌*◌, ◌<◌, ◌≤◌, ◌⊎◌, inl, inr, Bool, true, false, eqb, ltb, List, [], ◌∷◌, length, get_or, set, refl, sym, ap, subst, ◌∙◌, arith}
-use Rattle.std.specs.Prelude.{Contains, fold, slice_index, slice_index_or, if◌then◌else◌, ◌||◌}
+use Rattle.std.specs.Prelude.{Contains, fold, slice_index, slice_index_or, if◌then◌else◌, ◌||◌, ◌&&◌, not}
 use Rattle.std.proofs.lemmas.Bool.{cases_eq, ltb-true, ltb-false, both_ways, false≢true, eq-eqb}
 use Rattle.std.proofs.lemmas.List.{get_or-set_same, get_or-set_other, length-set, length-append}
 use Rattle.std.proofs.lemmas.List.Elements.{Contains-append_left, Contains-push, Contains-push_cases}
@@ -9,8 +9,10 @@ use Rattle.wq_items.proofs.Lists.{Contains-later}
 use Rattle.wq_core.specs.Wiring.{Wiring, IsWiring, HasRescuer, items, lane_of, declared_by}
 use Rattle.wq_core.proofs.Wirings.{lane_of-within}
 use Rattle.wq_hang.specs.declared.hop.Hop.{Hop}
-use Rattle.wq_hang.specs.Walk.{IsHop}
-use Rattle.wq_hang.specs.Search.{hop_cost, Reach, IsTodo, reached, reach, hop_to, reach_all, with_lane_cost, reach_lane, lane_step, follow, expand, AreItemsOn, IsReachedBy, IsReach, IsFollowed}
+use Rattle.wq_hang.specs.Walk.{IsHop, unsure_part}
+use Rattle.wq_hang.specs.Search.{hop_cost, Reach, IsTodo, and_then, with_todo, reached, reach, hop_to, reach_all}
+use Rattle.wq_hang.specs.Search.{with_lane_cost, reach_lane}
+use Rattle.wq_hang.specs.Search.{step, lane_step, follow, expand, AreItemsOn, IsReachedBy, IsReach, IsFollowed}
 use Rattle.wq_hang.proofs.Declared.{declared-target}
 
 -- ---- how much is left to do
@@ -19,8 +21,12 @@ abbrev pub total : List ℕ → ℕ
 total [] = 0
 total (x ∷ xs) = x + total xs
 
+-- how many items are to be gone on from
+abbrev pub queues : Reach → ℕ
+queues s = length s.near + (length s.far + (length s.near_unsure + length s.far_unsure))
+
 abbrev pub work : Reach → ℕ
-work s = 2 * total s.costs + (length s.near + length s.far)
+work s = 2 * total s.costs + queues s
 
 total-set : (xs : List ℕ) (i x : ℕ) → i < length xs → total (set xs i x) + get_or xs i 0 ≡ total xs + x
 total-set [] i x lt = absurd (omega arith)
@@ -68,25 +74,64 @@ Later-both s r t one two = record {
 
 -- ---- one hop
 
+then-kept : (b : Bool) (i : ℕ) (queue : List ℕ) (j : ℕ) → Contains queue j → Contains (and_then b i queue) j
+then-kept true i queue j there = Contains-append_left queue (i ∷ []) j there
+then-kept false i queue j there = there
+
+then-cases : (b : Bool) (i : ℕ) (queue : List ℕ) (j : ℕ) → Contains (and_then b i queue) j → Contains queue j ⊎ (i ≡ j)
+then-cases true i queue j there = Contains-push_cases queue i j there
+then-cases false i queue j there = inl there
+
+kept_with : (near unsure : Bool) (i : ℕ) (s : Reach) (j : ℕ) → IsTodo s j → IsTodo (with_todo near unsure i s) j
+kept_with near unsure i s j (inl there) = inl (then-kept (near && not unsure) i s.near j there)
+kept_with near unsure i s j (inr (inl there)) = inr (inl (then-kept (not near && not unsure) i s.far j there))
+kept_with near unsure i s j (inr (inr (inl there))) =
+    inr (inr (inl (then-kept (near && unsure) i s.near_unsure j there)))
+kept_with near unsure i s j (inr (inr (inr there))) =
+    inr (inr (inr (then-kept (not near && unsure) i s.far_unsure j there)))
+
+todo_with : (near unsure : Bool) (i : ℕ) (s : Reach) → IsTodo (with_todo near unsure i s) i
+todo_with true false i s = inl (Contains-push s.near i)
+todo_with false false i s = inr (inl (Contains-push s.far i))
+todo_with true true i s = inr (inr (inl (Contains-push s.near_unsure i)))
+todo_with false true i s = inr (inr (inr (Contains-push s.far_unsure i)))
+
+cases_with : (near unsure : Bool) (i : ℕ) (s : Reach) (j : ℕ) → IsTodo (with_todo near unsure i s) j → IsTodo s j
+    ⊎ (i ≡ j)
+cases_with near unsure i s j (inl there) =
+    elim (then-cases (near && not unsure) i s.near j there) [ inl before ↦ inl (inl before) | inr same ↦ inr same ]
+cases_with near unsure i s j (inr (inl there)) =
+    elim (then-cases (not near && not unsure) i s.far j there)
+    [ inl before ↦ inl (inr (inl before)) | inr same ↦ inr same ]
+cases_with near unsure i s j (inr (inr (inl there))) =
+    elim (then-cases (near && unsure) i s.near_unsure j there)
+    [ inl before ↦ inl (inr (inr (inl before))) | inr same ↦ inr same ]
+cases_with near unsure i s j (inr (inr (inr there))) =
+    elim (then-cases (not near && unsure) i s.far_unsure j there)
+    [ inl before ↦ inl (inr (inr (inr before))) | inr same ↦ inr same ]
+
+queues_with : (near unsure : Bool) (i : ℕ) (s : Reach) → queues (with_todo near unsure i s) ≡ queues s + 1
+queues_with true false i s = omega (arith, length-append s.near (i ∷ []))
+queues_with false false i s = omega (arith, length-append s.far (i ∷ []))
+queues_with true true i s = omega (arith, length-append s.near_unsure (i ∷ []))
+queues_with false true i s = omega (arith, length-append s.far_unsure (i ∷ []))
+
+-- the same with new costs
+abbrev put : ℕ → Reach → Hop → Reach
+put cost s h = record s { costs = set s.costs h.next cost; by = set s.by h.next h }
+
 kept_reached : (near : Bool) (cost : ℕ) (s : Reach) (h : Hop) (i : ℕ) → IsTodo s i → IsTodo (reached near cost s h) i
-kept_reached true cost s h i (inl there) = inl (Contains-append_left s.near (h.next ∷ []) i there)
-kept_reached true cost s h i (inr there) = inr there
-kept_reached false cost s h i (inl there) = inl there
-kept_reached false cost s h i (inr there) = inr (Contains-append_left s.far (h.next ∷ []) i there)
+kept_reached near cost s h i todo = kept_with near h.flush.unsure h.next (put cost s h) i todo
 
 todo_reached : (near : Bool) (cost : ℕ) (s : Reach) (h : Hop) → IsTodo (reached near cost s h) h.next
-todo_reached true cost s h = inl (Contains-push s.near h.next)
-todo_reached false cost s h = inr (Contains-push s.far h.next)
+todo_reached near cost s h = todo_with near h.flush.unsure h.next (put cost s h)
 
-todo_cases : (near : Bool) (cost : ℕ) (s : Reach) (h : Hop) (i : ℕ) → IsTodo (reached near cost s h) i → IsTodo s i ⊎ (h.next ≡ i)
-todo_cases true cost s h i (inl there) = elim (Contains-push_cases s.near h.next i there) [ inl before ↦ inl (inl before) | inr same ↦ inr same ]
-todo_cases true cost s h i (inr there) = inl (inr there)
-todo_cases false cost s h i (inl there) = inl (inl there)
-todo_cases false cost s h i (inr there) = elim (Contains-push_cases s.far h.next i there) [ inl before ↦ inl (inr before) | inr same ↦ inr same ]
+todo_cases : (near : Bool) (cost : ℕ) (s : Reach) (h : Hop) (i : ℕ) → IsTodo (reached near cost s h) i
+    → IsTodo s i ⊎ (h.next ≡ i)
+todo_cases near cost s h i todo = cases_with near h.flush.unsure h.next (put cost s h) i todo
 
-queues_reached : (near : Bool) (cost : ℕ) (s : Reach) (h : Hop) → length (reached near cost s h).near + length (reached near cost s h).far ≡ length s.near + length s.far + 1
-queues_reached true cost s h = omega (arith, length-append s.near (h.next ∷ []))
-queues_reached false cost s h = omega (arith, length-append s.far (h.next ∷ []))
+queues_reached : (near : Bool) (cost : ℕ) (s : Reach) (h : Hop) → queues (reached near cost s h) ≡ queues s + 1
+queues_reached near cost s h = queues_with near h.flush.unsure h.next (put cost s h)
 
 cost_at : (near : Bool) (cost : ℕ) (s : Reach) (h : Hop) (i : ℕ) → h.next < length s.costs
     → ((i ≡ h.next) × (slice_index (reached near cost s h).costs i ≡ cost)) ⊎ ((i ≢ h.next) × (slice_index (reached near cost s h).costs i ≡ slice_index s.costs i))
@@ -212,7 +257,9 @@ module _ (w : Wiring) (first limit : ℕ) where
   lane_step-enough : (i : ℕ) (t : Target) (j : ℕ) → hop_cost (hop_to i t j) ≤ lane_step t
   lane_step-enough i t j = by t.whole (eqb t.item j)
     where
-      by : (whole same : Bool) → 3 + length (if whole || same then [] else t.item ∷ []) ≤ (if whole then 3 else 4)
+      by : (whole same : Bool)
+          → unsure_part t + (3 + length (if whole || same then [] else t.item ∷ [])) ≤ unsure_part t +
+          (if whole then 3 else 4)
       by true same = omega arith
       by false true = omega arith
       by false false = omega arith
@@ -323,15 +370,17 @@ module _ (w : Wiring) (first limit : ℕ) where
 
     -- where the flush leads on
     abbrev LedOn : Reach → ℕ → Target → Type 0
-    LedOn r cost t = HasRescuer w (lane_of w t.item) → (slice_index r.costs t.item ≤ cost + 3) × (slice_index r.lane_costs (lane_of w t.item) ≤ cost + lane_step t)
+    LedOn r cost t = HasRescuer w (lane_of w t.item) → (slice_index r.costs t.item ≤ cost + step t)
+        × (slice_index r.lane_costs (lane_of w t.item) ≤ cost + lane_step t)
 
     LedOn-later : (r end : Reach) (cost : ℕ) (t : Target) → Later r end → LedOn r cost t → LedOn end cost t
     LedOn-later r end cost t later led rescuer = let is = led rescuer in (omega (arith, is.0, later.less t.item), omega (arith, is.1, later.lanes_less (lane_of w t.item)))
 
-    direct-enough : (t : Target) (i : ℕ) → hop_cost (hop_to i t t.item) ≤ 3
+    direct-enough : (t : Target) (i : ℕ) → hop_cost (hop_to i t t.item) ≤ step t
     direct-enough t i = by t.whole (eqb t.item t.item) refl
       where
-        by : (whole same : Bool) → eqb t.item t.item ≡ same → 3 + length (if whole || same then [] else t.item ∷ []) ≤ 3
+        by : (whole same : Bool) → eqb t.item t.item ≡ same
+            → unsure_part t + (3 + length (if whole || same then [] else t.item ∷ [])) ≤ unsure_part t + 3
         by true same is = omega arith
         by false true is = omega arith
         by false false is = absurd (both_ways (eqb t.item t.item) is (eq-eqb t.item t.item refl))
@@ -343,7 +392,7 @@ module _ (w : Wiring) (first limit : ℕ) where
         below : t.item < items w
         below = declared-target w i t wiring declared
 
-        direct : HasRescuer w (lane_of w t.item) → LeadsOn w first s (hop_to i t t.item) (cost + 3)
+        direct : HasRescuer w (lane_of w t.item) → LeadsOn w first s (hop_to i t t.item) (cost + step t)
         direct other = record {
           below = below;
           rescuer = other;
@@ -354,19 +403,23 @@ module _ (w : Wiring) (first limit : ℕ) where
         }
 
         lead : HasRescuer w (lane_of w t.item)
-            → Grown w first limit s (reach_lane t.whole (cost + lane_step t) i t (lane_of w t.item) (slice_index_or on (lane_of w t.item) []) (reach true (cost + 3) s (hop_to i t t.item)))
-            × LedOn (reach_lane t.whole (cost + lane_step t) i t (lane_of w t.item) (slice_index_or on (lane_of w t.item) []) (reach true (cost + 3) s (hop_to i t t.item))) cost t
+            → Grown w first limit s (reach_lane t.whole (cost + lane_step t) i t (lane_of w t.item)
+            (slice_index_or on (lane_of w t.item) []) (reach true (cost + step t) s (hop_to i t t.item)))
+            × LedOn (reach_lane t.whole (cost + lane_step t) i t (lane_of w t.item)
+            (slice_index_or on (lane_of w t.item) []) (reach true (cost + step t) s (hop_to i t t.item))) cost t
         lead other =
-            let one = Grown-reach true (cost + 3) s (hop_to i t t.item) is (direct other) in
-            let r : Reach = reach true (cost + 3) s (hop_to i t t.item) in
+            let one = Grown-reach true (cost + step t) s (hop_to i t t.item) is (direct other) in
+            let r : Reach = reach true (cost + step t) s (hop_to i t t.item) in
             let begins : Begins r i t cost = record { declared = declared; rescuer = rescuer; other_rescuer = other; from_other = λ e. omega (arith, from_other e, one.0.later.less i) } in
             let two = Grown-lane t.whole cost i t r one.0.reach begins below in
             let end : Reach = reach_lane t.whole (cost + lane_step t) i t (lane_of w t.item) (slice_index_or on (lane_of w t.item) []) r in
             (Grown-both w first limit s r end one.0 two.0, λ rescued. (omega (arith, one.1, two.0.later.less t.item), two.1))
 
         by : (b : Bool) → slice_index_or w.bare (lane_of w t.item) false ≡ b
-            → Grown w first limit s (if b then s else reach_lane t.whole (cost + lane_step t) i t (lane_of w t.item) (slice_index_or on (lane_of w t.item) []) (reach true (cost + 3) s (hop_to i t t.item)))
-            × LedOn (if b then s else reach_lane t.whole (cost + lane_step t) i t (lane_of w t.item) (slice_index_or on (lane_of w t.item) []) (reach true (cost + 3) s (hop_to i t t.item))) cost t
+            → Grown w first limit s (if b then s else reach_lane t.whole (cost + lane_step t) i t (lane_of w t.item)
+            (slice_index_or on (lane_of w t.item) []) (reach true (cost + step t) s (hop_to i t t.item)))
+            × LedOn (if b then s else reach_lane t.whole (cost + lane_step t) i t (lane_of w t.item)
+            (slice_index_or on (lane_of w t.item) []) (reach true (cost + step t) s (hop_to i t t.item))) cost t
         by true bare = (record { reach = is; later = Later-same s }, λ rescued. absurd (false≢true (sym rescued ∙ bare)))
         by false rescued = lead rescued
 

@@ -30,28 +30,15 @@ use Rattle.std.proofs.Common.{
 use Rattle.std.specs.Prelude.{Contains, slice_index, slice_index_or, if◌then◌else◌, ◌||◌, replicate}
 use Rattle.std.proofs.lemmas.Bool.{cases_eq, cases_lt, eqb-true}
 use Rattle.std.proofs.lemmas.List.{get_or-replicate, get_or_past, length-replicate}
+use Rattle.wq_items.proofs.Lists.{Contains-here, Contains-later}
 use Rattle.wq_core.specs.Wiring.{Wiring, IsWiring, HasRescuer, items, lane_of}
 use Rattle.wq_core.proofs.Wirings.{lane_of-within}
 use Rattle.wq_hang.specs.declared.hop.Hop.{Hop}
-use Rattle.wq_hang.specs.Walk.{IsHop, IsPath}
-use Rattle.wq_hang.specs.Search.{
-  hop_cost,
-  hops_cost,
-  Reach,
-  IsTodo,
-  lane_step,
-  expand,
-  AreItemsOn,
-  IsReachedBy,
-  IsReach,
-  IsFollowed,
-  IsDone,
-  IsGoing,
-  IsTaken,
-  IsSearched,
-}
-use Rattle.wq_hang.proofs.Declared.{declared-item}
-use Rattle.wq_hang.proofs.Reaching.{total, work, Later, Grown, Grown-expand}
+use Rattle.wq_hang.specs.Walk.{IsHop, IsPath, unsure_part}
+use Rattle.wq_hang.specs.Search.{hop_cost, hops_cost, Reach, IsTodo, lane_step, expand, AreItemsOn, IsReachedBy}
+use Rattle.wq_hang.specs.Search.{IsReach, IsFollowed, least_hop, IsDone, IsGoing, IsTaken, IsSearched}
+use Rattle.wq_hang.proofs.Declared.{declared-item, least_hop-enough}
+use Rattle.wq_hang.proofs.Reaching.{queues, work, Later, Grown, Grown-expand}
 
 -- ---- the beginning
 
@@ -62,6 +49,8 @@ pub record IsNew (w : Wiring) (limit : ℕ) (s : Reach) : Type 0 where
   pub by_each : length s.by ≡ items w
   pub near : s.near ≡ []
   pub far : s.far ≡ []
+  pub near_unsure : s.near_unsure ≡ []
+  pub far_unsure : s.far_unsure ≡ []
 
 replicate-most : (n x i : ℕ) → get_or (replicate n x) i 0 ≤ x
 replicate-most n x i = elim (cases_lt i n) [
@@ -71,7 +60,10 @@ replicate-most n x i = elim (cases_lt i n) [
 
 none_todo : (w : Wiring) (limit : ℕ) (s : Reach) (i : ℕ) → IsNew w limit s → ¬ IsTodo s i
 none_todo w limit s i new (inl there) = omega (arith, there.1, ap (λ (l : List ℕ). length l) new.near)
-none_todo w limit s i new (inr there) = omega (arith, there.1, ap (λ (l : List ℕ). length l) new.far)
+none_todo w limit s i new (inr (inl there)) = omega (arith, there.1, ap (λ (l : List ℕ). length l) new.far)
+none_todo w limit s i new (inr (inr (inl there))) = omega
+    (arith, there.1, ap (λ (l : List ℕ). length l) new.near_unsure)
+none_todo w limit s i new (inr (inr (inr there))) = omega (arith, there.1, ap (λ (l : List ℕ). length l) new.far_unsure)
 
 IsReach-new : (w : Wiring) (first limit : ℕ) (s : Reach) → IsWiring w → IsNew w limit s → IsReach w first limit s
 IsReach-new w first limit s wiring new = record {
@@ -127,41 +119,86 @@ module _ (w : Wiring) (first limit : ℕ) (wiring : IsWiring w) (on : List (List
 
   -- ---- one item more
 
-  taken_todo : (s r : Reach) (i : ℕ) → IsTaken s i r → (j : ℕ) → IsTodo s j → (j ≡ i) ⊎ IsTodo r j
-  taken_todo s r i taken j todo = by taken.queues todo
-    where
-      first_or_later : (x : ℕ) (xs : List ℕ) → Contains (x ∷ xs) j → (j ≡ x) ⊎ Contains xs j
-      first_or_later x xs (zero, lt, at) = inl (sym at)
-      first_or_later x xs (suc k, lt, at) = inr (k, omega arith, at)
+  -- which of the four queues the item was in
+  abbrev Taken : Reach → ℕ → Reach → Type 0
+  Taken s i r = (s ≡ record r { near = i ∷ r.near })
+      ⊎ ((s ≡ record r { far = i ∷ r.far })
+      ⊎ ((s ≡ record r { near_unsure = i ∷ r.near_unsure }) ⊎ (s ≡ record r { far_unsure = i ∷ r.far_unsure })))
 
-      by : ((s.near ≡ i ∷ r.near) × (s.far ≡ r.far)) ⊎ ((s.far ≡ i ∷ r.far) × (s.near ≡ r.near)) → IsTodo s j → (j ≡ i)
-          ⊎ IsTodo r j
-      by (inl (near, far)) (inl there) = elim (first_or_later i r.near
-          (subst (λ (l : List ℕ). Contains l j) near there)) [ inl same ↦ inl same | inr later ↦ inr (inl later) ]
-      by (inl (near, far)) (inr there) = inr (inr (subst (λ (l : List ℕ). Contains l j) far there))
-      by (inr (far, near)) (inr there) = elim (first_or_later i r.far (subst (λ (l : List ℕ). Contains l j) far there))
-          [ inl same ↦ inl same | inr later ↦ inr (inr later) ]
-      by (inr (far, near)) (inl there) = inr (inl (subst (λ (l : List ℕ). Contains l j) near there))
+  -- what holds whichever it was holds
+  for_queues : (i : ℕ) (r : Reach) (P : Reach → Type 0) → P (record r { near = i ∷ r.near })
+      → P (record r { far = i ∷ r.far })
+      → P (record r { near_unsure = i ∷ r.near_unsure }) → P (record r { far_unsure = i ∷ r.far_unsure }) → (s : Reach)
+      → Taken s i r → P s
+  for_queues i r P one two three four s (inl is) = subst P (sym is) one
+  for_queues i r P one two three four s (inr (inl is)) = subst P (sym is) two
+  for_queues i r P one two three four s (inr (inr (inl is))) = subst P (sym is) three
+  for_queues i r P one two three four s (inr (inr (inr is))) = subst P (sym is) four
+
+  first_or_later : (j x : ℕ) (xs : List ℕ) → Contains (x ∷ xs) j → (j ≡ x) ⊎ Contains xs j
+  first_or_later j x xs (zero, lt, at) = inl (sym at)
+  first_or_later j x xs (suc k, lt, at) = inr (k, omega arith, at)
+
+  one_more : (j x : ℕ) (xs : List ℕ) (P : Type 0) → (Contains xs j → P) → Contains (x ∷ xs) j → (j ≡ x) ⊎ P
+  one_more j x xs P later there = elim (first_or_later j x xs there) [ inl same ↦ inl same | inr old ↦ inr (later old) ]
+
+  taken_todo : (s r : Reach) (i : ℕ) → IsTaken s i r → (j : ℕ) → IsTodo s j → (j ≡ i) ⊎ IsTodo r j
+  taken_todo s r i taken j = for_queues i r (λ (x : Reach). IsTodo x j → (j ≡ i)
+      ⊎ IsTodo r j) one two three four s taken.queues
+    where
+      one : IsTodo (record r { near = i ∷ r.near }) j → (j ≡ i) ⊎ IsTodo r j
+      one (inl there) = one_more j i r.near (IsTodo r j) (λ old. inl old) there
+      one (inr rest) = inr (inr rest)
+
+      two : IsTodo (record r { far = i ∷ r.far }) j → (j ≡ i) ⊎ IsTodo r j
+      two (inl there) = inr (inl there)
+      two (inr (inl there)) = one_more j i r.far (IsTodo r j) (λ old. inr (inl old)) there
+      two (inr (inr rest)) = inr (inr (inr rest))
+
+      three : IsTodo (record r { near_unsure = i ∷ r.near_unsure }) j → (j ≡ i) ⊎ IsTodo r j
+      three (inl there) = inr (inl there)
+      three (inr (inl there)) = inr (inr (inl there))
+      three (inr (inr (inl there))) = one_more j i r.near_unsure (IsTodo r j) (λ old. inr (inr (inl old))) there
+      three (inr (inr (inr there))) = inr (inr (inr (inr there)))
+
+      four : IsTodo (record r { far_unsure = i ∷ r.far_unsure }) j → (j ≡ i) ⊎ IsTodo r j
+      four (inl there) = inr (inl there)
+      four (inr (inl there)) = inr (inr (inl there))
+      four (inr (inr (inl there))) = inr (inr (inr (inl there)))
+      four (inr (inr (inr there))) = one_more j i r.far_unsure (IsTodo r j) (λ old. inr (inr (inr old))) there
 
   taken_before : (s r : Reach) (i : ℕ) → IsTaken s i r → (j : ℕ) → IsTodo r j → IsTodo s j
-  taken_before s r i taken j todo = by taken.queues todo
+  taken_before s r i taken j todo = for_queues i r (λ (x : Reach). IsTodo x j) (one todo) (two todo) (three todo)
+      (four todo) s taken.queues
     where
-      later : (x : ℕ) (xs : List ℕ) → Contains xs j → Contains (x ∷ xs) j
-      later x xs (k, lt, at) = (suc k, omega arith, at)
+      one : IsTodo r j → IsTodo (record r { near = i ∷ r.near }) j
+      one (inl there) = inl (Contains-later i r.near j there)
+      one (inr rest) = inr rest
 
-      by : ((s.near ≡ i ∷ r.near) × (s.far ≡ r.far)) ⊎ ((s.far ≡ i ∷ r.far) × (s.near ≡ r.near)) → IsTodo r j → IsTodo s
-          j
-      by (inl (near, far)) (inl there) = inl (subst (λ (l : List ℕ). Contains l j) (sym near) (later i r.near there))
-      by (inl (near, far)) (inr there) = inr (subst (λ (l : List ℕ). Contains l j) (sym far) there)
-      by (inr (far, near)) (inr there) = inr (subst (λ (l : List ℕ). Contains l j) (sym far) (later i r.far there))
-      by (inr (far, near)) (inl there) = inl (subst (λ (l : List ℕ). Contains l j) (sym near) there)
+      two : IsTodo r j → IsTodo (record r { far = i ∷ r.far }) j
+      two (inl there) = inl there
+      two (inr (inl there)) = inr (inl (Contains-later i r.far j there))
+      two (inr (inr rest)) = inr (inr rest)
+
+      three : IsTodo r j → IsTodo (record r { near_unsure = i ∷ r.near_unsure }) j
+      three (inl there) = inl there
+      three (inr (inl there)) = inr (inl there)
+      three (inr (inr (inl there))) = inr (inr (inl (Contains-later i r.near_unsure j there)))
+      three (inr (inr (inr there))) = inr (inr (inr there))
+
+      four : IsTodo r j → IsTodo (record r { far_unsure = i ∷ r.far_unsure }) j
+      four (inl there) = inl there
+      four (inr (inl there)) = inr (inl there)
+      four (inr (inr (inl there))) = inr (inr (inl there))
+      four (inr (inr (inr there))) = inr (inr (inr (Contains-later i r.far_unsure j there)))
 
   pub taken_was : (s r : Reach) (i : ℕ) → IsTaken s i r → IsTodo s i
-  taken_was s r i taken = by taken.queues
-    where
-      by : ((s.near ≡ i ∷ r.near) × (s.far ≡ r.far)) ⊎ ((s.far ≡ i ∷ r.far) × (s.near ≡ r.near)) → IsTodo s i
-      by (inl (near, far)) = inl (subst (λ (l : List ℕ). Contains l i) (sym near) (0, omega arith, refl))
-      by (inr (far, near)) = inr (subst (λ (l : List ℕ). Contains l i) (sym far) (0, omega arith, refl))
+  taken_was s r i taken =
+      for_queues i r (λ (x : Reach). IsTodo x i) (inl (Contains-here i r.near)) (inr (inl (Contains-here i r.far)))
+      (inr (inr (inl (Contains-here i r.near_unsure))))
+      (inr (inr (inr (Contains-here i r.far_unsure))))
+      s
+      taken.queues
 
   pub IsReach-taken : (s r : Reach) (i : ℕ) → IsTaken s i r → IsReach w first limit s → IsReach w first limit r
   IsReach-taken s r i taken is = record {
@@ -243,7 +280,7 @@ module _ (w : Wiring) (first limit : ℕ) (wiring : IsWiring w) (on : List (List
 
   -- an item by way of which no round costs less than the cheapest so far
   pub IsGoing-skipped : (s r : Reach) (i : ℕ) → IsGoing w first limit s → IsTaken s i r → slice_index r.costs first ≤
-      slice_index r.costs i + 3 → IsGoing w first limit r
+      slice_index r.costs i + least_hop w i → IsGoing w first limit r
   IsGoing-skipped s r i going taken enough = record {
     reach = IsReach-taken s r i taken going.reach;
     begun = followed_taken s r i taken first 0 going.begun;
@@ -251,7 +288,7 @@ module _ (w : Wiring) (first limit : ℕ) (wiring : IsWiring w) (on : List (List
   }
     where
       followed : (j : ℕ) → (j ≡ i) ⊎ (j ≢ i) → IsTodo s j ⊎ IsDone w first s j → IsTodo r j ⊎ IsDone w first r j
-      followed j (inl it) before = inr (inr (omega (arith, enough, ap (slice_index r.costs) it)))
+      followed j (inl it) before = inr (inr (omega (arith, enough, ap (slice_index r.costs) it, ap (least_hop w) it)))
       followed j (inr other) (inl todo) = elim (taken_todo s r i taken j todo)
           [ inl it ↦ absurd (other it) | inr stays ↦ inl stays ]
       followed j (inr other) (inr (inr past)) = inr (inr (omega
@@ -262,23 +299,8 @@ module _ (w : Wiring) (first limit : ℕ) (wiring : IsWiring w) (on : List (List
 
   -- less is left to do
   work-taken : (s r : Reach) (i : ℕ) → IsTaken s i r → work r + 1 ≡ work s
-  work-taken s r i taken = by taken.queues
-    where
-      by : ((s.near ≡ i ∷ r.near) × (s.far ≡ r.far)) ⊎ ((s.far ≡ i ∷ r.far) × (s.near ≡ r.near)) → work r + 1 ≡ work s
-      by (inl (near, far)) = omega (
-        arith,
-        ap total taken.costs,
-        ap (λ (l : List ℕ). length l) near,
-        ap
-            (λ (l : List ℕ). length l) far,
-      )
-      by (inr (far, near)) = omega (
-        arith,
-        ap total taken.costs,
-        ap (λ (l : List ℕ). length l) near,
-        ap
-            (λ (l : List ℕ). length l) far,
-      )
+  work-taken s r i taken = for_queues i r (λ (x : Reach). work r + 1 ≡ work x) (omega arith) (omega arith) (omega arith)
+      (omega arith) s taken.queues
 
   pub work-skipped : (s r : Reach) (i : ℕ) → IsTaken s i r → work r < work s
   work-skipped s r i taken = omega (arith, work-taken s r i taken)
@@ -293,10 +315,12 @@ module _ (w : Wiring) (first limit : ℕ) (wiring : IsWiring w) (on : List (List
 
   -- ---- the end
 
-  module _ (s : Reach) (going : IsGoing w first limit s) (near : length s.near ≡ 0) (far : length s.far ≡ 0) where
+  module _ (s : Reach) (going : IsGoing w first limit s) (none : queues s ≡ 0) where
     none_left : (i : ℕ) → ¬ IsTodo s i
-    none_left i (inl there) = omega (arith, there.1, near)
-    none_left i (inr there) = omega (arith, there.1, far)
+    none_left i (inl there) = omega (arith, there.1, none)
+    none_left i (inr (inl there)) = omega (arith, there.1, none)
+    none_left i (inr (inr (inl there))) = omega (arith, there.1, none)
+    none_left i (inr (inr (inr there))) = omega (arith, there.1, none)
 
     all_done : (i : ℕ) → i < items w → IsDone w first s i
     all_done i below = elim (going.followed i below) [ inl todo ↦ absurd (none_left i todo) | inr done ↦ done ]
@@ -311,8 +335,10 @@ module _ (w : Wiring) (first limit : ℕ) (wiring : IsWiring w) (on : List (List
         by h.flush.whole (eqb h.flush.item h.next) refl refl lane is.0
       where
         by : (whole same : Bool) → h.flush.whole ≡ whole → eqb h.flush.item h.next ≡ same → slice_index s.costs h.next ≤
-            cost + (if whole then 3 else 4) → slice_index s.costs h.flush.item ≤ cost + 3
-            → slice_index s.costs h.next ≤ cost + (3 + length (if whole || same then [] else h.flush.item ∷ []))
+            cost + (unsure_part h.flush + (if whole then 3 else 4))
+            → slice_index s.costs h.flush.item ≤ cost + (unsure_part h.flush + 3)
+            → slice_index s.costs h.next
+            ≤ cost + (unsure_part h.flush + (3 + length (if whole || same then [] else h.flush.item ∷ [])))
         by true same kind test lane direct = omega arith
         by false true kind test lane direct = omega (
           arith,
@@ -345,7 +371,13 @@ module _ (w : Wiring) (first limit : ℕ) (wiring : IsWiring w) (on : List (List
             path_enough h.next (g ∷ hops) (slice_index s.costs h.next) below rescuer
                 further (omega arith) path.3,
           )
-          | inr past ↦ omega (arith, one, past)
+          | inr past ↦ omega (
+            arith,
+            one,
+            past,
+            least_hop-enough w g path.3.1.declared,
+            ap (least_hop w) path.3.0,
+          )
         ]
 
     pub IsSearched-all : first < items w → HasRescuer w (lane_of w first) → IsSearched w first limit s

@@ -1,4 +1,4 @@
--- The run of a least walk is a shortest run that ends stuck.
+-- The run of a walk that meets no lane twice ends stuck.
 use Rattle.std.proofs.Common.{◌≡◌, ◌≢◌, ℕ, zero, suc, ◌*◌, ◌<◌, ◌≤◌, ◌⊎◌, inl, inr, Bool, true, false, List, [], ◌∷◌, ◌++◌, length, map, refl, sym, ap, subst, ◌∙◌, arith}
 use Rattle.std.specs.Prelude.{Contains, flat_map}
 use Rattle.std.specs.List.{All}
@@ -11,12 +11,13 @@ use Rattle.wq_core.specs.Rules.{wait_of}
 use Rattle.wq_core.specs.Deadlock.{IsSafe}
 use Rattle.wq_core.proofs.Wirings.{IsWiring-with_helpers}
 use Rattle.wq_hang.specs.declared.hop.Hop.{Hop}
-use Rattle.wq_hang.specs.Shortest.{EndsStuck, NeedsWorker, IsShortestHang}
-use Rattle.wq_hang.specs.Walk.{IsHop, IsPath, IsRound, IsWalk, IsLeastWalk, target_beside, walk_cost, moves_of, run_of_walk}
+use Rattle.wq_hang.specs.Shortest.{EndsStuck, NeedsWorker}
+use Rattle.wq_hang.specs.Walk.{IsHop, IsPath, IsRound, IsWalk, target_beside, walk_steps, moves_of, run_of_walk}
 use Rattle.wq_hang.proofs.Apart.{Avoids, Apart, In, not_in, Avoids-from, In-append_left, In-append_right, Apart-append}
+use Rattle.wq_hang.proofs.Apart.{Apart-turned}
 use Rattle.wq_hang.proofs.Declared.{declared-item, declared-target, beside_cases}
 use Rattle.wq_hang.proofs.StuckRounds.{lanes_to, IsWalk-stuck}
-use Rattle.wq_hang.proofs.LeastWalks.{lanes_from, Apart-least}
+use Rattle.wq_hang.proofs.LeastWalks.{lanes_from}
 use Rattle.wq_hang.proofs.WalkRuns.{items_of, queued, lane_In, In_item, HoldUp, IsRun-walk, IsStuck-walk}
 
 All-from_In : (P : ℕ → Type 0) (xs : List ℕ) → ((x : ℕ) → In x xs → P x) → All P xs
@@ -25,7 +26,8 @@ All-from_In P (x ∷ xs) each = All-cons P x xs (each x (inl refl)) (All-from_In
 
 -- ---- a path's hops
 
-path_hop : (w : Wiring) (i j : ℕ) (hops : List Hop) → IsPath w i hops j → (h : Hop) → Contains hops h → IsHop w h × (lane_of w h.next ≡ lane_of w h.flush.item)
+pub path_hop : (w : Wiring) (i j : ℕ) (hops : List Hop) → IsPath w i hops j → (h : Hop) → Contains hops h → IsHop w h
+    × (lane_of w h.next ≡ lane_of w h.flush.item)
 path_hop w i j [] path h (k, lt, at) = absurd (omega arith)
 path_hop w i j (g ∷ hops) path h (zero, lt, at) = subst (λ (x : Hop). IsHop w x × (lane_of w x.next ≡ lane_of w x.flush.item)) at (path.1, path.2)
 path_hop w i j (g ∷ hops) path h (suc k, lt, at) = path_hop w g.next j hops path.3 h (k, omega arith, at)
@@ -48,15 +50,48 @@ path_lanes w i j (h ∷ hops) path =
     ∙ ap (λ (x : ℕ). lane_of w h.item ∷ x ∷ lanes_to w hops) (sym path.2)
     ∙ ap (λ (l : List ℕ). lane_of w h.item ∷ l) (path_lanes w h.next j hops path.3)
 
-round_lanes : (w : Wiring) (i : ℕ) (hops : List Hop) → IsPath w i hops i → Apart (lanes_from w hops) → Apart (lanes_to w hops)
+-- after the first hop
+lanes_around : (w : Wiring) (i : ℕ) (h : Hop) (hops : List Hop) → IsPath w i (h ∷ hops) i
+    → lanes_to w (h ∷ hops) ≡ lanes_from w hops ++ (lane_of w h.item ∷ [])
+lanes_around w i h hops path =
+    ap (λ (x : ℕ). x ∷ lanes_to w hops) (sym path.2)
+    ∙ path_lanes w h.next i hops path.3
+    ∙ ap (λ (x : ℕ). lanes_from w hops ++ (lane_of w x ∷ [])) (sym path.0)
+
+round_lanes : (w : Wiring) (i : ℕ) (hops : List Hop) → IsPath w i hops i → Apart (lanes_from w hops)
+    → Apart (lanes_to w hops)
 round_lanes w i [] path apart = tt
 round_lanes w i (h ∷ hops) path apart =
-    let same : lane_of w h.flush.item ∷ lanes_to w hops ≡ lanes_from w hops ++ (lane_of w h.item ∷ []) =
-    ap (λ (x : ℕ). x ∷ lanes_to w hops) (sym path.2) ∙ path_lanes w h.next i hops path.3 ∙ ap (λ (x : ℕ). lanes_from w hops ++ (lane_of w x ∷ [])) (sym path.0) in
-    subst Apart (sym same) (Apart-append (lanes_from w hops) (lane_of w h.item ∷ []) apart.1 (tt, tt) (λ x there. (
-      (λ is. not_in (lane_of w h.item) (lanes_from w hops) apart.0 (subst (λ (y : ℕ). In y (lanes_from w hops)) is there)),
+    subst Apart (sym (lanes_around w i h hops path))
+    (Apart-append (lanes_from w hops) (lane_of w h.item ∷ []) apart.1 (tt, tt) (λ x there. (
+      (λ is. not_in (lane_of w h.item) (lanes_from w hops) apart.0
+          (subst (λ (y : ℕ). In y (lanes_from w hops)) is there)),
       tt,
     )))
+
+lanes_round : (w : Wiring) (i : ℕ) (hops : List Hop) → IsPath w i hops i → Apart (lanes_to w hops)
+    → Apart (lanes_from w hops)
+lanes_round w i [] path apart = tt
+lanes_round w i (h ∷ hops) path apart =
+    Apart-turned (lane_of w h.item) (lanes_from w hops) (subst Apart (lanes_around w i h hops path) apart)
+
+-- a walk that leads to no lane twice comes from none twice
+pub walk_lanes : (w : Wiring) (hops : List Hop) (beside : List ℕ) → IsWalk w hops beside → Apart (lanes_to w hops)
+    → Apart (lanes_from w hops)
+walk_lanes w hops beside (inl (round, same)) apart = lanes_round w round.first hops round.path apart
+walk_lanes w hops beside (inr (h, hop, bare, one, other)) apart =
+    subst (λ (l : List Hop). Apart (lanes_from w l)) (sym one) (tt, tt)
+
+-- the hops of a walk
+pub walk_hop : (w : Wiring) (hops : List Hop) (beside : List ℕ) → IsWalk w hops beside → (h : Hop) → Contains hops h
+    → IsHop w h
+walk_hop w hops beside (inl (round, same)) h there = (path_hop w round.first round.first hops round.path h there).0
+walk_hop w hops beside (inr (g, hop, bare, one, other)) h there =
+    the_one (subst (λ (l : List Hop). Contains l h) one there)
+  where
+    the_one : Contains (g ∷ []) h → IsHop w h
+    the_one (zero, lt, at) = subst (IsHop w) at hop
+    the_one (suc k, lt, at) = absurd (omega arith)
 
 -- ---- what is queued beside
 
@@ -108,7 +143,7 @@ items_avoid : (w : Wiring) (i : ℕ) (hops : List Hop) → Avoids (lane_of w i) 
 items_avoid w i [] avoids = tt
 items_avoid w i (h ∷ hops) avoids = ((λ same. avoids.0 (ap (lane_of w) same)), items_avoid w i hops avoids.1)
 
-items_apart : (w : Wiring) (hops : List Hop) → Apart (lanes_from w hops) → Apart (items_of hops)
+pub items_apart : (w : Wiring) (hops : List Hop) → Apart (lanes_from w hops) → Apart (items_of hops)
 items_apart w [] apart = tt
 items_apart w (h ∷ hops) apart = (items_avoid w h.item hops apart.0, items_apart w hops apart.1)
 
@@ -238,7 +273,8 @@ length-moves : (w : Wiring) (hops : List Hop) → length (flat_map (moves_of w) 
 length-moves w [] = refl
 length-moves w (h ∷ hops) = let rest : length (flat_map (moves_of w) hops) ≡ 2 * length hops = length-moves w hops in omega arith
 
-pub length-run_of_walk : (w : Wiring) (hops : List Hop) (beside : List ℕ) → length (run_of_walk w hops beside) ≡ walk_cost hops beside
+pub length-run_of_walk : (w : Wiring) (hops : List Hop) (beside : List ℕ)
+    → length (run_of_walk w hops beside) ≡ walk_steps hops beside
 length-run_of_walk w hops beside =
     let all : List ℕ = items_of hops ++ beside in
     omega (arith, length-append (map Queue all) (flat_map (moves_of w) hops), length-map all Queue, length-append (items_of hops) beside, length-map hops (λ (h : Hop). h.item), length-moves w hops)
@@ -264,28 +300,29 @@ alone-moves w (h ∷ hops) rescuer =
 
 -- ---- the laws
 
-pub IsShortestHang-least : (w : Wiring) (hops : List Hop) (beside : List ℕ) → IsWiring w → IsLeastWalk w hops beside → IsShortestHang w (run_of_walk w hops beside)
-IsShortestHang-least w hops beside wiring is =
-    let hold : HoldUp w hops beside = HoldUp-walk w wiring hops beside is.walk (Apart-least w hops beside is) in
-    record {
-      hangs = λ n few.
-          let v : Wiring = with_helpers w n in
-          let helped : HoldUp v hops beside = HoldUp-helped w n hops beside hold in
-          let sound : IsWiring v = IsWiring-with_helpers w n wiring in
-          (IsRun-walk v hops beside sound helped, IsStuck-walk v hops beside sound helped);
-      alone = All-append (λ (step : Step). ¬ NeedsWorker w step) (map Queue (queued hops beside)) (flat_map (moves_of w) hops) (alone-queued w (queued hops beside)) (alone-moves w hops hold.rescuer);
-      shortest = λ n few others ends.
-          let other = IsWalk-stuck w n others wiring ends in
-          let less : walk_cost hops beside ≤ walk_cost other.0 other.1 = is.least other.0 other.1 other.2 in
-          omega (arith, length-run_of_walk w hops beside, less, other.3);
-    }
+pub walk_hangs : (w : Wiring) (hops : List Hop) (beside : List ℕ) → IsWiring w → IsWalk w hops beside
+    → Apart (lanes_from w hops) → (n : ℕ) → EndsStuck w n (run_of_walk w hops beside)
+walk_hangs w hops beside wiring walk apart n =
+    let v : Wiring = with_helpers w n in
+    let helped : HoldUp v hops beside = HoldUp-helped w n hops beside (HoldUp-walk w wiring hops beside walk apart) in
+    let sound : IsWiring v = IsWiring-with_helpers w n wiring in
+    (IsRun-walk v hops beside sound helped, IsStuck-walk v hops beside sound helped)
 
-pub IsSafe-no_walk : (w : Wiring) → IsWiring w → ((hops : List Hop) (beside : List ℕ) → ¬ IsWalk w hops beside) → IsSafe w
-IsSafe-no_walk w wiring none n few steps run stuck = let walk = IsWalk-stuck w n steps wiring (run, stuck) in none walk.0 walk.1 walk.2
+pub walk_alone : (w : Wiring) (hops : List Hop) (beside : List ℕ) → IsWalk w hops beside
+    → All (λ (step : Step). ¬ NeedsWorker w step) (run_of_walk w hops beside)
+walk_alone w hops beside walk =
+    All-append (λ (step : Step). ¬ NeedsWorker w step) (map Queue (queued hops beside)) (flat_map (moves_of w) hops)
+    (alone-queued w (queued hops beside))
+    (alone-moves w hops (λ h there. (walk_hop w hops beside walk h there).rescuer))
 
--- it is enough that there is none that costs at most 4 for each lane
-pub IsSafe-no_cheap_walk : (w : Wiring) → IsWiring w → ((hops : List Hop) (beside : List ℕ) → IsWalk w hops beside → 4 * w.lanes < walk_cost hops beside) → IsSafe w
-IsSafe-no_cheap_walk w wiring none n few steps run stuck = let walk = IsWalk-stuck w n steps wiring (run, stuck) in omega (arith, none walk.0 walk.1 walk.2, walk.4)
+pub IsSafe-no_walk : (w : Wiring) → IsWiring w → ((hops : List Hop) (beside : List ℕ) → ¬ IsWalk w hops beside)
+    → IsSafe w
+IsSafe-no_walk w wiring none n few steps run stuck =
+    let walk = IsWalk-stuck w n steps wiring (run, stuck) in
+    none walk.0 walk.1 walk.2
 
-pub IsWalk-stuck_run : (w : Wiring) (n : ℕ) (steps : List Step) → IsWiring w → EndsStuck w n steps → (hops : List Hop) × (beside : List ℕ) × IsWalk w hops beside × (walk_cost hops beside ≤ length steps)
-IsWalk-stuck_run w n steps wiring ends = let walk = IsWalk-stuck w n steps wiring ends in (walk.0, walk.1, walk.2, walk.3)
+pub IsWalk-stuck_run : (w : Wiring) (n : ℕ) (steps : List Step) → IsWiring w → EndsStuck w n steps
+    → (hops : List Hop) × (beside : List ℕ) × IsWalk w hops beside × (walk_steps hops beside ≤ length steps)
+IsWalk-stuck_run w n steps wiring ends =
+    let walk = IsWalk-stuck w n steps wiring ends in
+    (walk.0, walk.1, walk.2, walk.3)

@@ -5,7 +5,8 @@ use Rattle.std.proofs.lemmas.List.{length-set}
 use Rattle.wq_items.specs.declared.target.Target.{Target}
 use Rattle.wq_core.specs.Wiring.{Wiring, lane_of}
 use Rattle.wq_hang.specs.declared.hop.Hop.{Hop}
-use Rattle.wq_hang.specs.Search.{Reach, reached, reach, hop_to, reach_all, with_lane_cost, reach_lane, lane_step, follow}
+use Rattle.wq_hang.specs.Search.{Reach, reached, reach, hop_to, reach_all, with_lane_cost, reach_lane, step}
+use Rattle.wq_hang.specs.Search.{lane_step, follow}
 
 -- as many items and lanes
 pub record AsLarge (s r : Reach) : Type 0 where
@@ -44,12 +45,15 @@ AsLarge-lane near cost i t q js s = by (ltb cost (slice_index s.lane_costs q))
 pub AsLarge-follow : (w : Wiring) (on : List (List ℕ)) (i cost : ℕ) (s : Reach) (t : Target) → AsLarge s (follow w on i cost s t)
 AsLarge-follow w on i cost s t = by (slice_index_or w.bare (lane_of w t.item) false)
   where
-    by : (b : Bool) → AsLarge s (if b then s else reach_lane t.whole (cost + lane_step t) i t (lane_of w t.item) (slice_index_or on (lane_of w t.item) []) (reach true (cost + 3) s (hop_to i t t.item)))
+    by : (b : Bool) → AsLarge s (if b then s else reach_lane t.whole (cost + lane_step t) i t (lane_of w t.item)
+        (slice_index_or on (lane_of w t.item) []) (reach true (cost + step t) s (hop_to i t t.item)))
     by true = AsLarge-same s
     by false =
-        let r : Reach = reach true (cost + 3) s (hop_to i t t.item) in
+        let r : Reach = reach true (cost + step t) s (hop_to i t t.item) in
         AsLarge-both s r (reach_lane t.whole (cost + lane_step t) i t (lane_of w t.item) (slice_index_or on (lane_of w t.item) []) r)
-        (AsLarge-reach true (cost + 3) s (hop_to i t t.item)) (AsLarge-lane t.whole (cost + lane_step t) i t (lane_of w t.item) (slice_index_or on (lane_of w t.item) []) r)
+        (AsLarge-reach true (cost + step t) s (hop_to i t t.item))
+        (AsLarge-lane t.whole (cost + lane_step t) i t (lane_of w t.item)
+        (slice_index_or on (lane_of w t.item) []) r)
 
 pub AsLarge-follows : (w : Wiring) (on : List (List ℕ)) (i cost : ℕ) (ts : List Target) (s : Reach) → AsLarge s (fold (follow w on i cost) s ts)
 AsLarge-follows w on i cost [] s = AsLarge-same s

@@ -1,10 +1,14 @@
 -- Rounds on some lanes are those of the wiring in which all other lanes are bare.
 use Rattle.std.proofs.Common.{◌≡◌, ℕ, zero, suc, ◌+◌, ◌*◌, ◌<◌, ◌≤◌, ◌⊎◌, inl, inr, Bool, true, false, List, [], ◌∷◌, length, get_or, set, replicate, refl, sym, ap, subst, ◌∙◌, arith}
 use Rattle.std.specs.Prelude.{Contains, slice_index_or, ◌↔◌, IsTrue, not}
-use Rattle.std.specs.List.{All}
-use Rattle.std.proofs.lemmas.Bool.{cases_eq, cases_lt, not-false, false≢true}
+use Rattle.std.specs.List.{All, range_with_len}
+use Rattle.std.proofs.lemmas.Bool.{cases_eq, not-false, false≢true}
 use Rattle.std.proofs.lemmas.List.{get_or-replicate, get_or-set_same, get_or-set_other, length-replicate, length-set}
-use Rattle.std.proofs.lemmas.List.Elements.{All-nil, All-cons, Contains-get_or}
+use Rattle.std.proofs.lemmas.List.Elements.{Contains-get_or}
+use Rattle.std.proofs.lemmas.List.Sorted.{All-permutation}
+use Rattle.wq_items.specs.Table.{flush_count, places}
+use Rattle.wq_items.proofs.Lists.{range_with_len-below}
+use Rattle.wq_items.proofs.Ranks.{Differ-numbered}
 use Rattle.wq_core.specs.Assigned.{Assigned, IsAssigned}
 use Rattle.wq_core.specs.Wiring.{Wiring, IsWiring, HasRescuer, items, lane_of, declared_by, wiring}
 use Rattle.wq_groups.specs.Declaration.{Declaration}
@@ -13,12 +17,11 @@ use Rattle.wq_groups.proofs.Declarations.{IsDeclaration-of}
 use Rattle.wq_core.specs.Workqueues.{Workqueues, with_bare, wiring_of}
 use Rattle.wq_core.proofs.Wirings.{lane_of-within, IsWiring-wiring, IsWiring-with_bare}
 use Rattle.wq_hang.specs.declared.hop.Hop.{Hop}
-use Rattle.wq_hang.specs.Walk.{IsPath, IsRound, IsRoundOn, IsLeastRoundOn, target_beside}
+use Rattle.wq_hang.specs.Walk.{IsPath, IsRound, IsRoundOn, IsLeastRoundOn, ArePlacesApart}
 use Rattle.wq_hang.specs.Search.{hops_cost, AreItemsOn, ArePassed, IsLeastRound, AreMarked, AreMarkedOf, AreMade}
-use Rattle.wq_hang.proofs.Apart.{Apart, Apart-few}
-use Rattle.wq_hang.proofs.Declared.{declared-item, target_beside-most}
+use Rattle.wq_hang.proofs.Declared.{declared-item}
 use Rattle.wq_hang.proofs.StuckRounds.{walk_cost-hops}
-use Rattle.wq_hang.proofs.LeastWalks.{lanes_from, apart}
+use Rattle.wq_hang.proofs.LeastWalks.{no_round}
 use Rattle.wq_hang.proofs.LeastFound.{ArePassed-marked}
 
 -- the wiring of workqueues of a declaration's groups
@@ -30,53 +33,21 @@ IsWiring-assigned a is =
     IsWiring-with_bare (wiring (declared_waits s) a.workqueues.assignment) a.workqueues.bare
     (IsWiring-wiring (declared_waits s) a.workqueues.assignment declaration is.assignment.assignment)
 
--- ---- where each round costs more than 4 for each lane, there is none
-
--- the first hops
-abbrev front : ℕ → List Hop → List Hop
-front zero hops = []
-front (suc n) [] = []
-front (suc n) (h ∷ hops) = h ∷ front n hops
-
-front_path : (w : Wiring) (n i j : ℕ) (hops : List Hop) → IsPath w i hops j → (k : ℕ) × IsPath w i (front n hops) k
-front_path w zero i j hops path = (i, refl)
-front_path w (suc n) i j [] path = (i, refl)
-front_path w (suc n) i j (h ∷ hops) path = let rest = front_path w n h.next j hops path.3 in (rest.0, (path.0, path.1, path.2, rest.1))
-
-length-front : (n : ℕ) (hops : List Hop) → n ≤ length hops → length (front n hops) ≡ n
-length-front zero hops le = refl
-length-front (suc n) [] le = absurd (omega arith)
-length-front (suc n) (h ∷ hops) le = let rest : length (front n hops) ≡ n = length-front n hops (omega arith) in omega arith
-
-hops_cost-most : (hops : List Hop) → hops_cost hops ≤ 4 * length hops
-hops_cost-most [] = omega arith
-hops_cost-most (h ∷ hops) =
-    let rest : hops_cost hops ≤ 4 * length hops = hops_cost-most hops in
-    let most : length (target_beside h) ≤ 1 = target_beside-most h in
-    omega arith
-
-length-lanes_from : (w : Wiring) (hops : List Hop) → length (lanes_from w hops) ≡ length hops
-length-lanes_from w [] = refl
-length-lanes_from w (h ∷ hops) = let rest : length (lanes_from w hops) ≡ length hops = length-lanes_from w hops in omega arith
-
-lanes_from-below : (w : Wiring) → IsWiring w → (i j : ℕ) (hops : List Hop) → IsPath w i hops j → All (λ q. q < w.lanes) (lanes_from w hops)
-lanes_from-below w wiring i j [] path = All-nil (λ q. q < w.lanes)
-lanes_from-below w wiring i j (h ∷ hops) path =
-    All-cons (λ q. q < w.lanes) (lane_of w h.item) (lanes_from w hops) (lane_of-within w wiring h.item (declared-item w h.item h.flush path.1.declared)) (lanes_from-below w wiring h.next j hops path.3)
-
-pub no_round : (w : Wiring) (most : ℕ) → IsWiring w → 4 * w.lanes + 4 ≤ most → ((hops : List Hop) → IsRound w hops → most ≤ hops_cost hops) → (hops : List Hop) → ¬ IsRound w hops
-no_round w most wiring enough least hops round = elim (cases_lt w.lanes (length hops)) [
-  | inr few ↦ omega (arith, few, hops_cost-most hops, least hops round, enough)
-  | inl many ↦ (
-      let n : ℕ = w.lanes + 1 in
-      let first = front_path w n round.first round.first hops round.path in
-      let size : length (front n hops) ≡ n = length-front n hops (omega (arith, many)) in
-      let cost : hops_cost (front n hops) ≤ most = omega (arith, hops_cost-most (front n hops), size, enough) in
-      let once : Apart (lanes_from w (front n hops)) = apart w most least round.first first.0 (front n hops) first.1 cost in
-      let few : length (lanes_from w (front n hops)) ≤ w.lanes = Apart-few w.lanes (lanes_from w (front n hops)) (lanes_from-below w wiring round.first first.0 (front n hops) first.1) once in
-      omega (arith, few, size, length-lanes_from w (front n hops))
-      )
-]
+-- places are apart that are numbered, and there are at most 16,384
+pub ArePlacesApart-assigned : (a : Assigned) → IsAssigned a
+    → ArePlacesApart (wiring_of (declared_waits a.declared) a.workqueues)
+ArePlacesApart-assigned a is =
+    let s = a.declared in
+    let declaration =
+    IsDeclaration-of s.table s.partition is.declared.table is.declared.partition is.declared.one_group_each in
+    let n : ℕ = flush_count s.table.waits in
+    let below : All (λ p. p < n) (places s.table.waits) =
+    All-permutation (λ p. p < n) (range_with_len 0 n) (places s.table.waits) declaration.places_are_numbered
+    (range_with_len-below n) in
+    record {
+      apart = Differ-numbered n (places s.table.waits) declaration.places_are_numbered;
+      few = λ k d lt. omega (arith, below k d lt, declaration.few_flushes);
+    }
 
 -- ---- the wiring in which other lanes are bare
 
@@ -121,7 +92,8 @@ module _ (w : Wiring) (wiring : IsWiring w) (lanes : List ℕ) (bare : List Bool
     least = λ others other. omega (arith, is.least others (round_kept others other), walk_cost-hops hops, walk_cost-hops others);
   }
 
-  pub none_on : (limit : ℕ) → 4 * w.lanes + 4 ≤ limit → ((hops : List Hop) → IsRound v hops → limit ≤ hops_cost hops) → (hops : List Hop) → ¬ IsRoundOn w lanes hops
+  pub none_on : (limit : ℕ) → 32772 * w.lanes + 32772 ≤ limit
+      → ((hops : List Hop) → IsRound v hops → limit ≤ hops_cost hops) → (hops : List Hop) → ¬ IsRoundOn w lanes hops
   none_on limit enough least hops is = no_round v limit (IsWiring-with_bare w bare wiring) enough least hops (round_kept hops is)
 
   pub AreItemsOn-kept : (on : List (List ℕ)) → AreItemsOn w on → AreItemsOn v on

@@ -1,6 +1,8 @@
 -- From a busy lane of a stuck state hops lead on, until they lead to a bare lane, or to a lane for the second time.
-use Rattle.std.proofs.Common.{◌≡◌, ◌≢◌, ℕ, zero, suc, ◌+◌, ◌*◌, ◌<◌, ◌≤◌, ◌⊎◌, inl, inr, List, [], ◌∷◌, length, refl, sym, ap, subst, ◌∙◌, arith}
-use Rattle.std.specs.Prelude.{flat_map, ⊤}
+use Rattle.std.proofs.Common.{◌≡◌, ◌≢◌, ℕ, zero, suc, ◌+◌, ◌*◌, ◌<◌, ◌≤◌, ◌⊎◌, inl, inr, Bool, true, false, cond}
+use Rattle.std.proofs.Common.{List, []}
+use Rattle.std.proofs.Common.{◌∷◌, length, refl, sym, ap, ap₂, subst, ◌∙◌, arith}
+use Rattle.std.specs.Prelude.{flat_map, slice_index, if◌then◌else◌, ⊤}
 use Rattle.std.specs.List.{All}
 use Rattle.std.proofs.lemmas.Bool.{cases_eq}
 use Rattle.std.proofs.lemmas.List.{length-append}
@@ -15,7 +17,7 @@ use Rattle.wq_core.proofs.Sound.{IsSoundState-end_of}
 use Rattle.wq_core.proofs.Wirings.{cases_rescuer, lane_of-within, IsWiring-with_helpers}
 use Rattle.wq_hang.specs.declared.hop.Hop.{Hop}
 use Rattle.wq_hang.specs.Shortest.{EndsStuck}
-use Rattle.wq_hang.specs.Walk.{IsHop, IsPath, IsWalk, target_beside, walk_cost}
+use Rattle.wq_hang.specs.Walk.{IsHop, IsPath, IsWalk, target_beside, unsure_hops, walk_steps, walk_cost}
 use Rattle.wq_hang.specs.Search.{hops_cost}
 use Rattle.wq_hang.proofs.Apart.{Avoids, Apart, In, cases_In, not_in, Apart-few}
 use Rattle.wq_hang.proofs.Declared.{declared-target, target_beside-most}
@@ -27,11 +29,33 @@ abbrev pub lanes_to : Wiring → List Hop → List ℕ
 lanes_to w [] = []
 lanes_to w (h ∷ hops) = lane_of w h.flush.item ∷ lanes_to w hops
 
+-- the steps of a walk round, hop by hop
+abbrev pub hops_steps : List Hop → ℕ
+hops_steps [] = 0
+hops_steps (h ∷ hops) = (3 + length (target_beside h)) + hops_steps hops
+
+walk_steps-hops : (hops : List Hop) → walk_steps hops (flat_map target_beside hops) ≡ hops_steps hops
+walk_steps-hops [] = refl
+walk_steps-hops (h ∷ hops) =
+    let rest : walk_steps hops (flat_map target_beside hops) ≡ hops_steps hops = walk_steps-hops hops in
+    omega (arith, rest, length-append (target_beside h) (flat_map target_beside hops))
+
+-- what one hop more adds for an unsure flush
+unsure-more : (u : Bool) (h : Hop) (hops : List Hop)
+    → 32768 * length (cond u (h ∷ hops) hops) ≡ (if u then 32768 else 0) + 32768 * length hops
+unsure-more true h hops = omega arith
+unsure-more false h hops = omega arith
+
 pub walk_cost-hops : (hops : List Hop) → walk_cost hops (flat_map target_beside hops) ≡ hops_cost hops
 walk_cost-hops [] = refl
 walk_cost-hops (h ∷ hops) =
     let rest : walk_cost hops (flat_map target_beside hops) ≡ hops_cost hops = walk_cost-hops hops in
-    omega (arith, rest, length-append (target_beside h) (flat_map target_beside hops))
+    omega (
+      arith,
+      rest,
+      length-append (target_beside h) (flat_map target_beside hops),
+      unsure-more h.flush.unsure h (unsure_hops hops),
+    )
 
 -- each is v, or isn't among these
 abbrev Outside : ℕ → List ℕ → List ℕ → Type 0
@@ -39,19 +63,22 @@ Outside v visited [] = ⊤
 Outside v visited (a ∷ more) = ((a ≡ v) ⊎ Avoids a visited) × Outside v visited more
 
 module _ (w : Wiring) (wiring : IsWiring w) (s : State) (sound : IsSoundState w s) (no_step : (step : Step) → IsForcedStep w step → ¬ Lawful w s step) where
-  -- a walk that costs at most what the state weighs, and at most 4 for each lane
+  -- a walk whose run has at most as many steps as the state weighs, and at most 4 for each lane, and which leads to no
+  -- lane twice
   abbrev Found : Type 0
-  Found = (hops : List Hop) × (beside : List ℕ) × IsWalk w hops beside × (walk_cost hops beside ≤ weight s.lanes) × (walk_cost hops beside ≤ 4 * w.lanes)
+  Found = (hops : List Hop) × (beside : List ℕ) × IsWalk w hops beside × (walk_steps hops beside ≤ weight s.lanes)
+      × (walk_steps hops beside ≤ 4 * w.lanes)
+      × Apart (lanes_to w hops)
 
   lanes_below : (i j : ℕ) (hops : List Hop) → IsPath w i hops j → All (λ p. p < w.lanes) (lanes_to w hops)
   lanes_below i j [] path = All-nil (λ p. p < w.lanes)
   lanes_below i j (h ∷ hops) path =
       All-cons (λ p. p < w.lanes) (lane_of w h.flush.item) (lanes_to w hops) (lane_of-within w wiring h.flush.item (declared-target w h.item h.flush wiring path.1.declared)) (lanes_below h.next j hops path.3)
 
-  hops_cost-most : (hops : List Hop) → hops_cost hops ≤ 4 * length (lanes_to w hops)
-  hops_cost-most [] = omega arith
-  hops_cost-most (h ∷ hops) =
-      let rest : hops_cost hops ≤ 4 * length (lanes_to w hops) = hops_cost-most hops in
+  hops_steps-most : (hops : List Hop) → hops_steps hops ≤ 4 * length (lanes_to w hops)
+  hops_steps-most [] = omega arith
+  hops_steps-most (h ∷ hops) =
+      let rest : hops_steps hops ≤ 4 * length (lanes_to w hops) = hops_steps-most hops in
       let most : length (target_beside h) ≤ 1 = target_beside-most h in
       omega arith
 
@@ -64,15 +91,24 @@ module _ (w : Wiring) (wiring : IsWiring w) (s : State) (sound : IsSoundState w 
     apart : Apart (lanes_to w hops)
     outside : Outside to visited (lanes_to w hops)
     avoids : Avoids q (lanes_to w hops)
-    cost : hops_cost hops ≤ weight_on s.lanes (lanes_to w hops)
+    cost : hops_steps hops ≤ weight_on s.lanes (lanes_to w hops)
 
-  found_round : (q : ℕ) (h : Hop) (hops : List Hop) → IsPath w (item_on s q) (h ∷ hops) (item_on s q) → Apart (lanes_to w (h ∷ hops)) → hops_cost (h ∷ hops) ≤ weight_on s.lanes (lanes_to w (h ∷ hops)) → Found
+  found_round : (q : ℕ) (h : Hop) (hops : List Hop) → IsPath w (item_on s q) (h ∷ hops) (item_on s q)
+      → Apart (lanes_to w (h ∷ hops)) → hops_steps (h ∷ hops) ≤ weight_on s.lanes (lanes_to w (h ∷ hops)) → Found
   found_round q h hops path apart cost =
       let all : weight_on s.lanes (lanes_to w (h ∷ hops)) ≤ weight s.lanes = weight_on-apart s.lanes (lanes_to w (h ∷ hops)) apart in
-      let same : walk_cost (h ∷ hops) (flat_map target_beside (h ∷ hops)) ≡ hops_cost (h ∷ hops) = walk_cost-hops (h ∷ hops) in
+      let same : walk_steps (h ∷ hops) (flat_map target_beside (h ∷ hops)) ≡ hops_steps (h ∷ hops) = walk_steps-hops
+      (h ∷ hops) in
       let few : length (lanes_to w (h ∷ hops)) ≤ w.lanes = Apart-few w.lanes (lanes_to w (h ∷ hops)) (lanes_below (item_on s q) (item_on s q) (h ∷ hops) path) apart in
-      let most : hops_cost (h ∷ hops) ≤ 4 * length (lanes_to w (h ∷ hops)) = hops_cost-most (h ∷ hops) in
-      (h ∷ hops, flat_map target_beside (h ∷ hops), inl (record { some = omega arith; first = item_on s q; path = path }, refl), omega arith, omega arith)
+      let most : hops_steps (h ∷ hops) ≤ 4 * length (lanes_to w (h ∷ hops)) = hops_steps-most (h ∷ hops) in (
+        h ∷ hops,
+        flat_map target_beside (h ∷ hops),
+        inl
+            (record { some = omega arith; first = item_on s q; path = path }, refl),
+        omega arith,
+        omega arith,
+        apart,
+      )
 
   found_bare : (q : ℕ) (h : Hop) → HasRescuer w q → IsHopFrom w s sound no_step q h → (¬ HasRescuer w (lane_of w h.flush.item)) → Found
   found_bare q h rescuer is bare =
@@ -81,8 +117,25 @@ module _ (w : Wiring) (wiring : IsWiring w) (s : State) (sound : IsSoundState w 
       let two : weight_on s.lanes (p ∷ q ∷ []) ≤ weight s.lanes = weight_on-apart s.lanes (p ∷ q ∷ []) ((other, tt), (tt, tt)) in
       let one : 1 ≤ lane_weight (lane_at s p) = lane_weight-unfinished (lane_at s p) is.busy.0 is.busy.1 in
       let three : 3 ≤ lane_weight (lane_at s q) = is.weighs in
-      let lane : p < w.lanes = lane_of-within w wiring h.flush.item (declared-target w h.item h.flush wiring is.declared) in
-      (h ∷ [], h.flush.item ∷ [], inr (h, record { declared = is.declared; rescuer = subst (HasRescuer w) (sym is.own) rescuer }, bare, refl, refl), omega arith, omega arith)
+      let lane : p < w.lanes = lane_of-within w wiring h.flush.item
+      (declared-target w h.item h.flush wiring is.declared) in (
+        h ∷ [],
+        h.flush.item ∷ [],
+        inr (
+          h,
+          record {
+            declared = is.declared;
+            rescuer = subst (HasRescuer w)
+                (sym is.own) rescuer;
+          },
+          bare,
+          refl,
+          refl,
+        ),
+        omega arith,
+        omega arith,
+        (tt, tt),
+      )
 
   -- a hop to lane p, with what comes before and after
   hop_on : (q p : ℕ) (h : Hop) → HasRescuer w q → IsHopFrom w s sound no_step q h → lane_of w h.flush.item ≡ p → lane_of w (item_on s p) ≡ p → (hops : List Hop) (j : ℕ) → IsPath w (item_on s p) hops j → IsPath w (item_on s q) (h ∷ hops) j
@@ -133,10 +186,10 @@ module _ (w : Wiring) (wiring : IsWiring w) (s : State) (sound : IsSoundState w 
       path : IsPath w (item_on s q) (h ∷ back.hops) (item_on s back.to)
       path = hop_on q p h rescuer is refl (own_item p on is.busy) back.hops (item_on s back.to) back.path
 
-      cost : hops_cost (h ∷ back.hops) ≤ weight_on s.lanes (lanes_to w (h ∷ back.hops))
+      cost : hops_steps (h ∷ back.hops) ≤ weight_on s.lanes (lanes_to w (h ∷ back.hops))
       cost =
           let one : 3 + length (target_beside h) ≤ lane_weight (lane_at s p) = hop-weight w s sound no_step q h is on in
-          let rest : hops_cost back.hops ≤ weight_on s.lanes (lanes_to w back.hops) = back.cost in
+          let rest : hops_steps back.hops ≤ weight_on s.lanes (lanes_to w back.hops) = back.cost in
           omega arith
 
       by : In back.to (q ∷ visited) → Found ⊎ LeadsBack q visited
@@ -213,11 +266,27 @@ IsWalk-without w n hops beside (inl round) =
     inl (record { some = round.0.some; first = round.0.first; path = IsPath-without w n round.0.first hops round.0.first round.0.path }, round.1)
 IsWalk-without w n hops beside (inr bare) = inr (bare.0, IsHop-without w n bare.0 bare.1, bare.2, bare.3, bare.4)
 
+-- which lanes hops lead to doesn't depend on what else is declared
+pub lanes_to-same : (v w : Wiring) → v.lane_of_item ≡ w.lane_of_item → (hops : List Hop)
+    → lanes_to v hops ≡ lanes_to w hops
+lanes_to-same v w same [] = refl
+lanes_to-same v w same (h ∷ hops) =
+    ap₂ (λ (q : ℕ) (qs : List ℕ). q ∷ qs) (ap (λ (l : List ℕ). slice_index l h.flush.item) same)
+    (lanes_to-same v w same hops)
+
 pub IsWalk-stuck : (w : Wiring) (n : ℕ) (steps : List Step) → IsWiring w → EndsStuck w n steps
-    → (hops : List Hop) × (beside : List ℕ) × IsWalk w hops beside × (walk_cost hops beside ≤ length steps) × (walk_cost hops beside ≤ 4 * w.lanes)
+    → (hops : List Hop) × (beside : List ℕ) × IsWalk w hops beside × (walk_steps hops beside ≤ length steps)
+    × (walk_steps hops beside ≤ 4 * w.lanes)
+    × Apart (lanes_to w hops)
 IsWalk-stuck w n steps wiring (run, stuck) =
     let v : Wiring = with_helpers w n in
     let s : State = end_of v steps in
     let is = found v (IsWiring-with_helpers w n wiring) s (IsSoundState-end_of v steps run) stuck.no_step stuck.left.lane stuck.rescuer (stuck.left.entry, stuck.left.unfinished) in
-    let few : weight s.lanes ≤ length steps = weight-end_of v steps in
-    (is.0, is.1, IsWalk-without w n is.0 is.1 is.2, omega (arith, is.3, few), is.4)
+    let few : weight s.lanes ≤ length steps = weight-end_of v steps in (
+      is.0,
+      is.1,
+      IsWalk-without w n is.0 is.1 is.2,
+      omega (arith, is.3, few),
+      is.4,
+      subst Apart (lanes_to-same v w refl is.0) is.5,
+    )

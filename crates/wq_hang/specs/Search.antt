@@ -1,14 +1,15 @@
 -- A search from one item: what it costs to come from it to the others, hop by hop.
-use Rattle.std.specs.Prelude.{◌≡◌, ◌≢◌, ℕ, ◌<◌, ◌≤◌, ◌+◌, ◌⊎◌, nat_lt, Bool, true, false, if◌then◌else◌, List, [], ◌∷◌}
-use Rattle.std.specs.Prelude.{◌++◌, length, fold, slice_index, slice_index_or, slice_set, Contains}
+use Rattle.std.specs.Prelude.{◌≡◌, ◌≢◌, ℕ, ◌<◌, ◌≤◌, ◌+◌, ◌⊎◌, nat_lt, not, ◌&&◌, Bool, true, false, List, [], ◌∷◌}
+use Rattle.std.specs.Prelude.{if◌then◌else◌, ◌++◌, length, fold, slice_index, slice_index_or, slice_set, Contains}
+use Rattle.std.specs.List.{list_any}
 use Rattle.wq_items.specs.declared.target.Target.{Target}
 use Rattle.wq_core.specs.Wiring.{Wiring, HasRescuer, items, lane_of, declared_by}
 use Rattle.wq_hang.specs.declared.hop.Hop.{Hop}
-use Rattle.wq_hang.specs.Walk.{IsHop, IsPath, IsRound, target_beside}
+use Rattle.wq_hang.specs.Walk.{IsHop, IsPath, IsRound, target_beside, unsure_cost, unsure_part}
 
 -- what a hop costs
 abbrev pub hop_cost : Hop → ℕ
-hop_cost h = 3 + length (target_beside h)
+hop_cost h = unsure_part h.flush + (3 + length (target_beside h))
 
 -- what hops cost
 abbrev pub hops_cost : List Hop → ℕ
@@ -16,29 +17,42 @@ hops_cost [] = 0
 hops_cost (h ∷ hops) = hop_cost h + hops_cost hops
 
 -- what it costs so far to come to each item, and at most to an item of each lane; the hop by which each item is
--- reached; and the items that are to be gone on from, those that were reached at a cost of 3 more, and those at 4 more
+-- reached; and the items that are to be gone on from: those that were reached at a cost of 3 more, and those at 4 more,
+-- by a sure flush, and then those by an unsure one
 pub record Reach : Type 0 where
   pub costs : List ℕ
   pub lane_costs : List ℕ
   pub by : List Hop
   pub near : List ℕ
   pub far : List ℕ
+  pub near_unsure : List ℕ
+  pub far_unsure : List ℕ
 
 -- the item is to be gone on from
 abbrev pub IsTodo : Reach → ℕ → Type 0
-IsTodo s i = Contains s.near i ⊎ Contains s.far i
+IsTodo s i = Contains s.near i ⊎ (Contains s.far i ⊎ (Contains s.near_unsure i ⊎ Contains s.far_unsure i))
 
 -- ---- what one step does
 
+-- the list with this item behind it, if that is so
+abbrev pub and_then : Bool → ℕ → List ℕ → List ℕ
+and_then true i queue = queue ++ (i ∷ [])
+and_then false i queue = queue
+
+-- item i is to be gone on from, which was reached at a cost of 3 more or not, and by an unsure flush or a sure one
+abbrev pub with_todo : Bool → Bool → ℕ → Reach → Reach
+with_todo near unsure i s = record s {
+  near = and_then (near && not unsure) i s.near;
+  far = and_then (not near && not unsure) i s.far;
+  near_unsure = and_then (near && unsure) i s.near_unsure;
+  far_unsure = and_then (not near && unsure) i s.far_unsure;
+}
+
 -- the hop leads to its item at this cost, which is less than before
 abbrev pub reached : Bool → ℕ → Reach → Hop → Reach
-reached near cost s h = record {
-  costs = slice_set s.costs h.next cost;
-  lane_costs = s.lane_costs;
-  by = slice_set s.by h.next h;
-  near = if near then s.near ++ (h.next ∷ []) else s.near;
-  far = if near then s.far else s.far ++ (h.next ∷ []);
-}
+reached near cost s h =
+    with_todo near h.flush.unsure h.next
+    (record s { costs = slice_set s.costs h.next cost; by = slice_set s.by h.next h })
 
 -- the hop leads to its item at this cost
 abbrev pub reach : Bool → ℕ → Reach → Hop → Reach
@@ -54,17 +68,20 @@ reach_all near cost i t on s = fold (λ (r : Reach) (j : ℕ). reach near cost r
 
 -- to come to any item of lane q costs this
 abbrev pub with_lane_cost : ℕ → ℕ → Reach → Reach
-with_lane_cost q cost s =
-    record { costs = s.costs; lane_costs = slice_set s.lane_costs q cost; by = s.by; near = s.near; far = s.far }
+with_lane_cost q cost s = record s { lane_costs = slice_set s.lane_costs q cost }
 
 -- the same, if to come to any item of lane q cost more before
 abbrev pub reach_lane : Bool → ℕ → ℕ → Target → ℕ → List ℕ → Reach → Reach
 reach_lane near cost i t q on s =
     if nat_lt cost (slice_index s.lane_costs q) then with_lane_cost q cost (reach_all near cost i t on s) else s
 
+-- what it costs more to come to the target
+abbrev pub step : Target → ℕ
+step t = unsure_part t + 3
+
 -- what it costs more to come to any item of the lane of the target
 abbrev pub lane_step : Target → ℕ
-lane_step t = if t.whole then 3 else 4
+lane_step t = unsure_part t + (if t.whole then 3 else 4)
 
 -- the flush of item i, which costs so much, leads on to its target and to all items on the lane of its target, if that
 -- has a rescuer
@@ -73,7 +90,7 @@ follow w on i cost s t =
     if slice_index_or w.bare (lane_of w t.item) false then s
     else reach_lane t.whole (cost
     + lane_step t) i t (lane_of w t.item) (slice_index_or on (lane_of w t.item) [])
-    (reach true (cost + 3) s (hop_to i t t.item))
+    (reach true (cost + step t) s (hop_to i t t.item))
 
 -- all flushes of item i
 abbrev pub expand : Wiring → List (List ℕ) → ℕ → ℕ → Reach → Reach
@@ -111,13 +128,17 @@ pub record IsReach (w : Wiring) (first limit : ℕ) (s : Reach) : Type 0 where
 -- the flushes of item i lead on at no more than this cost and what each costs more
 abbrev pub IsFollowed : Wiring → Reach → ℕ → ℕ → Type 0
 IsFollowed w s i cost = (t : Target) → Contains (declared_by w i) t → HasRescuer w (lane_of w t.item)
-    → (slice_index s.costs t.item ≤ cost + 3) × (slice_index s.lane_costs (lane_of w t.item) ≤ cost + lane_step t)
+    → (slice_index s.costs t.item ≤ cost + step t) × (slice_index s.lane_costs (lane_of w t.item) ≤ cost + lane_step t)
+
+-- what each hop of item i costs at least
+abbrev pub least_hop : Wiring → ℕ → ℕ
+least_hop w i = if list_any (λ (t : Target). not t.unsure) (declared_by w i) then 3 else unsure_cost + 3
 
 -- item i need not be gone on from: its flushes are followed, or no round by way of it costs less than the cheapest way
 -- round so far
 abbrev pub IsDone : Wiring → ℕ → Reach → ℕ → Type 0
 IsDone w first s i =
-    IsFollowed w s i (slice_index s.costs i) ⊎ (slice_index s.costs first ≤ slice_index s.costs i + 3)
+    IsFollowed w s i (slice_index s.costs i) ⊎ (slice_index s.costs first ≤ slice_index s.costs i + least_hop w i)
 
 -- while the search goes on: the first item's flushes are followed from nothing; and each other item is to be gone on
 -- from, or need not be
@@ -138,7 +159,9 @@ pub record IsTaken (s : Reach) (i : ℕ) (r : Reach) : Type 0 where
   pub costs : r.costs ≡ s.costs
   pub lane_costs : r.lane_costs ≡ s.lane_costs
   pub by : r.by ≡ s.by
-  pub queues : ((s.near ≡ i ∷ r.near) × (s.far ≡ r.far)) ⊎ ((s.far ≡ i ∷ r.far) × (s.near ≡ r.near))
+  pub queues : (s ≡ record r { near = i ∷ r.near })
+      ⊎ ((s ≡ record r { far = i ∷ r.far })
+      ⊎ ((s ≡ record r { near_unsure = i ∷ r.near_unsure }) ⊎ (s ≡ record r { far_unsure = i ∷ r.far_unsure })))
 
 -- the hop leads from item i back to it, so that it is a round by itself
 abbrev pub IsHopBack : Wiring → ℕ → Hop → Type 0

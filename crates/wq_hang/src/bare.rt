@@ -1,27 +1,40 @@
 //! Flushes that lead to a bare lane.
 //!
 //! Where an item whose lane has a rescuer waits for one whose lane has none, nothing guarantees that the wait is ever
-//! over. It takes time in the number of items and flushes.
+//! over. A sure flush comes before an unsure one, and else the one that is declared first. It takes time in the number
+//! of items and flushes.
 
-ghost use Rattle.std.specs.Prelude.{◌≡◌, ◌<◌, ◌≤◌, ◌+◌, ◌⊎◌, Some, IfSome, IfNone};
+ghost use Rattle.std.specs.Prelude.{◌≡◌, ◌<◌, ◌+◌, ◌⊎◌, false, Some, IfSome, IfNone, IsTrue};
 ghost use Rattle.wq_core.specs.Wiring.{HasRescuer, items, lane_of};
 ghost use Rattle.wq_hang.specs.declared.hop.Hop.{Hop};
-ghost use Rattle.wq_hang.specs.Walk.{IsHop, IsFirstToBare};
+ghost use Rattle.wq_hang.specs.Walk.{ComesNoLater, IsHop, IsFirstToBare};
 ghost use Rattle.wq_hang.specs.Bare.{IsFirstBelow};
 
 use crate::hop::Hop;
 use crate::waits::Waits;
 use std::alloc::Allocator;
-use wq_items::ItemId;
+use wq_items::{ItemId, Target};
 
-/// Of two hops, if there are two, the one whose flush is declared first.
+/// Whether a flush comes before another one: it is sure and that one isn't, or it is declared first.
+fn comes_before(flush: &Target, other: &Target) -> bool
+    ensures before { IsTrue result → ComesNoLater flush.now other.now }
+    ensures after { result ≡ false → ComesNoLater other.now flush.now }
+{
+    if flush.unsure == other.unsure {
+        flush.place < other.place
+    } else {
+        other.unsure
+    }
+}
+
+/// Of two hops, if there are two, the one whose flush comes first.
 fn earlier(found: Option<Hop>, hop: Hop) -> Hop
     ensures either { (result ≡ hop) ⊎ (found ≡ Some result) }
-    ensures first { result.flush.place ≤ hop.flush.place }
-    ensures found { IfSome found (λ f. result.flush.place ≤ f.flush.place) }
+    ensures first { ComesNoLater result.flush hop.flush }
+    ensures found { IfSome found (λ f. ComesNoLater result.flush f.flush) }
 {
     match found {
-        Some(found) if found.flush.place < hop.flush.place => found,
+        Some(found) if comes_before(&found.flush, &hop.flush) => found,
         _ => hop,
     }
 }
@@ -48,7 +61,8 @@ fn first_with<A: Allocator>(waits: &Waits<'_, A>, item: ItemId, found: Option<Ho
     first
 }
 
-/// Of the flushes that lead from a lane that has a rescuer to a bare lane the one that is declared first.
+/// Of the flushes that lead from a lane that has a rescuer to a bare lane the first: of the sure ones, if there are
+/// any, the one that is declared first.
 pub(crate) fn first_to_bare<A: Allocator>(waits: &Waits<'_, A>) -> Option<Hop>
     ensures some { IfSome result (IsFirstToBare waits.now) }
     ensures none { IfNone result ((h : Hop) → IsHop waits.now h

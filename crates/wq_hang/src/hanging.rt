@@ -3,18 +3,20 @@
 //! Where lanes and flushes end and runs begin: a least walk is found, and the run is that of the walk. It takes the
 //! time of the search for a least walk.
 
-ghost use Rattle.std.specs.Prelude.{◌≡◌, ◌<◌, ◌≤◌, List, length, IfOk, OnErr, IfSome, IfNone, MatchOption};
+ghost use Rattle.std.specs.Prelude.{◌≡◌, ◌∷◌, [], ◌<◌, ◌≤◌, List, length, IfOk, OnErr, IfSome, IfNone, MatchOption};
 ghost use Rattle.wq_core.specs.Deadlock.{IsSafe};
 ghost use Rattle.wq_groups.specs.DeclaredGroups.{declared_waits};
 ghost use Rattle.wq_hang.specs.Answer.{IsAnswer};
 ghost use Rattle.wq_hang.specs.declared.hop.Hop.{Hop};
-ghost use Rattle.wq_hang.specs.Walk.{IsRound, IsLeastWalk, IsRoundOrFirst};
+ghost use Rattle.wq_hang.specs.Walk.{AreFirstAlike, BeginsUnsure, IsRound, IsLeastWalk, IsRoundOrFirst};
+ghost use Rattle.wq_hang.specs.Walk.{max_walk_cost, walk_cost};
 ghost use Rattle.wq_hang.specs.Search.{IsLeastRound, hops_cost};
 
 use crate::answer::Answer;
 use crate::bare::first_to_bare;
 use crate::hop::Hop;
-use crate::least::{MOST, least_round};
+use crate::hop_back::unsure_part;
+use crate::least::{MOST, least_round_settled};
 use crate::marks::marked_lanes;
 use crate::numbering::lane_numbers;
 use crate::on_lanes::{items_on_lanes, marked_items};
@@ -25,12 +27,12 @@ use std::alloc::{AllocError, Allocator};
 use wq_core::{Assigned, Core};
 use wq_items::ItemId;
 
-/// What a round has to cost less than: 4, if there is a flush that leads to a bare lane.
-fn limit(bare: &Option<Hop>) -> u16
-    ensures { MatchOption bare.now (result ≡ 16388) (λ _. result ≡ 4) }
+/// What a round has to cost less than: what a flush that leads to a bare lane costs, if there is one.
+fn limit(bare: &Option<Hop>) -> u32
+    ensures { MatchOption bare.now (result ≡ max_walk_cost) (λ h. result ≡ walk_cost (h ∷ []) (h.flush.item ∷ [])) }
 {
     match bare {
-        Some(_) => 4,
+        Some(hop) => unsure_part(&hop.flush) + 4,
         None => MOST,
     }
 }
@@ -40,19 +42,21 @@ fn least_of_all<A: Allocator + Copy>(
     alloc: A,
     waits: &Waits<'_, A>,
     numbers: &[u16],
-    limit: u16,
+    limit: u32,
 ) -> Result<Option<Vec<Hop, A>>, AllocError>
     requires numbers { length numbers.now ≡ waits.now.lanes }
-    requires low { limit ≤ 16388 }
+    requires low { limit ≤ max_walk_cost }
     ensures some { IfOk result (λ found. IfSome found (λ hops. IsLeastRound waits.now limit hops.items)) }
     ensures none { IfOk result (λ found.
         IfNone found ((hops : List Hop) → IsRound waits.now hops → limit ≤ hops_cost hops)) }
+    ensures begins { IfOk result (λ found. IfSome found (λ hops. BeginsUnsure hops.items)) }
+    ensures alike { IfOk result (λ found. IfSome found (λ hops. AreFirstAlike waits.now hops.items)) }
 {
     let on = items_on_lanes(alloc, waits)?;
     let marks = marked_lanes(alloc, waits, numbers)?;
     let passed = marked_items(alloc, waits, &marks)?;
     let mut search = Search::new(alloc);
-    least_round(alloc, waits, &on, &mut search, &passed, limit)
+    least_round_settled(alloc, waits, &on, &mut search, &passed, limit)
 }
 
 /// A least walk, with the items that are queued beside those that wait.
@@ -65,6 +69,8 @@ fn least_walk<A: Allocator + Copy>(
     ensures some { IfOk result (λ found. IfSome found (λ walk. IsLeastWalk waits.now walk.0.items walk.1.items)) }
     ensures first { IfOk result (λ found. IfSome found (λ walk. IsRoundOrFirst waits.now walk.0.items walk.1.items)) }
     ensures none { IfOk result (λ found. IfNone found (IsSafe waits.now)) }
+    ensures begins { IfOk result (λ found. IfSome found (λ walk. BeginsUnsure walk.0.items)) }
+    ensures alike { IfOk result (λ found. IfSome found (λ walk. AreFirstAlike waits.now walk.0.items)) }
 {
     let _items = waits.items();
     let bare = first_to_bare(waits);
@@ -82,8 +88,9 @@ fn least_walk<A: Allocator + Copy>(
 /// The shortest hang of the workqueues of declared groups, if they can hang.
 ///
 /// `Hang` has a run that ends stuck, such that no run that ends stuck has fewer steps, with 0 to 8 helpers of each
-/// workqueue; and the waits in it that hold one another up. The only error is out of memory (20), which can't occur
-/// where there is no workqueue.
+/// workqueue; and the waits in it that hold one another up. With unsure flushes it is a run of the reading that keeps
+/// those of its waits (`needed_places`): no reading that keeps fewer hangs, and none that keeps as few has a run that
+/// ends stuck with fewer steps. The only error is out of memory (20), which can't occur where there is no workqueue.
 pub fn hang<A: Allocator + Copy>(
     alloc: A,
     assigned: &Assigned<'_, '_, A>,

@@ -1,29 +1,29 @@
 //! A least round: waits that hold one another up, at the least cost.
 //!
 //! A round is searched for from each of some items in turn, for less than the best one so far costs. If that is no more
-//! than two hops cost, only the item's own flushes are looked at. Each round passes one of these items. It takes the
-//! time of a search for each of them, and memory in the number of items and lanes.
+//! than two hops from the item cost, only the item's own flushes are looked at. Each round passes one of these items.
+//! It takes the time of a search for each of them, and memory in the number of items and lanes.
 
-ghost use Rattle.std.specs.Prelude.{◌≡◌, ◌<◌, ◌≤◌, List, length, slice_index, IfOk, IfSome, IfNone};
+ghost use Rattle.std.specs.Prelude.{◌≡◌, ◌+◌, ◌<◌, ◌≤◌, List, length, slice_index, IfOk, IfSome, IfNone};
 ghost use Rattle.std.specs.List.{All};
 ghost use Rattle.wq_core.specs.Wiring.{HasRescuer, items, lane_of};
 ghost use Rattle.wq_hang.specs.declared.hop.Hop.{Hop};
-ghost use Rattle.wq_hang.specs.Walk.{IsRound};
+ghost use Rattle.wq_hang.specs.Walk.{AreFirstAlike, BeginsUnsure, IsRound, max_walk_cost};
 ghost use Rattle.wq_hang.specs.Search.{AreItemsOn, ArePassed, IsReach, IsBetter, IsNoBetter, IsLeastRound, hops_cost};
+ghost use Rattle.wq_hang.specs.Search.{least_hop};
 
 use crate::hop::Hop;
-use crate::hop_back::{cost_back, hop_back};
+use crate::hop_back::{UNSURE, cost_back, hop_back, least_hop};
 use crate::search::{Search, search_from};
+use crate::settling::settle;
 use crate::waits::Waits;
 use std::alloc::{AllocError, Allocator};
 use wq_buckets::Buckets;
 use wq_items::ItemId;
 
-/// No round costs as much that meets no lane twice: there are at most 4,096 lanes, each costs at most 4, and 4 more.
-pub(crate) const MOST: u16 = 16388;
-
-/// What a round of two hops costs, at least.
-const TWO_HOPS: u16 = 6;
+/// No round costs as much that meets no lane twice: there are at most 4,096 lanes, each costs at most 4 and `UNSURE`,
+/// and as much more.
+pub(crate) const MOST: u32 = 4097 * (UNSURE + 4);
 
 /// The round that a search from an item found, the item's own hop first.
 fn round<A: Allocator + Copy>(
@@ -31,7 +31,7 @@ fn round<A: Allocator + Copy>(
     waits: &Waits<'_, A>,
     search: &Search<A>,
     first: ItemId,
-    limit: u16,
+    limit: u32,
 ) -> Result<Vec<Hop, A>, AllocError>
     requires reach { IsReach waits.now first limit search.now }
     requires first { first < items waits.now }
@@ -51,16 +51,16 @@ fn round<A: Allocator + Copy>(
     Ok(hops)
 }
 
-/// The same as `better_round`, if the least so far is no more than what two hops cost.
+/// The same as `better_round`, if the least so far is no more than what two hops from the item cost.
 fn better_hop<A: Allocator + Copy>(
     alloc: A,
     waits: &Waits<'_, A>,
     first: ItemId,
-    least: u16,
-) -> Result<Option<(u16, Vec<Hop, A>)>, AllocError>
+    least: u32,
+) -> Result<Option<(u32, Vec<Hop, A>)>, AllocError>
     requires first { first < items waits.now }
     requires rescuer { HasRescuer waits.now (lane_of waits.now first) }
-    requires low { least ≤ 6 }
+    requires low { least ≤ least_hop waits.now first + 3 }
     ensures some { IfOk result (λ found.
         IfSome found (λ better. IsBetter waits.now first least better.0 better.1.items)) }
     ensures none { IfOk result (λ found. IfNone found (IsNoBetter waits.now first least)) }
@@ -78,26 +78,27 @@ fn better_round<A: Allocator + Copy>(
     on: &Buckets<A>,
     search: &mut Search<A>,
     first: ItemId,
-    least: u16,
-) -> Result<Option<(u16, Vec<Hop, A>)>, AllocError>
+    least: u32,
+) -> Result<Option<(u32, Vec<Hop, A>)>, AllocError>
     requires on { AreItemsOn waits.now on.now }
     requires first { first < items waits.now }
-    requires low { least ≤ 16388 }
+    requires low { least ≤ max_walk_cost }
     ensures some { IfOk result (λ found.
         IfSome found (λ better. IsBetter waits.now first least better.0 better.1.items)) }
     ensures none { IfOk result (λ found. IfNone found (IsNoBetter waits.now first least)) }
 {
-    // Each hop costs 3.
-    if least <= 3 {
+    if waits.flushes(first).is_empty() {
         return Ok(None);
     }
-    if waits.flushes(first).is_empty() {
+    let own = least_hop(waits, first);
+    if least <= own {
         return Ok(None);
     }
     if !waits.has_rescuer(waits.lane_of(first)) {
         return Ok(None);
     }
-    if least <= TWO_HOPS {
+    // A second hop costs 3.
+    if least <= own + 3 {
         return better_hop(alloc, waits, first, least);
     }
     search_from(waits, on, search, first, least)?;
@@ -117,12 +118,12 @@ pub(crate) fn least_round<A: Allocator + Copy>(
     on: &Buckets<A>,
     search: &mut Search<A>,
     passed: &[u32],
-    limit: u16,
+    limit: u32,
 ) -> Result<Option<Vec<Hop, A>>, AllocError>
     requires on { AreItemsOn waits.now on.now }
     requires items { All (λ i. i < items waits.now) passed.now }
     requires passed { ArePassed waits.now passed.now }
-    requires low { limit ≤ 16388 }
+    requires low { limit ≤ max_walk_cost }
     ensures some { IfOk result (λ found. IfSome found (λ hops. IsLeastRound waits.now limit hops.items)) }
     ensures none { IfOk result (λ found.
         IfNone found ((hops : List Hop) → IsRound waits.now hops → limit ≤ hops_cost hops)) }
@@ -138,4 +139,33 @@ pub(crate) fn least_round<A: Allocator + Copy>(
         }
     }
     Ok(found)
+}
+
+/// The same, such that it begins with an unsure flush if it has one, and that of the flushes of an item with the same
+/// words it has the one that is declared first.
+pub(crate) fn least_round_settled<A: Allocator + Copy>(
+    alloc: A,
+    waits: &Waits<'_, A>,
+    on: &Buckets<A>,
+    search: &mut Search<A>,
+    passed: &[u32],
+    limit: u32,
+) -> Result<Option<Vec<Hop, A>>, AllocError>
+    requires on { AreItemsOn waits.now on.now }
+    requires items { All (λ i. i < items waits.now) passed.now }
+    requires passed { ArePassed waits.now passed.now }
+    requires low { limit ≤ max_walk_cost }
+    ensures some { IfOk result (λ found. IfSome found (λ hops. IsLeastRound waits.now limit hops.items)) }
+    ensures none { IfOk result (λ found.
+        IfNone found ((hops : List Hop) → IsRound waits.now hops → limit ≤ hops_cost hops)) }
+    ensures begins { IfOk result (λ found. IfSome found (λ hops. BeginsUnsure hops.items)) }
+    ensures alike { IfOk result (λ found. IfSome found (λ hops. AreFirstAlike waits.now hops.items)) }
+{
+    match least_round(alloc, waits, on, search, passed, limit)? {
+        Some(mut hops) => {
+            settle(waits, hops.as_mut_slice());
+            Ok(Some(hops))
+        }
+        None => Ok(None),
+    }
 }

@@ -16,14 +16,17 @@ mod hop_back;
 pub mod laws;
 mod least;
 mod marks;
+mod needed;
 mod numbering;
 mod on_lanes;
 mod rounds;
 mod running;
 mod search;
+mod settling;
 mod waits;
 
 pub use answer::Answer;
 pub use hanging::hang;
 pub use hop::Hop;
+pub use needed::needed_places;
 pub use rounds::Rounds;

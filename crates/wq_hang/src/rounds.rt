@@ -9,10 +9,10 @@ ghost use Rattle.wq_groups.specs.DeclaredGroups.{declared_waits};
 ghost use Rattle.wq_core.specs.Wiring.{HasRescuer};
 ghost use Rattle.wq_core.specs.Workqueues.{wiring_of, with_bare};
 ghost use Rattle.wq_hang.specs.declared.hop.Hop.{Hop};
-ghost use Rattle.wq_hang.specs.Walk.{IsRoundOn, IsLeastRoundOn};
+ghost use Rattle.wq_hang.specs.Walk.{BeginsUnsure, IsRoundOn, IsLeastRoundOn};
 
 use crate::hop::Hop;
-use crate::least::{MOST, least_round};
+use crate::least::{MOST, least_round_settled};
 use crate::marks::marked_lanes;
 use crate::numbering::lane_numbers;
 use crate::on_lanes::{items_on_lanes, marked_items_of};
@@ -99,20 +99,22 @@ impl<A: Allocator + Copy> Rounds<A> {
         })
     }
 
-    /// A least one of the rounds all of whose waiting items are on these lanes, if there is one. A number that is no
+    /// A least one of the rounds all of whose waiting items are on these lanes, if there is one: with the fewest unsure
+    /// flushes, and then with the fewest steps. It begins with an unsure flush if it has one. A number that is no
     /// lane's is passed over.
     ///
     /// The only error is out of memory (20).
     pub fn least_on(&mut self, alloc: A, lanes: &[u32]) -> Result<Option<Vec<Hop, A>>, AllocError>
         ensures some { IfOk result (λ found. IfSome found (λ hops. IsLeastRoundOn self.old lanes.now hops.items)) }
         ensures none { IfOk result (λ found. IfNone found ((hops : List Hop) → ¬ IsRoundOn self.old lanes.now hops)) }
+        ensures begins { IfOk result (λ found. IfSome found (λ hops. BeginsUnsure hops.items)) }
         ensures wiring { self.new ≡ self.old }
     {
         let _lanes = self.core.lanes();
         leave_others_out(&self.core, lanes, &mut self.bare)?;
         marked_items_of(&self.on, &self.marks, lanes, &mut self.passed)?;
         let waits = Waits::new(&self.core, self.bare.as_slice());
-        least_round(
+        least_round_settled(
             alloc,
             &waits,
             &self.on,

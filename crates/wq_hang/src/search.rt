@@ -2,19 +2,23 @@
 //!
 //! A flush of an item leads on to its target, and for one more to any other item on the lane of its target; a flush of
 //! the whole lane leads to all its items alike. What costs less than before is gone on from, the cheapest first: hops
-//! cost 3 or 4, so two queues, one for each, are in order by themselves (E. W. Dijkstra, "A note on two problems in
-//! connexion with graphs", Numerische Mathematik 1, 1959). The first item costs nothing to begin with and is then left
-//! out, so what it costs in the end is the cheapest way round. What costs as much as the limit, or as the cheapest way
-//! round so far, isn't gone on from. It takes time in the number of items, lanes and flushes.
+//! cost 3 or 4, and 32,768 more by an unsure flush, so four queues, one for each, are in order by themselves
+//! (E. W. Dijkstra, "A note on two problems in connexion with graphs", Numerische Mathematik 1, 1959). The first item
+//! costs nothing to begin with and is then left out, so what it costs in the end is the cheapest way round. What costs
+//! as much as the limit, or as the cheapest way round so far, isn't gone on from. It takes time in the number of items,
+//! lanes and flushes.
 
 ghost use Rattle.std.specs.Prelude.{◌≡◌, ◌<◌, ◌≤◌, ◌⊎◌, [], false, length, replicate, slice_index, slice_index_or};
-ghost use Rattle.std.specs.Prelude.{IfOk, OnOk, IfSome, IfNone, IsTrue};
+ghost use Rattle.std.specs.Prelude.{IfOk, OnOk, IfSome, IfNone, IsTrue, if◌then◌else◌};
 ghost use Rattle.std.specs.List.{All};
 ghost use Rattle.wq_core.specs.Wiring.{HasRescuer, items, lane_of};
 ghost use Rattle.wq_hang.specs.declared.hop.Hop.{Hop};
-ghost use Rattle.wq_hang.specs.Search.{AreItemsOn, IsTaken, IsSearched, reach, reach_all, reach_lane, follow, expand};
+ghost use Rattle.wq_hang.specs.Walk.{max_walk_cost};
+ghost use Rattle.wq_hang.specs.Search.{AreItemsOn, IsTaken, IsSearched, with_todo, reach, reach_all, reach_lane};
+ghost use Rattle.wq_hang.specs.Search.{follow, expand};
 
 use crate::hop::Hop;
+use crate::hop_back::{least_hop, unsure_part};
 use crate::waits::Waits;
 use std::alloc::{AllocError, Allocator};
 use std::collections::VecDeque;
@@ -25,11 +29,13 @@ use wq_items::{ItemId, Target};
 /// What was found so far.
 #[derive(Drop)]
 pub(crate) struct Search<A: Allocator> {
-    costs: Vec<u16, A>,
-    lane_costs: Vec<u16, A>,
+    costs: Vec<u32, A>,
+    lane_costs: Vec<u32, A>,
     by: Vec<Hop, A>,
     near: VecDeque<ItemId, A>,
     far: VecDeque<ItemId, A>,
+    near_unsure: VecDeque<ItemId, A>,
+    far_unsure: VecDeque<ItemId, A>,
 }
 
 impl<A: Allocator> Model for Search<A> {
@@ -44,11 +50,13 @@ impl<A: Allocator> Model for Search<A> {
           by = s.by.items;
           near = s.near.items;
           far = s.far.items;
+          near_unsure = s.near_unsure.items;
+          far_unsure = s.far_unsure.items;
         } };
 }
 
 /// Makes a list this long, each number of which is this one.
-fn set_all<A: Allocator>(list: &mut Vec<u16, A>, len: usize, number: u16) -> Result<(), AllocError>
+fn set_all<A: Allocator>(list: &mut Vec<u32, A>, len: usize, number: u32) -> Result<(), AllocError>
     ensures { OnOk result (list.new.items ≡ replicate len number) }
 {
     list.resize(len, number)?;
@@ -65,16 +73,20 @@ impl<A: Allocator + Copy> Search<A> {
             by: Vec::new(alloc),
             near: VecDeque::new(alloc),
             far: VecDeque::new(alloc),
+            near_unsure: VecDeque::new(alloc),
+            far_unsure: VecDeque::new(alloc),
         }
     }
 
     /// Begins anew: each of this many items costs as much as the limit. Memory is taken only the first time.
-    fn begin(&mut self, items: usize, lanes: usize, limit: u16) -> Result<(), AllocError>
+    fn begin(&mut self, items: usize, lanes: usize, limit: u32) -> Result<(), AllocError>
         ensures costs { OnOk result (self.new.costs ≡ replicate items limit) }
         ensures lane_costs { OnOk result (self.new.lane_costs ≡ replicate lanes limit) }
         ensures by { OnOk result (length self.new.by ≡ items) }
         ensures near { OnOk result (self.new.near ≡ []) }
         ensures far { OnOk result (self.new.far ≡ []) }
+        ensures near_unsure { OnOk result (self.new.near_unsure ≡ []) }
+        ensures far_unsure { OnOk result (self.new.far_unsure ≡ []) }
     {
         let none = ItemId::new(0);
         let unset = Hop {
@@ -87,11 +99,27 @@ impl<A: Allocator + Copy> Search<A> {
         self.by.resize(items, unset)?;
         self.near.clear();
         self.far.clear();
+        self.near_unsure.clear();
+        self.far_unsure.clear();
+        Ok(())
+    }
+
+    /// An item is to be gone on from, which was reached at the least cost or at 1 more, and by a sure flush or an
+    /// unsure one.
+    fn push(&mut self, near: bool, unsure: bool, item: ItemId) -> Result<(), AllocError>
+        ensures { IfOk result (λ _. self.new ≡ with_todo near unsure item self.old) }
+    {
+        match (near, unsure) {
+            (true, false) => self.near.push_back(item)?,
+            (false, false) => self.far.push_back(item)?,
+            (true, true) => self.near_unsure.push_back(item)?,
+            (false, true) => self.far_unsure.push_back(item)?,
+        }
         Ok(())
     }
 
     /// A hop leads to its item at this cost.
-    fn reach(&mut self, near: bool, cost: u16, hop: &Hop) -> Result<(), AllocError>
+    fn reach(&mut self, near: bool, cost: u32, hop: &Hop) -> Result<(), AllocError>
         requires next { hop.now.next < length self.old.costs }
         requires one_each { length self.old.by ≡ length self.old.costs }
         ensures { IfOk result (λ _. self.new ≡ reach near cost self.old hop.now) }
@@ -100,11 +128,7 @@ impl<A: Allocator + Copy> Search<A> {
         if cost < self.costs[at] {
             self.costs[at] = cost;
             self.by[at] = *hop;
-            if near {
-                self.near.push_back(hop.next)?;
-            } else {
-                self.far.push_back(hop.next)?;
-            }
+            self.push(near, hop.flush.unsure, hop.next)?;
         }
         Ok(())
     }
@@ -113,7 +137,7 @@ impl<A: Allocator + Copy> Search<A> {
     fn reach_all(
         &mut self,
         near: bool,
-        cost: u16,
+        cost: u32,
         item: ItemId,
         flush: &Target,
         on: &[u32],
@@ -138,7 +162,7 @@ impl<A: Allocator + Copy> Search<A> {
     fn reach_lane(
         &mut self,
         near: bool,
-        cost: u16,
+        cost: u32,
         item: ItemId,
         flush: &Target,
         lane: u16,
@@ -163,7 +187,7 @@ impl<A: Allocator + Copy> Search<A> {
         waits: &Waits<'_, A>,
         on: &Buckets<A>,
         item: ItemId,
-        cost: u16,
+        cost: u32,
         flush: &Target,
     ) -> Result<(), AllocError>
         requires on { AreItemsOn waits.now on.now }
@@ -171,7 +195,7 @@ impl<A: Allocator + Copy> Search<A> {
         requires by_each { length self.old.by ≡ items waits.now }
         requires lanes_each { length self.old.lane_costs ≡ waits.now.lanes }
         requires target { flush.now.item < items waits.now }
-        requires low { cost ≤ 32767 }
+        requires low { cost ≤ max_walk_cost }
         ensures { IfOk result (λ _. self.new ≡ follow waits.now on.now item cost self.old flush.now) }
     {
         let _items = waits.items();
@@ -184,6 +208,7 @@ impl<A: Allocator + Copy> Search<A> {
             flush: *flush,
             next: flush.item,
         };
+        let cost = cost + unsure_part(flush);
         self.reach(true, cost + 3, &direct)?;
         let step = if flush.whole { 3 } else { 4 };
         self.reach_lane(
@@ -202,14 +227,14 @@ impl<A: Allocator + Copy> Search<A> {
         waits: &Waits<'_, A>,
         on: &Buckets<A>,
         item: ItemId,
-        cost: u16,
+        cost: u32,
     ) -> Result<(), AllocError>
         requires on { AreItemsOn waits.now on.now }
         requires one_each { length self.old.costs ≡ items waits.now }
         requires by_each { length self.old.by ≡ items waits.now }
         requires lanes_each { length self.old.lane_costs ≡ waits.now.lanes }
         requires item { item < items waits.now }
-        requires low { cost ≤ 32767 }
+        requires low { cost ≤ max_walk_cost }
         ensures { IfOk result (λ _. self.new ≡ expand waits.now on.now item cost self.old) }
     {
         let _items = waits.items();
@@ -220,7 +245,7 @@ impl<A: Allocator + Copy> Search<A> {
     }
 
     /// What it costs to come to an item.
-    pub(crate) fn cost(&self, item: ItemId) -> u16
+    pub(crate) fn cost(&self, item: ItemId) -> u32
         requires { item < length self.now.costs }
         ensures { result ≡ slice_index self.now.costs item }
     {
@@ -236,22 +261,37 @@ impl<A: Allocator + Copy> Search<A> {
     }
 
     /// What it costs to come to an item, as far as is known.
-    fn cost_so_far(&self, item: ItemId) -> u16 {
+    fn cost_so_far(&self, item: ItemId) -> u32 {
         let cost = self.costs.get(usize::from(item.get())).copied();
-        cost.unwrap_or(u16::MAX)
+        cost.unwrap_or(u32::MAX)
     }
 
-    /// Whether the next item to go on from is the first of those that were reached at a cost of 3 more.
-    fn near_comes_first(&self) -> bool
-        ensures near { IsTrue result → 0 < length self.now.near }
-        ensures far { result ≡ false → (length self.now.near ≡ 0) ⊎ (0 < length self.now.far) }
+    /// Whether the first item of one queue comes before that of another, by what it costs to come there.
+    fn comes_first(&self, one: &VecDeque<ItemId, A>, other: &VecDeque<ItemId, A>) -> bool
+        ensures one { IsTrue result → 0 < length one.now.items }
+        ensures other { result ≡ false → (length one.now.items ≡ 0) ⊎ (0 < length other.now.items) }
     {
-        let Some(near) = self.near.get(0) else {
+        let Some(first) = one.get(0) else {
             return false;
         };
-        match self.far.get(0) {
-            Some(far) => self.cost_so_far(*near) <= self.cost_so_far(*far),
+        match other.get(0) {
+            Some(second) => self.cost_so_far(*first) <= self.cost_so_far(*second),
             None => true,
+        }
+    }
+
+    /// Whether the next item to go on from is the first of those that were reached by a sure flush, where the cheapest
+    /// of these was reached at the least cost, and so was that of the others.
+    fn sure_comes_first(&self, near: bool, near_unsure: bool) -> bool
+        ensures sure { IsTrue result → 0 < length (if near then self.now.near else self.now.far) }
+        ensures unsure { result ≡ false → (length (if near then self.now.near else self.now.far) ≡ 0)
+            ⊎ (0 < length (if near_unsure then self.now.near_unsure else self.now.far_unsure)) }
+    {
+        let sure = if near { &self.near } else { &self.far };
+        if near_unsure {
+            self.comes_first(sure, &self.near_unsure)
+        } else {
+            self.comes_first(sure, &self.far_unsure)
         }
     }
 
@@ -261,11 +301,23 @@ impl<A: Allocator + Copy> Search<A> {
         ensures none { IfNone result (self.new ≡ self.old) }
         ensures near { IfNone result (length self.old.near ≡ 0) }
         ensures far { IfNone result (length self.old.far ≡ 0) }
+        ensures near_unsure { IfNone result (length self.old.near_unsure ≡ 0) }
+        ensures far_unsure { IfNone result (length self.old.far_unsure ≡ 0) }
     {
-        if self.near_comes_first() {
-            self.near.pop_front()
-        } else {
-            self.far.pop_front()
+        let near = self.comes_first(&self.near, &self.far);
+        if self.near_unsure.is_empty() && self.far_unsure.is_empty() {
+            return if near {
+                self.near.pop_front()
+            } else {
+                self.far.pop_front()
+            };
+        }
+        let near_unsure = self.comes_first(&self.near_unsure, &self.far_unsure);
+        match (self.sure_comes_first(near, near_unsure), near, near_unsure) {
+            (true, true, _) => self.near.pop_front(),
+            (true, false, _) => self.far.pop_front(),
+            (false, _, true) => self.near_unsure.pop_front(),
+            (false, _, false) => self.far_unsure.pop_front(),
         }
     }
 }
@@ -276,20 +328,20 @@ pub(crate) fn search_from<A: Allocator + Copy>(
     on: &Buckets<A>,
     search: &mut Search<A>,
     first: ItemId,
-    limit: u16,
+    limit: u32,
 ) -> Result<(), AllocError>
     requires on { AreItemsOn waits.now on.now }
     requires first { first < items waits.now }
     requires rescuer { HasRescuer waits.now (lane_of waits.now first) }
-    requires low { limit ≤ 16388 }
+    requires low { limit ≤ max_walk_cost }
     ensures { OnOk result (IsSearched waits.now first limit search.new) }
 {
     search.begin(waits.items(), waits.lanes(), limit)?;
     search.expand(waits, on, first, 0)?;
     while let Some(item) = search.take() {
         let cost = search.cost(item);
-        // Each hop costs 3, so no round by way of this item costs less than the best one so far.
-        if search.cost(first).saturating_sub(cost) <= 3 {
+        // Then no round by way of this item costs less than the best one so far.
+        if search.cost(first).saturating_sub(cost) <= least_hop(waits, item) {
             continue;
         }
         search.expand(waits, on, item, cost)?;

@@ -1,2 +1,3 @@
 pub mod HangLemmas
+pub mod Promised
 pub mod Taking

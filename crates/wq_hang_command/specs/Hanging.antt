@@ -7,10 +7,9 @@ use Rattle.wq_core.specs.Deadlock.{IsSafe}
 use Rattle.wq_hang.specs.declared.answer.Answer.{Answer}
 use Rattle.wq_hang.specs.declared.answer.Answer.TheVariants as answer
 use Rattle.wq_hang.specs.declared.hop.Hop.{Hop}
-use Rattle.wq_hang.specs.Answer.{IsAnswer}
-use Rattle.wq_hang.specs.Shortest.{IsShortestHang}
-use Rattle.wq_hang.specs.Walk.{IsWalk, IsRoundOrFirst, run_of_walk}
-use Rattle.wq_cert.specs.RunText.{run_text}
+use Rattle.wq_hang.specs.Answer.{IsAnswer, IsHangOf}
+use Rattle.wq_hang.specs.Walk.{needs}
+use Rattle.wq_cert.specs.Part.{reading_text}
 use Rattle.wq_cert.specs.Texts.{workqueues_of_text, cert_refusal}
 use Rattle.wq_commands.specs.declared.end.End.{End}
 use Rattle.wq_commands.specs.declared.end.End.TheVariants.{Good, Bad, Refused}
@@ -24,20 +23,17 @@ use Rattle.wq_commands.specs.Declaration.{declaration}
 use Rattle.wq_commands.specs.Found.{AnswersIn}
 use Rattle.wq_hang_command.specs.declared.hanging.Hanging.{Hanging}
 
--- the steps are printed of a shortest run of these workqueues that ends stuck. It is the run of a walk, and where that
--- has 4 steps, of the first flush that leads to a bare lane, if there is one
+-- the steps are printed of a shortest run of these workqueues that ends stuck: of the reading that keeps the fewest
+-- unsure flushes, which are printed, too, if the declaration has any. It is the run of a walk, and where that costs as
+-- much as a flush that leads to a bare lane, of the first such flush
 pub record PrintsHang (s : Declared) (ws : Workqueues) (out : List ℕ) : Type 0 where
   pub steps : List Step
-  pub assignment : IsAssignment s.partition.groups ws.assignment
-  pub shortest : IsShortestHang (wiring_of (declared_waits s) ws) steps
   pub hops : List Hop
-  pub beside : List ℕ
-  pub walk : IsWalk (wiring_of (declared_waits s) ws) hops beside
-  pub first : IsRoundOrFirst (wiring_of (declared_waits s) ws) hops beside
-  pub run : steps ≡ run_of_walk (wiring_of (declared_waits s) ws) hops beside
-  pub text : out ≡ run_text s.table.names steps
+  pub hang : IsHangOf (declared_waits s) ws hops steps
+  pub text : out ≡ reading_text s.table.names s.table.waits (needs hops) steps
 
--- the answer to workqueues of a declaration's groups: `safe` if no run ends stuck, else a shortest run that does
+-- the answer to workqueues of a declaration's groups: `safe` if no run ends stuck, whatever the unsure flushes turn out
+-- to be, else a shortest run that does
 abbrev pub HangsAssigned : Declared → Workqueues → End → List ℕ → Type 0
 HangsAssigned s ws Good out =
     IsAssignment s.partition.groups ws.assignment × IsSafe (wiring_of (declared_waits s) ws) × (out ≡ safe_text)
@@ -58,10 +54,12 @@ Hangs declared text end out =
 
 -- ---- what is found, and printed
 
--- what is printed of this answer: `safe`, or the steps of its run
+-- what is printed of this answer: `safe`, or the unsure flushes that it needs, if a flush is unsure, and the steps of
+-- its run
 abbrev pub PrintsAnswer : {A : Type 0} → Declared → Answer A → End → List ℕ → Type 0
 PrintsAnswer s answer.Safe end out = (end ≡ Good) × (out ≡ safe_text)
-PrintsAnswer s (answer.Hang hops steps) end out = (end ≡ Bad) × (out ≡ run_text s.table.names steps.items)
+PrintsAnswer s (answer.Hang hops steps) end out =
+    (end ≡ Bad) × (out ≡ reading_text s.table.names s.table.waits (needs hops.items) steps.items)
 
 -- these workqueues are found, and how they hang soonest: the waits of a walk, and its run; and this run is printed
 pub record FindsHang {A : Type 0} (s : Declared) (ws : Workqueues) (found : Found (Hanging A)) (end : End)

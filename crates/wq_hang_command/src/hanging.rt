@@ -4,19 +4,18 @@
 //! assignment and of the search for the shortest run.
 
 ghost use Rattle.std.specs.Prelude.{◌≡◌, length, IfOk};
-ghost use Rattle.wq_core.specs.Workqueues.{wiring_of};
-ghost use Rattle.wq_hang.specs.Answer.{IsAnswer};
-ghost use Rattle.wq_hang.specs.Shortest.{IsShortestHang};
-ghost use Rattle.wq_cert.specs.RunText.{run_text};
+ghost use Rattle.wq_hang.specs.Answer.{IsAnswer, IsHangOf};
+ghost use Rattle.wq_hang.specs.Walk.{needs};
+ghost use Rattle.wq_cert.specs.Part.{reading_text};
 ghost use Rattle.wq_groups.specs.DeclaredGroups.{declared_waits};
 ghost use Rattle.wq_hang_command.specs.Hanging.{FindsHang, HangsText, PrintsAnswer};
 
 use std::alloc::{AllocError, Allocator};
-use wq_cert::run_text;
+use wq_cert::reading_text;
 use wq_commands::{Answered, End, Found, Which, safe_text, workqueues_of};
 use wq_core::{Assigned, Step, Workqueues};
 use wq_groups::Declaration;
-use wq_hang::{Answer, hang as shortest_hang};
+use wq_hang::{Answer, Hop, hang as shortest_hang, needed_places};
 
 /// Workqueues, and how they hang soonest, if they can.
 #[derive(Drop)]
@@ -25,16 +24,19 @@ pub struct Hanging<A: Allocator> {
     pub answer: Answer<A>,
 }
 
-/// The text of a shortest run that ends stuck.
+/// The text of the run of these waits: with the unsure flushes among them, if a flush is unsure.
 fn hang_text<A: Allocator + Copy>(
     alloc: A,
     assigned: &Assigned<'_, '_, A>,
+    hops: &[Hop],
     steps: &[Step],
 ) -> Result<Vec<u8, A>, AllocError>
-    requires { IsShortestHang (wiring_of (declared_waits assigned.now.declared) assigned.now.workqueues) steps.now }
-    ensures { IfOk result (λ text. text.items ≡ run_text assigned.now.declared.table.names steps.now) }
+    requires { IsHangOf (declared_waits assigned.now.declared) assigned.now.workqueues hops.now steps.now }
+    ensures { IfOk result (λ text. text.items ≡ reading_text assigned.now.declared.table.names
+        assigned.now.declared.table.waits (needs hops.now) steps.now) }
 {
-    run_text(alloc, assigned.table(), steps)
+    let kept = needed_places(alloc, hops)?;
+    reading_text(alloc, assigned.table(), kept.as_slice(), steps)
 }
 
 /// What is printed of this answer.
@@ -52,8 +54,8 @@ fn print_answer<A: Allocator + Copy>(
             let text = safe_text(alloc)?;
             Ok((End::Good, text))
         }
-        Answer::Hang(_, steps) => {
-            let text = hang_text(alloc, assigned, steps)?;
+        Answer::Hang(hops, steps) => {
+            let text = hang_text(alloc, assigned, hops, steps)?;
             Ok((End::Bad, text))
         }
     }

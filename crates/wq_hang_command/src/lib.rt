@@ -6,6 +6,7 @@
 
 mod hang;
 mod hanging;
+pub mod laws;
 mod saying;
 
 pub use hang::HangCommand;

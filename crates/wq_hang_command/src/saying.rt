@@ -1,5 +1,5 @@
 //! What is said beside the answer of `hang`: beside `safe`, which items are on workqueues without a rescuer; beside a
-//! run, the waits of the walk whose run it is.
+//! run, the waits of the walk whose run it is; and beside both whether unsure flushes matter.
 //!
 //! Nothing is searched for: the answer has the walk beside its run. A call takes the time and the memory of the words.
 

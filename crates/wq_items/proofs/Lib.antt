@@ -17,3 +17,6 @@ pub mod FaultLemmas
 pub mod SliceLemmas
 pub mod ReadLemmas
 pub mod AtOnceLemmas
+pub mod Ranks
+pub mod ReadingLemmas
+pub mod ReadingLists

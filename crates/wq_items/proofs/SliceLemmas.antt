@@ -8,7 +8,7 @@ use Rattle.wq_text.specs.declared.span.Span.{Span}
 use Rattle.wq_text.specs.Lines.{lines_of}
 use Rattle.wq_text.proofs.SliceLaws.{LineStands, WordStands, LineStands-lines_of, WordStands-words_of, slice_range-StandsAt}
 use Rattle.wq_decl.specs.declared.directive.Directive.{Directive}
-use Rattle.wq_decl.specs.declared.directive.Directive.TheVariants.{Item, Flush, FlushWq, Ordered}
+use Rattle.wq_decl.specs.declared.directive.Directive.TheVariants.{Item, Flush, FlushWq, Unsure, Ordered}
 use Rattle.wq_decl.specs.Reading.{directives}
 use Rattle.wq_decl.specs.Origins.{directive_words, IsFrom}
 use Rattle.wq_decl.proofs.OriginLemmas.{IsFrom-directives}
@@ -38,6 +38,7 @@ module _ (text : List ℕ) where
       ap (λ (bytes : List ℕ). bytes ∷ filter_map item_name ds) (sym slice) ∙ ap (λ (names : List (List ℕ)). slice_range text name.start (name.start + length name.bytes) ∷ names) (names_are ds stand.1)
   names_are ((n, Flush name targets) ∷ ds) stand = names_are ds stand.1
   names_are ((n, FlushWq name target) ∷ ds) stand = names_are ds stand.1
+  names_are ((n, Unsure name target whole) ∷ ds) stand = names_are ds stand.1
   names_are ((n, Ordered names) ∷ ds) stand = names_are ds stand.1
 
   pub names-slices : (t : Table) → table_of (directives (lines_of text)) ≡ Ok t → t.names ≡ map (λ (span : Span). slice_range text span.start span.end) t.spans

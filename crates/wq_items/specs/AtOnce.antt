@@ -1,8 +1,8 @@
 -- At once: what a line says before it is known whether its words are names.
-use Rattle.std.specs.Prelude.{◌≡◌, Bool, false, List, [], ◌∷◌, Option, Some, None, Result, Ok, IsOk, IsTrue}
+use Rattle.std.specs.Prelude.{◌≡◌, Bool, true, false, List, [], ◌∷◌, Option, Some, None, Result, Ok, IsOk, IsTrue}
 use Rattle.wq_text.specs.Words.{WordView}
 use Rattle.wq_decl.specs.declared.directive.Directive.{Directive}
-use Rattle.wq_decl.specs.declared.directive.Directive.TheVariants.{Item, Flush, FlushWq, Ordered}
+use Rattle.wq_decl.specs.declared.directive.Directive.TheVariants.{Item, Flush, FlushWq, Unsure, Ordered}
 use Rattle.wq_decl.specs.declared.fault.DeclError.{DeclError}
 use Rattle.wq_decl.specs.declared.keyword.Keyword.{Keyword}
 use Rattle.wq_decl.specs.declared.keyword.Keyword.TheVariants as keyword
@@ -27,6 +27,13 @@ flushwq_unjudged (name ∷ []) = None
 flushwq_unjudged (name ∷ target ∷ []) = Some (Some (FlushWq name target))
 flushwq_unjudged (name ∷ target ∷ extra ∷ others) = None
 
+-- the words after `flush?` as a directive, or after `flushwq?`, if there are exactly two
+abbrev pub unsure_unjudged : Bool → List WordView → Option (Option Directive)
+unsure_unjudged whole [] = None
+unsure_unjudged whole (name ∷ []) = None
+unsure_unjudged whole (name ∷ target ∷ []) = Some (Some (Unsure name target whole))
+unsure_unjudged whole (name ∷ target ∷ extra ∷ others) = None
+
 -- the words after the keyword as a directive, whatever they are and even if there
 -- are too few; no answer if they can't be those of a directive
 abbrev pub unjudged_after : Option Keyword → List WordView → Option (Option Directive)
@@ -34,6 +41,8 @@ unjudged_after None words = None
 unjudged_after (Some keyword.Item) words = item_unjudged words
 unjudged_after (Some keyword.Flush) words = flush_unjudged words
 unjudged_after (Some keyword.FlushWq) words = flushwq_unjudged words
+unjudged_after (Some keyword.FlushUnsure) words = unsure_unjudged false words
+unjudged_after (Some keyword.FlushWqUnsure) words = unsure_unjudged true words
 unjudged_after (Some keyword.Ordered) words = Some (Some (Ordered words))
 
 -- the words of a line as a directive: nothing on a blank line, else what follows its keyword
@@ -47,6 +56,7 @@ is_whole (Item name) = is_name name.bytes
 is_whole (Flush name []) = false
 is_whole (Flush name (target ∷ others)) = are_names (name ∷ target ∷ others)
 is_whole (FlushWq name target) = are_names (name ∷ target ∷ [])
+is_whole (Unsure name target whole) = are_names (name ∷ target ∷ [])
 is_whole (Ordered []) = false
 is_whole (Ordered (name ∷ others)) = are_names (name ∷ others)
 

@@ -5,7 +5,8 @@ use Rattle.wq_text.specs.declared.span.Span.{Span}
 use Rattle.wq_text.specs.Words.{WordView}
 use Rattle.wq_text.specs.Refusal.{Refusal}
 use Rattle.wq_decl.specs.declared.directive.Directive.{Directive}
-use Rattle.wq_decl.specs.declared.directive.Directive.TheVariants.{Item, Flush, FlushWq, Ordered}
+use Rattle.wq_decl.specs.declared.directive.Directive.TheVariants.{Item, Flush, FlushWq, Unsure, Ordered}
+use Rattle.wq_items.specs.declared.target.Kind.{Kind}
 use Rattle.wq_items.specs.declared.target.Target.{Target}
 use Rattle.wq_items.specs.declared.fault.ItemError.{ItemError}
 use Rattle.wq_items.specs.declared.fault.ItemError.TheVariants.{ItemTwice, UnknownItem, TooManyItems, TooManyFlushes}
@@ -29,16 +30,29 @@ with_item t name =
       waits = t.waits ++ ([] ∷ []);
     }
 
+-- a flush of an item, which is sure
+abbrev pub of_item : Kind
+of_item = record { whole = false; unsure = false }
+
+-- a flush of a whole workqueue, which is sure
+abbrev pub of_workqueue : Kind
+of_workqueue = record { whole = true; unsure = false }
+
+-- a flush that isn't sure: of a whole workqueue, or of an item
+abbrev pub unsure_of : Bool → Kind
+unsure_of whole = record { whole = whole; unsure = true }
+
 -- targets of one kind, the first of which is at this place
-abbrev pub targets_from : Bool → ℕ → List ℕ → List Target
-targets_from whole place [] = []
-targets_from whole place (item ∷ items) =
-    record { item = item; whole = whole; place = place } ∷ targets_from whole (place + 1) items
+abbrev pub targets_from : Kind → ℕ → List ℕ → List Target
+targets_from kind place [] = []
+targets_from kind place (item ∷ items) =
+    record { item = item; whole = kind.whole; unsure = kind.unsure; place = place }
+    ∷ targets_from kind (place + 1) items
 
 -- the table in which item i flushes these items too, or their whole workqueues, at the next places
-abbrev pub with_flushes : Table → Bool → ℕ → List ℕ → Table
-with_flushes t whole i items =
-    record t { waits = slice_set t.waits i (targets_of t.waits i ++ targets_from whole (flush_count t.waits) items) }
+abbrev pub with_flushes : Table → Kind → ℕ → List ℕ → Table
+with_flushes t kind i items =
+    record t { waits = slice_set t.waits i (targets_of t.waits i ++ targets_from kind (flush_count t.waits) items) }
 
 -- an item before the others, if all are known
 abbrev pub and_item : Option ℕ → Option (List ℕ) → Option (List ℕ)
@@ -59,21 +73,22 @@ item_declared t n name =
 
 -- line n declares that the first of these items flushes the others, or their whole
 -- workqueues, if all names on it are known
-abbrev pub flushes_declared : Table → ℕ → Bool → Option (List ℕ) → Result Table ItemError
-flushes_declared t n whole None = Err (UnknownItem n)
-flushes_declared t n whole (Some []) = Ok t
-flushes_declared t n whole (Some (i ∷ items)) =
+abbrev pub flushes_declared : Table → ℕ → Kind → Option (List ℕ) → Result Table ItemError
+flushes_declared t n kind None = Err (UnknownItem n)
+flushes_declared t n kind (Some []) = Ok t
+flushes_declared t n kind (Some (i ∷ items)) =
     if nat_lt max_flushes (flush_count t.waits + length items) then Err (TooManyFlushes n)
-    else Ok (with_flushes t whole i items)
+    else Ok (with_flushes t kind i items)
 
--- the whole workqueue of the item with one name was added to the targets of the item with another, at this place
-pub record AddsWhole (names : List (List ℕ)) (old : List (List Target)) (name target : List ℕ) (place : ℕ)
+-- a flush of this kind was added to those of the item with one name, at this place: of the item with another, or of its
+-- workqueue
+pub record AddsOne (names : List (List ℕ)) (old : List (List Target)) (kind : Kind) (name target : List ℕ) (place : ℕ)
     (new : List (List Target)) : Type 0 where
   pub item : ℕ
   pub other : ℕ
   pub first : item_named names name ≡ Some item
   pub second : item_named names target ≡ Some other
-  pub lists : new ≡ slice_set old item (targets_of old item ++ targets_from true place (other ∷ []))
+  pub lists : new ≡ slice_set old item (targets_of old item ++ targets_from kind place (other ∷ []))
 
 -- line n puts these items into one group, if all names on it are known; the table stays as it is
 abbrev pub items_ordered : Table → ℕ → Option (List ℕ) → Result Table ItemError
@@ -83,8 +98,10 @@ items_ordered t n (Some items) = Ok t
 -- the table after the directive of line n, or its first fault by the rows of the format's table
 abbrev pub declared : Table → ℕ → Directive → Result Table ItemError
 declared t n (Item name) = item_declared t n name
-declared t n (Flush name targets) = flushes_declared t n false (items_named t.names (name ∷ targets))
-declared t n (FlushWq name target) = flushes_declared t n true (items_named t.names (name ∷ target ∷ []))
+declared t n (Flush name targets) = flushes_declared t n of_item (items_named t.names (name ∷ targets))
+declared t n (FlushWq name target) = flushes_declared t n of_workqueue (items_named t.names (name ∷ target ∷ []))
+declared t n (Unsure name target whole) =
+    flushes_declared t n (unsure_of whole) (items_named t.names (name ∷ target ∷ []))
 declared t n (Ordered names) = items_ordered t n (items_named t.names names)
 
 -- what follows a value, if there is one; an error stays

@@ -14,7 +14,7 @@ use Rattle.wq_items.specs.Table.{max_items, max_flushes}
 abbrev pub IsDeclared : List (ℕ × Directive) → List ℕ → Type 0
 IsDeclared ds name = Contains (filter_map item_name ds) name
 
--- no name is declared twice, each name on a `flush` or an `ordered` line is declared by a line before it, and there are
+-- no name is declared twice, each name on another line is declared by a line before it, and there are
 -- at most 4,096 items and 16,384 flushes
 pub record IsFaultless (ds : List (ℕ × Directive)) : Type 0 where
   pub once : AllPairs (λ (a b : List ℕ). a ≢ b) (filter_map item_name ds)

@@ -17,19 +17,20 @@ ghost use Rattle.std.specs.Prelude.{◌≡◌, ◌∷◌, [], ℕ, ◌-◌, ◌<
 ghost use Rattle.std.specs.Prelude.{IfNone, IsTrue, None, Some, true, false};
 ghost use Rattle.wq_text.specs.Lines.{lines_of};
 ghost use Rattle.wq_text.specs.Words.{words_of};
-ghost use Rattle.wq_decl.specs.declared.directive.Directive.TheVariants.{Item, Flush, FlushWq, Ordered};
+ghost use Rattle.wq_decl.specs.declared.directive.Directive.TheVariants.{Item, Flush, Ordered};
+ghost use Rattle.wq_decl.specs.Names.{are_names};
 ghost use Rattle.wq_decl.specs.Reading.{reading, directives, first_fault};
 ghost use Rattle.wq_items.specs.AtOnce.{item_unjudged, flush_unjudged, flushwq_unjudged, unjudged_after, unjudged};
-ghost use Rattle.wq_items.specs.AtOnce.{is_whole, Foretells};
+ghost use Rattle.wq_items.specs.AtOnce.{unsure_unjudged, is_whole, Foretells};
 ghost use Rattle.wq_items.specs.Table.{IsTable};
 ghost use Rattle.wq_items.specs.Building.{empty_table, table_of, declared, item_declared, flushes_declared};
-ghost use Rattle.wq_items.specs.Building.{items_ordered, items_named};
+ghost use Rattle.wq_items.specs.Building.{items_ordered, items_named, of_item};
 ghost use Rattle.wq_items.specs.FirstFault.{RanOut, DeclaresMore};
 
 use crate::flush::Flushes;
 use crate::names::Names;
-use crate::table::{Building, ItemTable, MAX_ITEMS, push_targets, push_whole};
-use crate::target::ItemId;
+use crate::table::{Building, ItemTable, MAX_ITEMS, push_one, push_targets};
+use crate::target::{ItemId, Kind};
 use std::alloc::Allocator;
 use std::marker::Model;
 use wq_decl::{DeclView, Directive, Keyword, OrderedLines, cut_keyword, is_name};
@@ -68,6 +69,19 @@ fn flushwq_unjudged<'a>(mut words: Words<'a>) -> Option<Option<Directive<'a>>>
     }
 }
 
+/// The words after `flush?` as a directive, or after `flushwq?`, whose flush is of a whole workqueue, if there are
+/// exactly two.
+fn unsure_unjudged<'a>(whole: bool, mut words: Words<'a>) -> Option<Option<Directive<'a>>>
+    ensures { result ≡ unsure_unjudged whole words.entry }
+{
+    let name = words.next()?;
+    let target = words.next()?;
+    if words.next().is_none() {
+        return Some(Some(Directive::Unsure(name, target, whole)));
+    }
+    None
+}
+
 /// The words after the keyword as a directive, whatever they are.
 #[inline(always)]
 fn unjudged_after<'a>(keyword: Option<Keyword>, words: Words<'a>) -> Option<Option<Directive<'a>>>
@@ -77,6 +91,8 @@ fn unjudged_after<'a>(keyword: Option<Keyword>, words: Words<'a>) -> Option<Opti
         Keyword::Item => item_unjudged(words),
         Keyword::Flush => flush_unjudged(words),
         Keyword::FlushWq => flushwq_unjudged(words),
+        Keyword::FlushUnsure => unsure_unjudged(false, words),
+        Keyword::FlushWqUnsure => unsure_unjudged(true, words),
         Keyword::Ordered => Some(Some(Directive::Ordered(words))),
     }
 }
@@ -144,7 +160,20 @@ impl<'a, A: Allocator + Copy> Parts<'a, A> {
         match directive {
             Directive::Item(name) => self.take_item(name),
             Directive::Flush(name, targets) => self.take_flushes(name, targets),
-            Directive::FlushWq(name, target) => self.take_whole(name, target),
+            Directive::FlushWq(name, target) => {
+                let kind = Kind {
+                    whole: true,
+                    unsure: false,
+                };
+                self.take_one(kind, name, target)
+            }
+            Directive::Unsure(name, target, whole) => {
+                let kind = Kind {
+                    whole,
+                    unsure: true,
+                };
+                self.take_one(kind, name, target)
+            }
             Directive::Ordered(names) => self.take_order(names),
         }
     }
@@ -170,7 +199,7 @@ impl<'a, A: Allocator + Copy> Parts<'a, A> {
     fn take_flushes(&mut self, name: Word<'a>, targets: Words<'a>) -> Option<()>
         requires { IsTable self.old }
         ensures table { IfSome result (λ _. (n : ℕ)
-            → flushes_declared self.old n false (items_named self.old.names (name.entry ∷ targets.entry))
+            → flushes_declared self.old n of_item (items_named self.old.names (name.entry ∷ targets.entry))
             ≡ Ok self.new) }
         ensures whole { IfSome result (λ _. IsTrue (is_whole (Flush name.entry targets.entry))) }
     {
@@ -183,16 +212,16 @@ impl<'a, A: Allocator + Copy> Parts<'a, A> {
         Some(())
     }
 
-    /// Adds the flush of a whole workqueue.
-    fn take_whole(&mut self, name: Word<'a>, target: Word<'a>) -> Option<()>
+    /// Adds a flush of this kind.
+    fn take_one(&mut self, kind: Kind, name: Word<'a>, target: Word<'a>) -> Option<()>
         requires { IsTable self.old }
         ensures table { IfSome result (λ _. (n : ℕ)
-            → flushes_declared self.old n true (items_named self.old.names (name.entry ∷ target.entry ∷ []))
+            → flushes_declared self.old n kind (items_named self.old.names (name.entry ∷ target.entry ∷ []))
             ≡ Ok self.new) }
-        ensures whole { IfSome result (λ _. IsTrue (is_whole (FlushWq name.entry target.entry))) }
+        ensures names { IfSome result (λ _. IsTrue (are_names (name.entry ∷ target.entry ∷ []))) }
     {
         let place = self.waits.len() as u32;
-        push_whole(&self.names, &mut self.waits, name, target, place)
+        push_one(&self.names, &mut self.waits, kind, name, target, place)
     }
 
     /// Adds nothing, if there are words and each of them names an item.

@@ -16,6 +16,7 @@ mod hashing;
 pub mod laws;
 mod named;
 mod names;
+mod readings;
 mod short;
 mod table;
 mod target;

@@ -116,6 +116,13 @@ impl<'a, A: Allocator + Copy> Named<'a, A> {
         })
     }
 
+    /// The same names again.
+    pub(crate) fn again(&self, alloc: A) -> Result<Self, AllocError>
+        ensures { IfOk result (λ named. named ≡ self.now) }
+    {
+        Named::new(alloc, self.hasher, self.names.as_slice())
+    }
+
     /// How many names there are.
     pub(crate) fn len(&self) -> usize
         ensures { result ≡ length self.now }

@@ -10,21 +10,23 @@
 
 ghost use Rattle.std.specs.Prelude.{◌≡◌, ◌+◌, ◌^◌, ◌<◌, ◌≤◌, ℕ, [], true, false, length, Ok, Err, IfOk, IfErr, IfSome};
 ghost use Rattle.std.specs.Prelude.{IfNone, OnErr, IsOk, slice_get, slice_set, Some, IsTrue, ◌↔◌, ◌∷◌, ◌++◌};
-ghost use Rattle.std.specs.Prelude.{option_map};
+ghost use Rattle.std.specs.Prelude.{option_map, flat_map};
 ghost use Rattle.wq_decl.specs.Names.{is_name};
 ghost use Rattle.wq_decl.specs.Reading.{HasNames};
 ghost use Rattle.wq_items.specs.Table.{Table, IsTable, item_named, targets_of, flush_count};
+ghost use Rattle.wq_items.specs.declared.target.Kind.{Kind};
 ghost use Rattle.wq_items.specs.declared.fault.ItemError.TheVariants.{OutOfMemory};
 ghost use Rattle.wq_items.specs.FirstFault.{RanOut, DeclaresMore};
 ghost use Rattle.wq_items.specs.Building.{table_of, declared, item_declared, flushes_declared, items_ordered};
-ghost use Rattle.wq_items.specs.Building.{items_named, and_item, targets_from, empty_table, IsFaultOf, AddsWhole};
+ghost use Rattle.wq_items.specs.Building.{of_item};
+ghost use Rattle.wq_items.specs.Building.{items_named, and_item, targets_from, empty_table, IsFaultOf, AddsOne};
 
 use crate::fault::ItemError;
 use crate::flush::Flushes;
 use crate::hashing::are_same;
 use crate::named::Named;
 use crate::names::Names;
-use crate::target::{ItemId, Target};
+use crate::target::{ItemId, Kind, Target};
 use crate::waits::Waits;
 use std::alloc::{AllocError, Allocator};
 use std::marker::Model;
@@ -113,7 +115,7 @@ pub(crate) fn push_targets<'a, A: Allocator + Copy>(
         ≡ Some next) }
     ensures room { IfSome result (λ next. next ≤ 16384) }
     ensures added { IfSome result (λ _. IfSome (items_named names.now targets.entry) (λ items.
-        waits.new ≡ slice_set waits.old item (targets_of waits.old item ++ targets_from false place items))) }
+        waits.new ≡ slice_set waits.old item (targets_of waits.old item ++ targets_from of_item place items))) }
     ensures none { IfNone result (0 < length targets.entry) }
 {
     let mut next = place;
@@ -125,6 +127,7 @@ pub(crate) fn push_targets<'a, A: Allocator + Copy>(
         let target = Target {
             item: ItemId::new(target as u16),
             whole: false,
+            unsure: false,
             place: next,
         };
         waits.push_target(item, target).ok()?;
@@ -133,12 +136,13 @@ pub(crate) fn push_targets<'a, A: Allocator + Copy>(
     Some(next)
 }
 
-/// Adds the whole workqueue of the item with one name to the targets of the item with another, at this place. It
-/// returns nothing where a name is unknown, where there are too many flushes, or where memory ran out;
-/// `refusal_of_whole` says which it is.
-pub(crate) fn push_whole<'a, A: Allocator + Copy>(
+/// Adds a flush of this kind to those of the item with one name, at this place: of the item with another, or of its
+/// workqueue. It returns nothing where a name is unknown, where there are too many flushes, or where memory ran out;
+/// `refusal_of_one` says which it is.
+pub(crate) fn push_one<'a, A: Allocator + Copy>(
     names: &Names<'a, A>,
     waits: &mut Flushes<A>,
+    kind: Kind,
     name: Word<'a>,
     target: Word<'a>,
     place: u32,
@@ -147,7 +151,7 @@ pub(crate) fn push_whole<'a, A: Allocator + Copy>(
     requires items { length names.now ≤ 4096 }
     ensures room { IfSome result (λ _. place < 16384) }
     ensures added { IfSome result (λ _.
-        AddsWhole names.now waits.old name.entry.bytes target.entry.bytes place waits.new) }
+        AddsOne names.now waits.old kind name.entry.bytes target.entry.bytes place waits.new) }
 {
     let item = names.find(name.bytes())?;
     let other = names.find(target.bytes())?;
@@ -156,14 +160,15 @@ pub(crate) fn push_whole<'a, A: Allocator + Copy>(
     }
     let target = Target {
         item: ItemId::new(other as u16),
-        whole: true,
+        whole: kind.whole,
+        unsure: kind.unsure,
         place,
     };
     waits.push_target(item, target).ok()
 }
 
-/// Why the whole workqueue of an item wasn't added to a table with this many flushes.
-fn refusal_of_whole<'a, A: Allocator + Copy>(
+/// Why a flush with one target wasn't added to a table with this many flushes, whatever its kind is.
+fn refusal_of_one<'a, A: Allocator + Copy>(
     names: &Names<'a, A>,
     flushes: u32,
     line: u32,
@@ -171,10 +176,11 @@ fn refusal_of_whole<'a, A: Allocator + Copy>(
     target: Word<'a>,
 ) -> ItemError
     requires room { flushes ≤ 16384 }
-    ensures fault { (t : Table) → t.names ≡ names.now → flush_count t.waits ≡ flushes →
-        IsFaultOf result (flushes_declared t line true (items_named t.names (name.entry ∷ target.entry ∷ []))) }
-    ensures memory { (t : Table) → t.names ≡ names.now → flush_count t.waits ≡ flushes → result ≡ OutOfMemory →
-        IsOk (flushes_declared t line true (items_named t.names (name.entry ∷ target.entry ∷ []))) }
+    ensures fault { (t : Table) (kind : Kind) → t.names ≡ names.now → flush_count t.waits ≡ flushes →
+        IsFaultOf result (flushes_declared t line kind (items_named t.names (name.entry ∷ target.entry ∷ []))) }
+    ensures memory { (t : Table) (kind : Kind) → t.names ≡ names.now → flush_count t.waits ≡ flushes →
+        result ≡ OutOfMemory →
+        IsOk (flushes_declared t line kind (items_named t.names (name.entry ∷ target.entry ∷ []))) }
 {
     if names.find(name.bytes()).is_none() || names.find(target.bytes()).is_none() {
         return ItemError::UnknownItem { line };
@@ -195,9 +201,9 @@ fn refusal<'a, A: Allocator + Copy>(
     requires few { length targets < 2 ^ 32 }
     requires room { flushes ≤ 16384 }
     ensures fault { (t : Table) (i : ℕ) → flush_count t.waits ≡ flushes →
-        IsFaultOf result (flushes_declared t line false (and_item (Some i) (items_named names.now targets.entry))) }
+        IsFaultOf result (flushes_declared t line of_item (and_item (Some i) (items_named names.now targets.entry))) }
     ensures memory { (t : Table) (i : ℕ) → flush_count t.waits ≡ flushes → result ≡ OutOfMemory →
-        IsOk (flushes_declared t line false (and_item (Some i) (items_named names.now targets.entry))) }
+        IsOk (flushes_declared t line of_item (and_item (Some i) (items_named names.now targets.entry))) }
 {
     match count_known(names, targets) {
         None => ItemError::UnknownItem { line },
@@ -256,7 +262,20 @@ impl<'a, A: Allocator + Copy> Building<'a, A> {
         match directive {
             Directive::Item(name) => self.declare_item(line, name),
             Directive::Flush(name, targets) => self.declare_flushes(line, name, targets),
-            Directive::FlushWq(name, target) => self.declare_whole(line, name, target),
+            Directive::FlushWq(name, target) => {
+                let kind = Kind {
+                    whole: true,
+                    unsure: false,
+                };
+                self.declare_one(line, kind, name, target)
+            }
+            Directive::Unsure(name, target, whole) => {
+                let kind = Kind {
+                    whole,
+                    unsure: true,
+                };
+                self.declare_one(line, kind, name, target)
+            }
             Directive::Ordered(names) => self.declare_order(line, names),
         }
     }
@@ -298,14 +317,14 @@ impl<'a, A: Allocator + Copy> Building<'a, A> {
         targets: Words<'a>,
     ) -> Result<Self, ItemError>
         ensures table { IfOk result (λ t.
-            flushes_declared self.entry line false (items_named self.entry.names (name.entry ∷ targets.entry))
+            flushes_declared self.entry line of_item (items_named self.entry.names (name.entry ∷ targets.entry))
             ≡ Ok t) }
         ensures fault { IfErr result (λ e.
             IsFaultOf e
-            (flushes_declared self.entry line false (items_named self.entry.names (name.entry ∷ targets.entry)))) }
+            (flushes_declared self.entry line of_item (items_named self.entry.names (name.entry ∷ targets.entry)))) }
         ensures memory { IfErr result (λ e. e ≡ OutOfMemory
             → IsOk
-            (flushes_declared self.entry line false (items_named self.entry.names (name.entry ∷ targets.entry)))) }
+            (flushes_declared self.entry line of_item (items_named self.entry.names (name.entry ∷ targets.entry)))) }
         ensures grows { IfErr result (λ e. e ≡ OutOfMemory → 0 < length targets.entry) }
     {
         let Some(item) = self.names.find(name.bytes()) else {
@@ -328,18 +347,24 @@ impl<'a, A: Allocator + Copy> Building<'a, A> {
         }
     }
 
-    /// The table with a flush of the whole workqueue of an item.
-    fn declare_whole(self, line: u32, name: Word<'a>, target: Word<'a>) -> Result<Self, ItemError>
+    /// The table with a flush of this kind: of an item, or of its workqueue.
+    fn declare_one(
+        self,
+        line: u32,
+        kind: Kind,
+        name: Word<'a>,
+        target: Word<'a>,
+    ) -> Result<Self, ItemError>
         ensures table { IfOk result (λ t.
-            flushes_declared self.entry line true (items_named self.entry.names (name.entry ∷ target.entry ∷ []))
+            flushes_declared self.entry line kind (items_named self.entry.names (name.entry ∷ target.entry ∷ []))
             ≡ Ok t) }
         ensures fault { IfErr result (λ e.
             IsFaultOf e
-            (flushes_declared self.entry line true
+            (flushes_declared self.entry line kind
             (items_named self.entry.names (name.entry ∷ target.entry ∷ [])))) }
         ensures memory { IfErr result (λ e. e ≡ OutOfMemory
             → IsOk
-            (flushes_declared self.entry line true
+            (flushes_declared self.entry line kind
             (items_named self.entry.names (name.entry ∷ target.entry ∷ [])))) }
     {
         let Building {
@@ -348,14 +373,21 @@ impl<'a, A: Allocator + Copy> Building<'a, A> {
             mut waits,
             flushes,
         } = self;
-        match push_whole(&names, &mut waits, name.again(), target.again(), flushes) {
+        match push_one(
+            &names,
+            &mut waits,
+            kind,
+            name.again(),
+            target.again(),
+            flushes,
+        ) {
             Some(()) => Ok(Building {
                 names,
                 spans,
                 waits,
                 flushes: flushes + 1,
             }),
-            None => Err(refusal_of_whole(&names, flushes, line, name, target)),
+            None => Err(refusal_of_one(&names, flushes, line, name, target)),
         }
     }
 
@@ -426,6 +458,25 @@ impl<'a, A: Allocator + Copy> ItemTable<'a, A> {
         Ok(table.finish(alloc)?)
     }
 
+    /// The same items, with these targets, of which there are so many.
+    pub(crate) fn with_waits(
+        &self,
+        alloc: A,
+        waits: Waits<A>,
+        flushes: u32,
+    ) -> Result<Self, AllocError>
+        requires table { IsTable (record self.now { waits = waits }) }
+        requires count { flushes ≡ flush_count waits }
+        ensures { IfOk result (λ t. t ≡ record self.now { waits = waits }) }
+    {
+        Ok(ItemTable {
+            names: self.names.again(alloc)?,
+            spans: Vec::from_slice(alloc, self.spans.as_slice())?,
+            waits,
+            flushes,
+        })
+    }
+
     /// How many items there are, at most 4,096.
     pub fn len(&self) -> u16
         ensures len { result ≡ length self.now.names }
@@ -488,6 +539,14 @@ impl<'a, A: Allocator + Copy> ItemTable<'a, A> {
             Some(i) if self.is_named(i, name) => Some(i),
             _ => self.find(name),
         }
+    }
+
+    /// The targets of all flushes, item by item.
+    pub(crate) fn all_waits(&self) -> &[Target]
+        ensures waits { result.now ≡ flat_map (λ list. list) self.now.waits }
+        ensures table { IsTable self.now }
+    {
+        self.waits.all()
     }
 
     /// The targets of the flushes that an item below `len()` declares, in order of place.

@@ -43,12 +43,23 @@ impl Default for ItemId {
     }
 }
 
+/// What a flush is of, and whether it is sure.
+#[derive(Clone, Copy)]
+pub(crate) struct Kind {
+    /// Whether it is of a whole workqueue, and not of one item.
+    pub(crate) whole: bool,
+    /// Whether it isn't decided that it is so.
+    pub(crate) unsure: bool,
+}
+
 /// An item whose flush is declared, and how many flushes are declared before this one.
 #[derive(Clone, Copy, Debug, Default, PartialEq, Eq)]
 pub struct Target {
     pub item: ItemId,
     /// Whether the whole workqueue of the item is flushed.
     pub whole: bool,
+    /// Whether it isn't decided that this flush is so.
+    pub unsure: bool,
     /// How many flushes are declared before it, in the order of the text.
     pub place: u32,
 }

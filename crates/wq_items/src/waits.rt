@@ -4,7 +4,7 @@
 //! is compared. Making them takes time and memory in the number of items and flushes. The targets of an item are found
 //! in constant time.
 
-ghost use Rattle.std.specs.Prelude.{◌≡◌, ◌<◌, length, map, IfOk, IfErr};
+ghost use Rattle.std.specs.Prelude.{◌≡◌, ◌<◌, length, map, flat_map, IfOk, IfErr};
 ghost use Rattle.std.specs.List.{All};
 ghost use Rattle.wq_items.specs.declared.flush.Flush.{Flush};
 ghost use Rattle.wq_items.specs.Table.{targets_of};
@@ -60,6 +60,20 @@ impl<A: Allocator + Copy> Waits<A> {
         let target = |place: u32| flushes[place as usize].target;
         let targets = Pieces::sorted(alloc, flushing.as_slice(), items, &target)?;
         Ok(Waits { targets })
+    }
+
+    /// The targets in these lists, one for each item.
+    pub(crate) fn of(targets: Pieces<Target, A>) -> Self
+        ensures { result ≡ targets }
+    {
+        Waits { targets }
+    }
+
+    /// All targets, item by item.
+    pub(crate) fn all(&self) -> &[Target]
+        ensures { result.now ≡ flat_map (λ list. list) self.now }
+    {
+        self.targets.all()
     }
 
     /// The targets of an item.

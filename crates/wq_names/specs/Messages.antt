@@ -155,10 +155,25 @@ can_hang = codes "can hang: "
 abbrev pub can_hang_on_any : List ℕ
 can_hang_on_any = codes "can hang on any workqueues: "
 
+-- before such a wait by an unsure flush
+-- "can hang if this is so: "
+abbrev pub can_hang_if : List ℕ
+can_hang_if = codes "can hang if this is so: "
+
+-- the same, beside a circle of `plan`
+-- "can hang on any workqueues if this is so: "
+abbrev pub can_hang_on_any_if : List ℕ
+can_hang_on_any_if = codes "can hang on any workqueues if this is so: "
+
 -- before each further wait of a circular wait
 -- "and "
 abbrev pub and_further : List ℕ
 and_further = codes "and "
+
+-- before each further one by an unsure flush
+-- "and if this is so: "
+abbrev pub and_further_if : List ℕ
+and_further_if = codes "and if this is so: "
 
 -- a workqueue without a rescuer
 -- "{workqueue} has no rescuer"
@@ -298,10 +313,20 @@ which_is_given workqueue = workqueue ++ codes ", which is given a rescuer"
 abbrev pub without_one : List ℕ
 without_one = codes "without one: "
 
+-- the same, where the first of them is by an unsure flush
+-- "without one, if this is so: "
+abbrev pub without_one_if : List ℕ
+without_one_if = codes "without one, if this is so: "
+
 -- before the waits by which the workqueues hang where a group doesn't move
 -- "if it stayed: "
 abbrev pub if_it_stayed : List ℕ
 if_it_stayed = codes "if it stayed: "
+
+-- the same, where the first of them is by an unsure flush
+-- "if it stayed and this is so: "
+abbrev pub if_it_stayed_if : List ℕ
+if_it_stayed_if = codes "if it stayed and this is so: "
 
 -- beside the start of a repair by names
 -- "{file}: note: wherever these items move, the workqueues can hang; the run is on these:"
@@ -339,3 +364,89 @@ abbrev pub declare_who_waits : List ℕ → List ℕ
 declare_who_waits file =
     (file ++ codes ": note: where reclaim waits for one of them, declare who waits: an item of its ")
     ++ codes "own, on a `wq` line, that flushes it"
+
+-- beside `safe` of a declaration with several unsure lines
+-- "{file}: note: safe whatever the {all} unsure lines turn out to be"
+abbrev pub safe_whatever : List ℕ → List ℕ → List ℕ
+safe_whatever file all =
+    ((file ++ codes ": note: safe whatever the ") ++ all)
+    ++ codes " unsure lines turn out to be"
+
+-- the same, with one
+-- "{file}: note: safe whatever the 1 unsure line turns out to be"
+abbrev pub safe_whatever_one : List ℕ → List ℕ
+safe_whatever_one file = file ++ codes ": note: safe whatever the 1 unsure line turns out to be"
+
+-- beside `unsure 0`
+-- "{file}: note: hangs for sure: no unsure line is needed"
+abbrev pub hangs_for_sure : List ℕ → List ℕ
+hangs_for_sure file = file ++ codes ": note: hangs for sure: no unsure line is needed"
+
+-- beside an unsure part of several lines
+-- "{file}: note: {count} of these waits aren't decided. Take a line away if it isn't so, or its `?` if it is,
+-- and ask again"
+abbrev pub arent_decided : List ℕ → List ℕ → List ℕ
+arent_decided file count =
+    (((file ++ codes ": note: ") ++ count)
+    ++ codes " of these waits aren't decided. Take a line away if it isn't so, or its `?` if ")
+    ++ codes "it is, and ask again"
+
+-- the same, of one line
+-- "{file}: note: 1 of these waits isn't decided. Take a line away if it isn't so, or its `?` if it is, and ask
+-- again"
+abbrev pub isnt_decided : List ℕ → List ℕ
+isnt_decided file =
+    (file ++ codes ": note: 1 of these waits isn't decided. Take a line away if it isn't so, or its ")
+    ++ codes "`?` if it is, and ask again"
+
+-- unsure lines that `circles` leaves out
+-- "{file}: note: {count} of {all} make no difference {place}: lines {lines}"
+abbrev pub make_no_difference : List ℕ → List ℕ → List ℕ → List ℕ → List ℕ → List ℕ
+make_no_difference file count all place lines =
+    (((((((file ++ codes ": note: ") ++ count)
+    ++ codes " of ") ++ all)
+    ++ codes " make no difference ") ++ place)
+    ++ codes ": lines ") ++ lines
+
+-- the same, of one line
+-- "{file}: note: 1 of {all} makes no difference {place}: line {line}"
+abbrev pub makes_no_difference : List ℕ → List ℕ → List ℕ → List ℕ → List ℕ
+makes_no_difference file all place line =
+    (((((file ++ codes ": note: 1 of ") ++ all)
+    ++ codes " makes no difference ") ++ place)
+    ++ codes ": line ") ++ line
+
+-- how many unsure lines there are
+-- "{count} unsure lines"
+abbrev pub unsure_lines : List ℕ → List ℕ
+unsure_lines count = count ++ codes " unsure lines"
+
+-- the same, if there is one
+-- "1 unsure line"
+abbrev pub unsure_line : List ℕ
+unsure_line = codes "1 unsure line"
+
+-- where unsure lines make no difference
+-- "on these workqueues"
+abbrev pub on_these : List ℕ
+on_these = codes "on these workqueues"
+
+-- the same, where no workqueues are named
+-- "to whether there is a plan"
+abbrev pub to_a_plan : List ℕ
+to_a_plan = codes "to whether there is a plan"
+
+-- beside a plan whose chain has an unsure flush
+-- "{file}: note: {count} workqueues are needed if these are so; without unsure lines {fewer} are enough:"
+abbrev pub are_needed : List ℕ → List ℕ → List ℕ → List ℕ
+are_needed file count fewer =
+    ((((file ++ codes ": note: ") ++ count)
+    ++ codes " workqueues are needed if these are so; without unsure lines ") ++ fewer)
+    ++ codes " are enough:"
+
+-- the same, where one would be enough
+-- "{file}: note: {count} workqueues are needed if these are so; without unsure lines 1 is enough:"
+abbrev pub are_needed_not_one : List ℕ → List ℕ → List ℕ
+are_needed_not_one file count =
+    ((file ++ codes ": note: ") ++ count)
+    ++ codes " workqueues are needed if these are so; without unsure lines 1 is enough:"

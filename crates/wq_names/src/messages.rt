@@ -16,6 +16,9 @@ ghost use Rattle.wq_names.specs.Messages.{group_waits_for_behind_it, group_waits
 ghost use Rattle.wq_names.specs.Messages.{group_waits_for_all_of_its_own, is_given, moves, with_more, a_new_one};
 ghost use Rattle.wq_names.specs.Messages.{which_is_given, names_are_too_few, unknown_item, did_you_mean};
 ghost use Rattle.wq_names.specs.Messages.{item_on_workqueue, nothing_guarantees, declare_who_waits};
+ghost use Rattle.wq_names.specs.Messages.{safe_whatever, safe_whatever_one, hangs_for_sure, arent_decided};
+ghost use Rattle.wq_names.specs.Messages.{isnt_decided, make_no_difference, makes_no_difference, unsure_lines};
+ghost use Rattle.wq_names.specs.Messages.{are_needed, are_needed_not_one};
 
 use std::alloc::{AllocError, Allocator};
 use wq_text::put;
@@ -389,8 +392,17 @@ pub const CAN_HANG: &[u8] = b"can hang: ";
 /// The same, beside a circle of `plan`.
 pub const CAN_HANG_ON_ANY: &[u8] = b"can hang on any workqueues: ";
 
+/// Before such a wait by an unsure flush.
+pub const CAN_HANG_IF: &[u8] = b"can hang if this is so: ";
+
+/// The same, beside a circle of `plan`.
+pub const CAN_HANG_ON_ANY_IF: &[u8] = b"can hang on any workqueues if this is so: ";
+
 /// Before each further wait of a circular wait.
 pub const AND_FURTHER: &[u8] = b"and ";
+
+/// Before each further one by an unsure flush.
+pub const AND_FURTHER_IF: &[u8] = b"and if this is so: ";
 
 /// A workqueue without a rescuer.
 pub fn has_no_rescuer<A: Allocator + Copy>(
@@ -735,8 +747,14 @@ pub fn which_is_given<A: Allocator + Copy>(
 /// Before the waits by which the workqueues hang without a rescuer.
 pub const WITHOUT_ONE: &[u8] = b"without one: ";
 
+/// The same, where the first of them is by an unsure flush.
+pub const WITHOUT_ONE_IF: &[u8] = b"without one, if this is so: ";
+
 /// Before the waits by which the workqueues hang where a group doesn't move.
 pub const IF_IT_STAYED: &[u8] = b"if it stayed: ";
+
+/// The same, where the first of them is by an unsure flush.
+pub const IF_IT_STAYED_IF: &[u8] = b"if it stayed and this is so: ";
 
 /// Beside the start of a repair by names.
 pub fn names_are_too_few<A: Allocator + Copy>(
@@ -833,5 +851,190 @@ pub fn declare_who_waits<A: Allocator + Copy>(
         b": note: where reclaim waits for one of them, declare who waits: an item of its ",
     )?;
     put(&mut words, b"own, on a `wq` line, that flushes it")?;
+    Ok(words)
+}
+
+/// Beside `safe` of a declaration with several unsure lines.
+pub fn safe_whatever<A: Allocator + Copy>(
+    alloc: A,
+    file: &[u8],
+    all: &[u8],
+) -> Result<Vec<u8, A>, AllocError>
+    ensures { IfOk result (λ words. words.items ≡ safe_whatever file.now all.now) }
+{
+    let mut words = Vec::with_capacity(alloc, 118)?;
+    put(&mut words, file)?;
+    put(&mut words, b": note: safe whatever the ")?;
+    put(&mut words, all)?;
+    put(&mut words, b" unsure lines turn out to be")?;
+    Ok(words)
+}
+
+/// The same, with one.
+pub fn safe_whatever_one<A: Allocator + Copy>(
+    alloc: A,
+    file: &[u8],
+) -> Result<Vec<u8, A>, AllocError>
+    ensures { IfOk result (λ words. words.items ≡ safe_whatever_one file.now) }
+{
+    let mut words = Vec::with_capacity(alloc, 87)?;
+    put(&mut words, file)?;
+    put(
+        &mut words,
+        b": note: safe whatever the 1 unsure line turns out to be",
+    )?;
+    Ok(words)
+}
+
+/// Beside `unsure 0`.
+pub fn hangs_for_sure<A: Allocator + Copy>(alloc: A, file: &[u8]) -> Result<Vec<u8, A>, AllocError>
+    ensures { IfOk result (λ words. words.items ≡ hangs_for_sure file.now) }
+{
+    let mut words = Vec::with_capacity(alloc, 80)?;
+    put(&mut words, file)?;
+    put(
+        &mut words,
+        b": note: hangs for sure: no unsure line is needed",
+    )?;
+    Ok(words)
+}
+
+/// Beside an unsure part of several lines.
+pub fn arent_decided<A: Allocator + Copy>(
+    alloc: A,
+    file: &[u8],
+    count: &[u8],
+) -> Result<Vec<u8, A>, AllocError>
+    ensures { IfOk result (λ words. words.items ≡ arent_decided file.now count.now) }
+{
+    let mut words = Vec::with_capacity(alloc, 171)?;
+    put(&mut words, file)?;
+    put(&mut words, b": note: ")?;
+    put(&mut words, count)?;
+    put(
+        &mut words,
+        b" of these waits aren't decided. Take a line away if it isn't so, or its `?` if ",
+    )?;
+    put(&mut words, b"it is, and ask again")?;
+    Ok(words)
+}
+
+/// The same, of one line.
+pub fn isnt_decided<A: Allocator + Copy>(alloc: A, file: &[u8]) -> Result<Vec<u8, A>, AllocError>
+    ensures { IfOk result (λ words. words.items ≡ isnt_decided file.now) }
+{
+    let mut words = Vec::with_capacity(alloc, 139)?;
+    put(&mut words, file)?;
+    put(
+        &mut words,
+        b": note: 1 of these waits isn't decided. Take a line away if it isn't so, or its ",
+    )?;
+    put(&mut words, b"`?` if it is, and ask again")?;
+    Ok(words)
+}
+
+/// Unsure lines that `circles` leaves out.
+pub fn make_no_difference<A: Allocator + Copy>(
+    alloc: A,
+    file: &[u8],
+    count: &[u8],
+    all: &[u8],
+    place: &[u8],
+    lines: &[u8],
+) -> Result<Vec<u8, A>, AllocError>
+    ensures { IfOk result (λ words. words.items ≡ make_no_difference file.now count.now all.now place.now
+        lines.now) }
+{
+    let mut words = Vec::with_capacity(alloc, 200)?;
+    put(&mut words, file)?;
+    put(&mut words, b": note: ")?;
+    put(&mut words, count)?;
+    put(&mut words, b" of ")?;
+    put(&mut words, all)?;
+    put(&mut words, b" make no difference ")?;
+    put(&mut words, place)?;
+    put(&mut words, b": lines ")?;
+    put(&mut words, lines)?;
+    Ok(words)
+}
+
+/// The same, of one line.
+pub fn makes_no_difference<A: Allocator + Copy>(
+    alloc: A,
+    file: &[u8],
+    all: &[u8],
+    place: &[u8],
+    line: &[u8],
+) -> Result<Vec<u8, A>, AllocError>
+    ensures { IfOk result (λ words. words.items ≡ makes_no_difference file.now all.now place.now line.now) }
+{
+    let mut words = Vec::with_capacity(alloc, 169)?;
+    put(&mut words, file)?;
+    put(&mut words, b": note: 1 of ")?;
+    put(&mut words, all)?;
+    put(&mut words, b" makes no difference ")?;
+    put(&mut words, place)?;
+    put(&mut words, b": line ")?;
+    put(&mut words, line)?;
+    Ok(words)
+}
+
+/// How many unsure lines there are.
+pub fn unsure_lines<A: Allocator + Copy>(alloc: A, count: &[u8]) -> Result<Vec<u8, A>, AllocError>
+    ensures { IfOk result (λ words. words.items ≡ unsure_lines count.now) }
+{
+    let mut words = Vec::with_capacity(alloc, 45)?;
+    put(&mut words, count)?;
+    put(&mut words, b" unsure lines")?;
+    Ok(words)
+}
+
+/// The same, if there is one.
+pub const UNSURE_LINE: &[u8] = b"1 unsure line";
+
+/// Where unsure lines make no difference.
+pub const ON_THESE: &[u8] = b"on these workqueues";
+
+/// The same, where no workqueues are named.
+pub const TO_A_PLAN: &[u8] = b"to whether there is a plan";
+
+/// Beside a plan whose chain has an unsure flush.
+pub fn are_needed<A: Allocator + Copy>(
+    alloc: A,
+    file: &[u8],
+    count: &[u8],
+    fewer: &[u8],
+) -> Result<Vec<u8, A>, AllocError>
+    ensures { IfOk result (λ words. words.items ≡ are_needed file.now count.now fewer.now) }
+{
+    let mut words = Vec::with_capacity(alloc, 177)?;
+    put(&mut words, file)?;
+    put(&mut words, b": note: ")?;
+    put(&mut words, count)?;
+    put(
+        &mut words,
+        b" workqueues are needed if these are so; without unsure lines ",
+    )?;
+    put(&mut words, fewer)?;
+    put(&mut words, b" are enough:")?;
+    Ok(words)
+}
+
+/// The same, where one would be enough.
+pub fn are_needed_not_one<A: Allocator + Copy>(
+    alloc: A,
+    file: &[u8],
+    count: &[u8],
+) -> Result<Vec<u8, A>, AllocError>
+    ensures { IfOk result (λ words. words.items ≡ are_needed_not_one file.now count.now) }
+{
+    let mut words = Vec::with_capacity(alloc, 145)?;
+    put(&mut words, file)?;
+    put(&mut words, b": note: ")?;
+    put(&mut words, count)?;
+    put(
+        &mut words,
+        b" workqueues are needed if these are so; without unsure lines 1 is enough:",
+    )?;
     Ok(words)
 }

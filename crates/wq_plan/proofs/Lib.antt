@@ -1,5 +1,8 @@
 pub mod Lanes
+pub mod LeastOf
 pub mod Arcs
+pub mod Doubts
+pub mod UnsureFlushes
 pub mod Relations
 pub mod Ranked
 pub mod SafePlans

@@ -10,7 +10,7 @@ use Rattle.wq_graph.specs.Graph.{group_graph}
 use Rattle.wq_levels.specs.Walks.{IsWalkedCircle}
 use Rattle.wq_plan.specs.declared.answer.Answer.{Answer}
 use Rattle.wq_plan.specs.declared.answer.Answer.TheVariants as answer
-use Rattle.wq_plan.specs.Plan.{IsPlan, chain_of}
+use Rattle.wq_plan.specs.Plan.{IsPlan, chain_of_plan}
 
 -- the assignment is the plan, so the groups wait in no circle, no run ends stuck, and every assignment to fewer lanes
 -- deadlocks; and the chain is the plan's
@@ -18,7 +18,7 @@ pub record IsPlanned (d : Declaration) (a : Assignment) (chain : List WaitArc) :
   pub plan : IsPlan d a
   pub no_circle : ¬ HasCircle (GroupWaits d) d.groups
   pub least : IsLeast d a
-  pub longest : chain ≡ chain_of (group_graph d) a.lane_of_group
+  pub longest : chain ≡ chain_of_plan d a.lane_of_group
 
 -- the groups wait in a circle, and this is the circle of the walk; so every assignment deadlocks
 pub record IsCircled (d : Declaration) (circle : List WaitArc) : Type 0 where

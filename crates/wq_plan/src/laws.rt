@@ -12,7 +12,7 @@ ghost use Rattle.wq_graph.specs.Graph.{group_graph};
 ghost use Rattle.wq_core.specs.Wiring.{wiring};
 ghost use Rattle.wq_core.specs.Deadlock.{IsSafe, IsLeast};
 ghost use Rattle.wq_levels.specs.Walks.{IsWalkedCircle};
-ghost use Rattle.wq_plan.specs.Plan.{IsPlan, lanes_of, chain_of};
+ghost use Rattle.wq_plan.specs.Plan.{IsPlan, lanes_of, chain_of_plan};
 ghost use Rattle.wq_plan.specs.LongestChain.{IsLongestChain};
 ghost use Rattle.wq_plan.specs.CircleOfGroups.{IsCircleOfGroups};
 
@@ -67,10 +67,10 @@ pub fn no_chain_is_longer()
         IsPlan d a → IsChain (GroupWaits d) vs → All (λ g. g < d.groups) vs → length vs ≤ a.lanes }
 {}
 
-/// The chain that is printed for a plan is a longest one.
+/// The chain that is printed for a plan is a longest one, with the fewest unsure flushes.
 pub fn printed_chain_is_longest()
     ensures { (d : Declaration) (a : Assignment) →
-        IsDeclaration d → IsPlan d a → IsLongestChain d a (chain_of (group_graph d) a.lane_of_group) }
+        IsDeclaration d → IsPlan d a → IsLongestChain d a (chain_of_plan d a.lane_of_group) }
 {}
 
 /// A plan has only one such chain.

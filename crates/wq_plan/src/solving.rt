@@ -4,8 +4,10 @@
 //! Where groups wait in a circle, none of them has a rank, and the answer is the circle instead of a plan. The time is
 //! that of the graph and of the ranks.
 
-ghost use Rattle.std.specs.Prelude.{◌≡◌, ◌<◌, ◌≤◌, length, IfOk, OnErr};
-ghost use Rattle.std.specs.List.{All};
+ghost use Rattle.std.specs.Prelude.{◌≡◌, ◌<◌, ◌≤◌, length, map, IfOk, OnErr};
+ghost use Rattle.std.specs.List.{All, range_with_len};
+ghost use Rattle.wq_items.specs.Readings.{is_among, unsure_places};
+ghost use Rattle.wq_items.specs.Table.{flush_count};
 ghost use Rattle.wq_groups.specs.Declaration.{declaration_of};
 ghost use Rattle.wq_plan.specs.Solve.{Solves, PlanIsSafe, FewerDeadlock};
 
@@ -14,7 +16,7 @@ use crate::longest::{lanes_used, longest_chain};
 use std::alloc::{AllocError, Allocator};
 use wq_graph::WaitGraph;
 use wq_groups::{Assignment, Groups, LaneId};
-use wq_items::ItemTable;
+use wq_items::{ItemId, ItemTable};
 use wq_levels::{Ranked, rank};
 
 /// Numbers as lanes.
@@ -45,6 +47,28 @@ fn assign<A: Allocator + Copy>(
     Ok(Assignment::new(lanes, ids).unwrap())
 }
 
+/// For each place whether the flush there is unsure.
+fn unsure_flushes<A: Allocator + Copy>(
+    alloc: A,
+    table: &ItemTable<'_, A>,
+) -> Result<Vec<bool, A>, AllocError>
+    ensures unsure { IfOk result (λ marks. marks.items
+        ≡ map (is_among (unsure_places table.now.waits)) (range_with_len 0 (flush_count table.now.waits))) }
+    ensures memory { OnErr result (0 < length table.now.names) }
+{
+    let items = table.len();
+    let mut marks = Vec::new(alloc);
+    marks.resize(table.flushes() as usize, false)?;
+    for number in 0..items {
+        for target in table.waits(ItemId::new(number)) {
+            if target.unsure {
+                marks[target.place as usize] = true;
+            }
+        }
+    }
+    Ok(marks)
+}
+
 /// Finds the plan of the groups of a table's items, or the circle in which they
 /// wait. The groups are those of this table.
 ///
@@ -69,7 +93,8 @@ pub fn solve<A: Allocator + Copy>(
         Ranked::Circle(arcs) => return Ok(Answer::Circle { arcs }),
     };
     let lanes = lanes_used(&lane);
-    let chain = longest_chain(alloc, &graph, &lane, lanes)?;
+    let unsure = unsure_flushes(alloc, table)?;
+    let chain = longest_chain(alloc, &graph, &unsure, &lane, lanes)?;
     let assignment = assign(alloc, &lane, lanes)?;
     Ok(Answer::Plan { assignment, chain })
 }

@@ -12,12 +12,13 @@ use Rattle.wq_core.specs.declared.step.Step.{Step}
 use Rattle.wq_core.specs.Wiring.{wiring}
 use Rattle.wq_core.specs.Workqueues.{Workqueues}
 use Rattle.wq_deadlock.specs.Judging.{AreFirst, IsHang, bare_waits, leads_to_bare, rescued_graph}
+use Rattle.wq_cert.specs.Part.{has_unsure}
 use Rattle.wq_cert.specs.Texts.{cert_refusal, workqueues_of_text}
 use Rattle.wq_names.specs.Names.{names_of}
 use Rattle.wq_commands.specs.declared.end.End.TheVariants.{Bad}
 use Rattle.wq_groups.specs.DeclaredGroups.{declared_waits, Declared}
 use Rattle.wq_commands.specs.Answer.{PrintsRefusal}
-use Rattle.wq_commands.specs.Deadlocking.{JudgesAssigned, JudgesDeclared}
+use Rattle.wq_commands.specs.Deadlocking.{JudgesAssigned, JudgesDeclared, PrintsRun}
 use Rattle.wq_commands.proofs.AnswerLemmas.{IsSound, IsDeclaration-sound}
 use Rattle.wq_commands.proofs.CheckLemmas.{MatchResult-ok}
 use Rattle.wq_repair_command.specs.AssignmentText.{assignment_text}
@@ -81,9 +82,9 @@ module _ (d : Declaration) (a : Assignment) (one other : List Bool) (same : (q :
       }
 
 -- `deadlock` prints it
-pub JudgesDeclared-few : (s : Declared) → IsSound s → (old : Workqueues) (moving text out : List ℕ) → old.assignment.lanes ≤ 4096 → (few : PrintsTooFew s old moving out)
+pub JudgesDeclared-few : (s : Declared) → IsSound s → has_unsure s.table.waits ≡ false → (old : Workqueues) (moving text out : List ℕ) → old.assignment.lanes ≤ 4096 → (few : PrintsTooFew s old moving out)
     → JudgesDeclared s (assignment_text s.table.names s.partition few.start (names_of text)) Bad out
-JudgesDeclared-few s sound old moving text out within few =
+JudgesDeclared-few s sound none old moving text out within few =
     let d = declared_waits s in
     let is = IsDeclaration-sound s sound in
     let start = few.start in
@@ -94,4 +95,5 @@ JudgesDeclared-few s sound old moving text out within few =
     let hang : IsHang d (with_each start) few.steps = same-hang d start.assignment start.bare each (λ q. sym (same-bare start few.few.bare q)) few.steps few.few.hang in
     let read = workqueues_of_text-printed s.table s.partition start (names_of text) sound.table sound.partition sound.one_group_each few.few.hang.assignment lanes (shown-names_of text) in
     MatchResult-ok (workqueues_of_text s.table.names s.partition (assignment_text s.table.names s.partition start (names_of text))) (with_each start)
-    (λ ws. JudgesAssigned s ws Bad out) (λ fault. PrintsRefusal (cert_refusal fault) Bad out) read (few.steps, hang, few.text)
+    (λ ws. JudgesAssigned s ws Bad out) (λ fault. PrintsRefusal (cert_refusal fault) Bad out) read
+    (subst (λ (b : Bool). PrintsRun b s (with_each start) out) (sym none) (few.steps, hang, few.text))

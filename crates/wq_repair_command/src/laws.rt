@@ -1,12 +1,13 @@
 //! Laws about what `repair` prints, as contracts of functions with empty bodies. No code runs here: the clauses are the
 //! laws.
 
-ghost use Rattle.std.specs.Prelude.{◌≡◌, ◌≢◌, ℕ, ◌≤◌, List, [], Ok, length, map, slice_index_or};
+ghost use Rattle.std.specs.Prelude.{◌≡◌, ◌≢◌, ℕ, ◌≤◌, false, List, [], Ok, length, map, slice_index_or};
 ghost use Rattle.std.specs.List.{range_with_len};
 ghost use Rattle.wq_items.specs.Table.{Table, IsTable};
 ghost use Rattle.wq_groups.specs.Assignment.{IsAssignment};
 ghost use Rattle.wq_groups.specs.Partition.{Partition, IsPartition};
 ghost use Rattle.wq_core.specs.Workqueues.{Workqueues};
+ghost use Rattle.wq_cert.specs.Part.{has_unsure};
 ghost use Rattle.wq_cert.specs.Texts.{workqueues_of_text};
 ghost use Rattle.wq_names.specs.Names.{names_of};
 ghost use Rattle.wq_commands.specs.declared.end.End.{End};
@@ -66,11 +67,11 @@ pub fn a_printed_circle_is_checked_with_yes()
         PrintsNeededCircle s old out → ChecksYesCircle s out }
 {}
 
-/// A run that is printed is that of the start: `deadlock` prints it of the start's text, whatever text the names in
-/// this come from.
+/// A run that is printed is that of the start: if no flush is unsure, `deadlock` prints it of the start's text, whatever
+/// text the names in this come from. (Else `deadlock` prints an unsure part, and a run of its reading.)
 pub fn a_printed_run_is_that_of_the_start()
     ensures { (declared : List ℕ) (s : Declared) (old : Workqueues) (moving text out : List ℕ)
-        → declaration declared ≡ Ok s →
+        → declaration declared ≡ Ok s → has_unsure s.table.waits ≡ false →
         old.assignment.lanes ≤ 4096 → (few : PrintsTooFew s old moving out) →
         JudgesDeclared s (assignment_text s.table.names s.partition few.start (names_of text)) Bad out }
 {}

@@ -4,8 +4,7 @@ use Rattle.std.proofs.lemmas.List.{take_all, take_more, map_push}
 use Rattle.wq_diagnosis.specs.Diagnosis.{IsPlain, shown_lines}
 use Rattle.wq_diagnosis.proofs.Lines.{plain-lines}
 use Rattle.wq_hang.specs.declared.hop.Hop.{Hop}
-use Rattle.wq_names.specs.Messages.{and_further}
-use Rattle.wq_voice.specs.Reasons.{plain_head, told, AddsSaid, AreSaid, IsSaidOf}
+use Rattle.wq_voice.specs.Reasons.{and_lead, lead_for, plain_head, told, AddsSaid, AreSaid, IsSaidOf, Lead}
 
 -- lines that begin with that one say this
 pub said_of : (file what : List ℕ) (line column : ℕ) (more : List (List ℕ)) (text : List ℕ) → text ≡ shown_lines (plain_head file (line ∷ column ∷ []) what ∷ more)
@@ -46,15 +45,18 @@ AddsSaid-next {X = X} file what xs k x old middle new within is some one =
     subst (λ (whats : List (List ℕ)). AddsSaid file whats old new) (sym on) (AddsSaid-then file (map what (take k xs)) (what x ∷ []) old middle new some one)
 
 -- the block of the first wait of a walk, and then those of the further ones
-pub AddsSaid-told : (file lead : List ℕ) (words : Hop → List ℕ) (hops : List Hop) (h : Hop) (old middle new : List ℕ) → 0 < length hops → h ≡ get_or hops 0 h
-    → AddsSaid file ((lead ++ words h) ∷ []) old middle
-    → AddsSaid file (map (λ (g : Hop). and_further ++ words g) (take (length hops - 1) (drop 1 hops))) middle new
+pub AddsSaid-told : (file : List ℕ) (lead : Lead) (words : Hop → List ℕ) (hops : List Hop) (h : Hop)
+    (old middle new : List ℕ) → 0 < length hops → h ≡ get_or hops 0 h
+    → AddsSaid file ((lead_for lead h ++ words h) ∷ []) old middle
+    → AddsSaid file (map (λ (g : Hop). lead_for and_lead g ++ words g) (take (length hops - 1) (drop 1 hops)))
+    middle new
     → AddsSaid file (told lead words hops) old new
 AddsSaid-told file lead words [] h old middle new some is one more = absurd (omega (arith, some))
 AddsSaid-told file lead words (first ∷ hops) h old middle new some is one more =
-    AddsSaid-then file ((lead ++ words first) ∷ []) (map (λ (g : Hop). and_further ++ words g) hops) old middle new
-    (subst (λ (g : Hop). AddsSaid file ((lead ++ words g) ∷ []) old middle) is one)
-    (subst (λ (others : List Hop). AddsSaid file (map (λ (g : Hop). and_further ++ words g) others) middle new)
+    AddsSaid-then file ((lead_for lead first ++ words first) ∷ [])
+    (map (λ (g : Hop). lead_for and_lead g ++ words g) hops) old middle new
+    (subst (λ (g : Hop). AddsSaid file ((lead_for lead g ++ words g) ∷ []) old middle) is one)
+    (subst (λ (others : List Hop). AddsSaid file (map (λ (g : Hop). lead_for and_lead g ++ words g) others) middle new)
     (take_all (length (first ∷ hops) - 1) hops (omega arith)) more)
 
 -- all that is added to nothing is what there is

@@ -1,6 +1,8 @@
 -- What was found in a text that was read: workqueues of the declared groups, and steps.
-use Rattle.std.proofs.Common.{◌≡◌, ℕ, List, length, Ok, sym, ap, ◌∙◌}
-use Rattle.wq_cert.specs.Texts.{run_of, workqueues_of_text}
+use Rattle.std.proofs.Common.{◌≡◌, ℕ, List, length, Option, Ok, sym, ap, ◌∙◌}
+use Rattle.std.specs.Prelude.{option_map}
+use Rattle.wq_cert.specs.Part.{made_of}
+use Rattle.wq_cert.specs.Texts.{workqueues_of_text}
 use Rattle.wq_cert.proofs.LanesRead.{AreWorkqueuesOf-workqueues_of_text}
 use Rattle.wq_core.specs.declared.step.Step.{Step}
 use Rattle.wq_core.specs.Workqueues.{Workqueues}
@@ -32,17 +34,23 @@ JudgesText-read {A} s text v end out judged =
     let same : v ≡ found = (let is = finds.0 in cc) in
     read ∙ ap (λ (x : Verdict A). Ok x.workqueues) (sym same)
 
--- these are the workqueues that the run was made on, and its steps
+-- these are the workqueues that the run was made on, and what it keeps, and its steps
 pub ReplaysTexts-read : {A : Type 0} (s : Declared) (lanes text : List ℕ) (r : Replayed A) (end : End) (out : List ℕ)
     → ReplaysTexts s lanes text (Read r) end out
     → (workqueues_of_text s.table.names s.partition lanes ≡ Ok r.workqueues)
-    × (run_of s.table.names text ≡ Ok r.steps.items)
+    × (made_of s.table.names s.table.waits text
+    ≡ Ok (option_map (λ places. places.items) r.kept, r.steps.items))
 ReplaysTexts-read {A} s lanes text r end out replayed =
     let (ws, read, on) = AnswersIn-read SecondText (workqueues_of_text s.table.names s.partition lanes)
     (λ ws. ReplaysOn s ws text) r end out replayed in
-    let (steps, run, finds) = AnswersIn-read Run (run_of s.table.names text) (λ steps. FindsEnd s ws steps) r end out
-    on in
+    let (run, made_from, finds) = AnswersIn-read Run (made_of s.table.names s.table.waits text)
+    (λ run. FindsEnd s ws run.0 run.1) r end out on in
     let same : finds.replayed ≡ r = (let is = finds.is in cc) in
     let workqueues : r.workqueues ≡ ws = ap (λ (x : Replayed A). x.workqueues) (sym same) ∙ finds.workqueues in
-    let made : r.steps.items ≡ steps = ap (λ (x : Replayed A). x.steps.items) (sym same) ∙ finds.made in
-    (read ∙ ap (λ (w : Workqueues). Ok w) (sym workqueues), run ∙ ap (λ (l : List Step). Ok l) (sym made))
+    let kept : option_map (λ places. places.items) r.kept ≡ run.0 =
+    ap (λ (x : Replayed A). option_map (λ places. places.items) x.kept) (sym same) ∙ finds.keeps in
+    let made : r.steps.items ≡ run.1 = ap (λ (x : Replayed A). x.steps.items) (sym same) ∙ finds.made in (
+      read ∙ ap (λ (w : Workqueues). Ok w) (sym workqueues),
+      made_from ∙ ap (λ (k : Option (List ℕ)). Ok (k, run.1)) (sym kept)
+          ∙ ap (λ (l : List Step). Ok (option_map (λ places. places.items) r.kept, l)) (sym made),
+    )

@@ -1,5 +1,5 @@
 -- What is said where workqueues can hang: by which waits, one after another.
-use Rattle.std.specs.Prelude.{◌≡◌, ℕ, List, [], ◌∷◌, ◌++◌, Option, Some, None, MatchResult, map}
+use Rattle.std.specs.Prelude.{◌≡◌, ℕ, if◌then◌else◌, List, [], ◌∷◌, ◌++◌, Option, Some, None, MatchResult, map}
 use Rattle.wq_groups.specs.Declaration.{Declaration}
 use Rattle.wq_core.specs.declared.step.Step.{Step}
 use Rattle.wq_core.specs.Wiring.{own_lanes}
@@ -8,7 +8,8 @@ use Rattle.wq_core.specs.Deadlock.{IsSafe}
 use Rattle.wq_hang.specs.declared.hop.Hop.{Hop}
 use Rattle.wq_hang.specs.Answer.{IsHangOf}
 use Rattle.wq_cert.specs.Texts.{workqueues_of_text}
-use Rattle.wq_names.specs.Messages.{and_further, at_place, can_hang, can_hang_on_any}
+use Rattle.wq_names.specs.Messages.{and_further, and_further_if, at_place, can_hang, can_hang_if}
+use Rattle.wq_names.specs.Messages.{can_hang_on_any, can_hang_on_any_if}
 use Rattle.wq_names.specs.Names.{names_of}
 use Rattle.wq_groups.specs.DeclaredGroups.{declared_waits, Declared}
 use Rattle.wq_findings.specs.Shown.{place_text}
@@ -42,14 +43,34 @@ AddsSaid file whats old new = (added : List ℕ) × (new ≡ old ++ added) × Ar
 
 -- ---- walks
 
+-- what stands before a wait: words before a sure flush, and words before an unsure one
+abbrev pub Lead : Type 0
+Lead = List ℕ × List ℕ
+
+-- those before this wait
+abbrev pub lead_for : Lead → Hop → List ℕ
+lead_for lead h = if h.flush.unsure then lead.1 else lead.0
+
+-- before the first wait of workqueues that can hang
+abbrev pub can_hang_lead : Lead
+can_hang_lead = (can_hang, can_hang_if)
+
+-- the same of groups, on any workqueues
+abbrev pub can_hang_on_any_lead : Lead
+can_hang_on_any_lead = (can_hang_on_any, can_hang_on_any_if)
+
+-- before each further wait
+abbrev pub and_lead : Lead
+and_lead = (and_further, and_further_if)
+
 -- what is said of the waits of a walk, one after another, with this before the first one
-abbrev pub told : List ℕ → (Hop → List ℕ) → List Hop → List (List ℕ)
+abbrev pub told : Lead → (Hop → List ℕ) → List Hop → List (List ℕ)
 told lead words [] = []
-told lead words (h ∷ hops) = (lead ++ words h) ∷ map (λ (g : Hop). and_further ++ words g) hops
+told lead words (h ∷ hops) = (lead_for lead h ++ words h) ∷ map (λ (g : Hop). lead_for and_lead g ++ words g) hops
 
 -- how these workqueues hang soonest is said in this file: the waits of a walk whose run is a shortest of all that end
 -- stuck; nothing is said if no run does
-abbrev pub GivesReason : List ℕ → List ℕ → (Hop → List ℕ) → Declaration → Workqueues → Option (List ℕ) → Type 0
+abbrev pub GivesReason : List ℕ → Lead → (Hop → List ℕ) → Declaration → Workqueues → Option (List ℕ) → Type 0
 GivesReason file lead words d ws None = IsSafe (wiring_of d ws)
 GivesReason file lead words d ws (Some text) =
     (hops : List Hop) × (steps : List Step) × IsHangOf d ws hops steps × AreSaid file (told lead words hops) text
@@ -57,7 +78,7 @@ GivesReason file lead words d ws (Some text) =
 -- the same of workqueues with this text, in words of workqueues
 abbrev pub GivesReasonOn : List ℕ → List ℕ → Declared → Workqueues → Option (List ℕ) → Type 0
 GivesReasonOn first lanes s ws said =
-    GivesReason first can_hang (λ h. words_of OnWorkqueues s ws (names_of lanes) h) (declared_waits s) ws said
+    GivesReason first can_hang_lead (λ h. words_of OnWorkqueues s ws (names_of lanes) h) (declared_waits s) ws said
 
 -- the same of the workqueues with this text; nothing if it is refused
 abbrev pub GivesReasonOf : List ℕ → List ℕ → Declared → Option (List ℕ) → Type 0
@@ -69,4 +90,4 @@ GivesReasonOf first lanes s said =
 abbrev pub GivesReasonOfGroups : List ℕ → Declared → Option (List ℕ) → Type 0
 GivesReasonOfGroups first s said =
     let ws = all_rescued (own_lanes s.partition.groups) in
-    GivesReason first can_hang_on_any (λ h. words_of OfGroups s ws [] h) (declared_waits s) ws said
+    GivesReason first can_hang_on_any_lead (λ h. words_of OfGroups s ws [] h) (declared_waits s) ws said

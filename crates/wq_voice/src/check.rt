@@ -1,17 +1,22 @@
 //! What is said beside the answer of `check`: of a certificate to which it says no the diagnosis of what it lacks; and
-//! behind that of a plan with a flush that doesn't fall how the plan's workqueues can hang.
+//! behind that of a plan with a flush that doesn't fall how the plan's workqueues can hang. Of a plan whose chain
+//! follows unsure flushes, how many workqueues are enough without them.
 //!
 //! Where flushes don't fall, workqueues may be safe nevertheless, if their numbers alone are wrong. A call takes the
 //! time and the memory of the diagnosis; behind it, of reading the plan's workqueues, and of the search for a shortest
 //! run.
 
-ghost use Rattle.std.specs.Prelude.{◌≡◌, ◌++◌, [], IfOk, Some, option_map, unwrap_or};
-ghost use Rattle.wq_voice.specs.Voice.{SaysAnswer, SaysCheck, SaysLacking};
+ghost use Rattle.std.specs.Prelude.{◌≡◌, ◌++◌, [], IfOk, MatchResult, Some, option_map, unwrap_or};
+ghost use Rattle.wq_cert.specs.Texts.{answer_of};
+ghost use Rattle.wq_voice.specs.Voice.{IsCertNote, IsYesNote, NotesYes, SaysAnswer, SaysCheck, SaysLacking};
 
+use crate::chain::chain_note;
 use crate::file_names::FileNames;
 use crate::reason::of_declared;
 use crate::refused::say_refused_text;
+use crate::unsure::above;
 use std::alloc::{AllocError, Allocator};
+use wq_cert::{CertAnswer, CertError, has_unsure, read_answer};
 use wq_checker::{No, Yes};
 use wq_commands::{CheckCommand, Found, Texts, Voice};
 use wq_diagnosis::{CertificateKind, Source, of_lack, of_no_item};
@@ -56,6 +61,63 @@ fn of_lacking<'a, A: Allocator + Copy>(
     }
 }
 
+/// What is said of what this text of an answer says: of a plan how many workqueues are enough without unsure flushes.
+fn answer_note<A: Allocator + Copy>(
+    alloc: A,
+    declared: &Declaration<'_, A>,
+    file: &str,
+    text: &[u8],
+) -> Result<Vec<u8, A>, AllocError>
+    ensures { IfOk result (λ note. MatchResult (answer_of declared.now.table.names declared.now.partition text.now)
+        (λ c. IsCertNote file.now declared.now c note.items) (λ _. note.items ≡ [])) }
+{
+    match read_answer(alloc, text, &declared.table, &declared.groups) {
+        Ok(
+            CertAnswer::Plan {
+                assignment,
+                arcs,
+                ..
+            },
+        ) => {
+            let lanes = u32::from(assignment.lanes());
+            chain_note(alloc, file, declared, lanes, arcs.as_slice())
+        }
+        Ok(CertAnswer::Circle { .. }) => Ok(Vec::new(alloc)),
+        Err(CertError::OutOfMemory) => Err(AllocError),
+        Err(_) => Ok(Vec::new(alloc)),
+    }
+}
+
+/// What is said of a certificate with this text, to which the checker said yes: of a plan how many workqueues are
+/// enough without unsure flushes.
+fn yes_note<A: Allocator + Copy>(
+    alloc: A,
+    declared: &Declaration<'_, A>,
+    file: &str,
+    text: &[u8],
+) -> Result<Vec<u8, A>, AllocError>
+    ensures { IfOk result (λ note. IsYesNote file.now declared.now text.now note.items) }
+{
+    if !has_unsure(&declared.table) {
+        return Ok(Vec::new(alloc));
+    }
+    answer_note(alloc, declared, file, text)
+}
+
+/// What is said of a certificate with this text, to which the checker said yes.
+fn say_yes<A: Allocator + Copy>(
+    alloc: A,
+    declared: &Declaration<'_, A>,
+    file: &str,
+    text: &[u8],
+) -> Result<Option<Vec<u8, A>>, AllocError>
+    ensures { IfOk result (λ said. NotesYes file.now declared.now text.now (option_map (λ text. text.items) said)) }
+{
+    let said = of_no_item(alloc, declared, file)?;
+    let note = yes_note(alloc, declared, file, text)?;
+    above(note, said)
+}
+
 /// What is said beside the answer to a certificate of this declaration.
 fn say_answer<A: Allocator + Copy>(
     alloc: A,
@@ -68,7 +130,7 @@ fn say_answer<A: Allocator + Copy>(
         texts.now.second answer.now (option_map (λ text. text.items) said)) }
 {
     match answer {
-        Ok(_) => of_no_item(alloc, declared, names.declaration),
+        Ok(_) => say_yes(alloc, declared, names.declaration, texts.second()),
         Err(no) => {
             let declaration = Source {
                 file: names.declaration,

@@ -1,10 +1,12 @@
 //! What is said beside the answer of `circles`: beside components, how the workqueues of each can hang, and then by
-//! which flush to no rescuer; beside `safe`, which items are on workqueues without a rescuer.
+//! which flush to no rescuer; beside `safe`, which items are on workqueues without a rescuer; and beside both whether
+//! unsure flushes matter.
 //!
 //! The rule is that of "Reasons" in docs/FORMAT.md. A call takes the time and the memory of the words, and of a search
 //! from each item on a component.
 
-ghost use Rattle.std.specs.Prelude.{◌≡◌, ◌<◌, [], ℕ, IfOk, List, OnOk, Ok, length, map, option_map};
+ghost use Rattle.std.specs.Prelude.{◌≡◌, ◌<◌, [], ℕ, IfOk, List, OnOk, Ok, find, length, map, not, option_map};
+ghost use Rattle.wq_graph.specs.declared.arc.WaitArc.{WaitArc};
 ghost use Rattle.wq_deadlock.specs.Judging.{bare_waits};
 ghost use Rattle.wq_cert.specs.Texts.{workqueues_of_text};
 ghost use Rattle.wq_names.specs.Names.{names_of};
@@ -13,7 +15,9 @@ ghost use Rattle.wq_circles.specs.Components.{AreComponents};
 ghost use Rattle.wq_circles.specs.ComponentsText.{AreBetween};
 ghost use Rattle.wq_groups.specs.DeclaredGroups.{declared_waits};
 ghost use Rattle.wq_commands.specs.declared.end.End.{End};
-ghost use Rattle.wq_voice.specs.Components.{are_some, first_told, hop_of, is_of_whole, GivesReasons};
+ghost use Rattle.wq_voice.specs.Components.{are_some, first_of, first_told, hop_of, is_of_whole, is_unsure};
+ghost use Rattle.wq_voice.specs.Unsure.{TellsComponents, idle_place};
+ghost use Rattle.wq_names.specs.Messages.{on_these, to_a_plan};
 ghost use Rattle.wq_voice.specs.Reasons.{AddsSaid};
 ghost use Rattle.wq_voice.specs.Voice.{SaysCircles, SaysCirclesOf, SaysCircling, SaysOwnCircles};
 ghost use Rattle.wq_commands.specs.declared.found.Found.TheVariants.{Read};
@@ -22,22 +26,25 @@ ghost use Rattle.wq_voice.specs.declared.waits.Wording.TheVariants.{OfGroups, On
 
 use crate::file_names::FileNames;
 use crate::flush_lines::FlushLines;
+use crate::lead::Lead;
 use crate::refused::say_refused_text;
 use crate::rounds::put_rounds;
-use crate::safe::say_safe;
+use crate::safe::{say_safe, say_safe_groups};
 use crate::subject::{Subject, put_walk};
+use crate::unsure::of_idle;
 use crate::waits::Wording;
 use crate::was_read::assigned_of;
 use std::alloc::{AllocError, Allocator};
 use wq_circles::{CirclesCommand, Circling};
 use wq_commands::{Found, Texts, Voice};
 use wq_core::Assigned;
-use wq_diagnosis::{CertificateKind, Source, of_no_item};
+use wq_diagnosis::{CertificateKind, Source};
 use wq_graph::WaitArc;
 use wq_groups::Declaration;
 use wq_hang::{Hop, Rounds};
 use wq_items::{ItemId, ItemTable, Target};
 use wq_names::{messages, workqueue_names};
+use wq_text::put;
 
 /// Whether the flush at this place, which the item declares, is of a whole workqueue.
 fn is_of_whole<A: Allocator + Copy>(table: &ItemTable<'_, A>, item: ItemId, place: u32) -> bool
@@ -48,6 +55,17 @@ fn is_of_whole<A: Allocator + Copy>(table: &ItemTable<'_, A>, item: ItemId, plac
         .waits(item)
         .iter()
         .any(|flush| flush.place == place && flush.whole)
+}
+
+/// Whether the flush at this place, which the item declares, is unsure.
+fn is_unsure<A: Allocator + Copy>(table: &ItemTable<'_, A>, item: ItemId, place: u32) -> bool
+    requires { item < length table.now.names }
+    ensures { result ≡ is_unsure table.now.waits item place }
+{
+    table
+        .waits(item)
+        .iter()
+        .any(|flush| flush.place == place && flush.unsure)
 }
 
 /// The wait in a flush that leads to no rescuer.
@@ -61,12 +79,42 @@ fn hop_of<A: Allocator + Copy>(assigned: &Assigned<'_, '_, A>, arc: &WaitArc) ->
             item: arc.dst,
             place: arc.place,
             whole: is_of_whole(assigned.table(), arc.src, arc.place),
+            unsure: is_unsure(assigned.table(), arc.src, arc.place),
         },
         next: arc.dst,
     }
 }
 
-/// Adds what is said of the first of these flushes, which lead to no rescuer, where there is one.
+/// The first of these flushes that is sure.
+fn first_sure<A: Allocator + Copy>(
+    assigned: &Assigned<'_, '_, A>,
+    waits: &[WaitArc],
+) -> Option<WaitArc>
+    requires between { AreBetween (length assigned.now.declared.partition.group_of) waits.now }
+    ensures { result
+        ≡ find (λ (a : WaitArc). not (is_unsure assigned.now.declared.table.waits a.src a.place)) waits.now }
+{
+    for arc in waits {
+        if !is_unsure(assigned.table(), arc.src, arc.place) {
+            return Some(*arc);
+        }
+    }
+    None
+}
+
+/// Of these flushes the first that is sure, or if none is, the first.
+fn first_of<A: Allocator + Copy>(
+    assigned: &Assigned<'_, '_, A>,
+    waits: &[WaitArc],
+) -> Option<WaitArc>
+    requires between { AreBetween (length assigned.now.declared.partition.group_of) waits.now }
+    ensures { result ≡ first_of assigned.now.declared waits.now }
+{
+    first_sure(assigned, waits).or(waits.first().copied())
+}
+
+/// Adds what is said of the first of these flushes, which lead to no rescuer, where there is one: of a sure one, if
+/// there is one.
 fn put_first<A: Allocator + Copy>(
     alloc: A,
     out: &mut Vec<u8, A>,
@@ -78,16 +126,26 @@ fn put_first<A: Allocator + Copy>(
         subject.now.assigned.now.declared subject.now.assigned.now.workqueues (map (λ n. n.now) subject.now.names.now)
         h) subject.now.assigned.now.declared waits.now) out.old.items out.new.items) }
 {
-    match waits {
-        [] => Ok(()),
-        [first, ..] => {
-            let hop = hop_of(subject.assigned, first);
-            put_walk(alloc, out, subject, messages::CAN_HANG, &[hop])
+    match first_of(subject.assigned, waits) {
+        None => Ok(()),
+        Some(first) => {
+            let hop = hop_of(subject.assigned, &first);
+            put_walk(alloc, out, subject, &Lead::can_hang(), &[hop])
         }
     }
 }
 
-/// What is said of these components, and of these flushes to no rescuer.
+/// Where it is said that unsure flushes make no difference.
+fn idle_place(wording: Wording) -> &'static [u8]
+    ensures { result.now ≡ idle_place wording }
+{
+    match wording {
+        Wording::OnWorkqueues => messages::ON_THESE,
+        Wording::OfGroups => messages::TO_A_PLAN,
+    }
+}
+
+/// What is said of these components, and of these flushes to no rescuer; and which unsure flushes make no difference.
 fn of_components<A: Allocator + Copy>(
     alloc: A,
     subject: &Subject<'_, '_, '_, A>,
@@ -99,7 +157,8 @@ fn of_components<A: Allocator + Copy>(
         (map (λ l. l.items) components.now) }
     requires waits { waits.now
         ≡ bare_waits (declared_waits subject.now.assigned.now.declared) subject.now.assigned.now.workqueues }
-    ensures { IfOk result (λ said. GivesReasons subject.now.declaration.file.now (λ h. words_of subject.now.wording
+    ensures { IfOk result (λ said. TellsComponents subject.now.declaration.file.now
+        (idle_place subject.now.wording) (λ h. words_of subject.now.wording
         subject.now.assigned.now.declared subject.now.assigned.now.workqueues (map (λ n. n.now) subject.now.names.now)
         h) subject.now.assigned.now.declared subject.now.assigned.now.workqueues (map (λ l. l.items) components.now)
         waits.now said.items) }
@@ -111,6 +170,9 @@ fn of_components<A: Allocator + Copy>(
     let mut said = Vec::new(alloc);
     put_rounds(alloc, &mut said, subject, &mut rounds, components)?;
     put_first(alloc, &mut said, subject, waits)?;
+    let place = idle_place(subject.wording);
+    let note = of_idle(alloc, subject, place, components, waits)?;
+    put(&mut said, &note)?;
     Ok(said)
 }
 
@@ -128,7 +190,7 @@ fn of_read<'a, A: Allocator + Copy>(
         (map (λ l. l.items) circling.now.components.items) }
     requires waits { circling.now.waits.items ≡ bare_waits (declared_waits assigned.now.declared)
         assigned.now.workqueues }
-    ensures { IfOk result (λ said. GivesReasons declaration.entry.file.now (λ h. words_of OnWorkqueues
+    ensures { IfOk result (λ said. TellsComponents declaration.entry.file.now on_these (λ h. words_of OnWorkqueues
         assigned.now.declared assigned.now.workqueues (names_of assignment.entry.text.now) h)
         assigned.now.declared assigned.now.workqueues (map (λ l. l.items) circling.now.components.items)
         circling.now.waits.items said.items) }
@@ -157,7 +219,7 @@ fn of_own<'a, A: Allocator + Copy>(
         (map (λ l. l.items) circling.now.components.items) }
     requires waits { circling.now.waits.items ≡ bare_waits (declared_waits assigned.now.declared)
         assigned.now.workqueues }
-    ensures { IfOk result (λ said. GivesReasons declaration.entry.file.now (λ h. words_of OfGroups
+    ensures { IfOk result (λ said. TellsComponents declaration.entry.file.now to_a_plan (λ h. words_of OfGroups
         assigned.now.declared assigned.now.workqueues [] h)
         assigned.now.declared assigned.now.workqueues (map (λ l. l.items) circling.now.components.items)
         circling.now.waits.items said.items) }
@@ -238,7 +300,7 @@ fn say_own<A: Allocator + Copy>(
         (option_map (λ text. text.items) said)) }
 {
     if !are_some(&circling.components, &circling.waits) {
-        return of_no_item(alloc, assigned.declared, names.declaration);
+        return say_safe_groups(alloc, assigned.declared, names.declaration);
     }
     let declaration = Source {
         file: names.declaration,

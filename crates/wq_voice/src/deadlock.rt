@@ -1,5 +1,5 @@
 //! What is said beside the verdict of `deadlock`: beside `safe`, which items are on workqueues without a rescuer;
-//! beside a run, how the workqueues hang soonest.
+//! beside a run, how the workqueues hang soonest; and beside both whether unsure flushes matter.
 //!
 //! A call takes the time and the memory of the words and, beside a run, of the search for a shortest one.
 
@@ -10,7 +10,7 @@ ghost use Rattle.wq_commands.specs.declared.end.End.{End};
 ghost use Rattle.wq_voice.specs.Voice.{SaysVerdict, SaysVerdictOf};
 
 use crate::file_names::FileNames;
-use crate::reason::say_reason;
+use crate::reason::say_hang;
 use crate::refused::say_refused_text;
 use crate::safe::say_safe;
 use crate::was_read::assigned_of;
@@ -43,7 +43,7 @@ fn say_verdict<A: Allocator + Copy>(
                 file: names.declaration,
                 text: texts.first(),
             };
-            say_reason(alloc, declaration, assignment, assigned)
+            say_hang(alloc, declaration, assignment, assigned)
         }
         End::Good | End::Refused => { say_safe(alloc, names.declaration, assignment, assigned) }
     }

@@ -28,13 +28,16 @@ pub struct FlushLines<'a, A: Allocator> {
     line_of: Vec<u16, A>,
 }
 
+/// The first words of lines that declare flushes.
+static FLUSHES: [&[u8]; 4] = [b"flush", b"flushwq", b"flush?", b"flushwq?"];
+
 /// How many flushes a line declares: one for each name after the item's.
 fn flushes_on(line: &Line<'_>) -> usize {
     let mut words = line.words();
     let Some(first) = words.next() else {
         return 0;
     };
-    if first.bytes() != b"flush".as_slice() && first.bytes() != b"flushwq".as_slice() {
+    if !FLUSHES.contains(&first.bytes()) {
         return 0;
     }
     let mut flushes: usize = 0;
@@ -77,6 +80,14 @@ impl<'a, A: Allocator + Copy> FlushLines<'a, A> {
     fn line(&self, place: u32) -> Option<FlushLine> {
         let at = self.line_of.get(place as usize)?;
         self.lines.get(usize::from(*at)).copied()
+    }
+
+    /// The number of the line that declares the flush at this place; 0 if there is none.
+    pub(crate) fn line_no(&self, place: u32) -> u32 {
+        match self.line(place) {
+            Some(line) => line.no,
+            None => 0,
+        }
     }
 
     /// The target of the flush at this place, in its line.

@@ -10,12 +10,14 @@
 #![tactic(auto)]
 
 mod block;
+mod chain;
 mod check;
 mod circles;
 mod deadlock;
 mod file_names;
 mod flush_lines;
 mod groups;
+mod lead;
 mod note;
 mod plan;
 mod reason;
@@ -24,17 +26,20 @@ mod replay;
 mod rounds;
 mod safe;
 mod subject;
+mod unsure;
 mod waits;
 mod was_read;
 
 pub use block::said_at;
 pub use file_names::FileNames;
 pub use flush_lines::FlushLines;
+pub use lead::Lead;
 pub use reason::{of_subject, say_hops};
 pub use refused::{say_refusal, say_refused_text};
 pub use rounds::put_round;
 pub use safe::say_safe;
 pub use subject::Subject;
+pub use unsure::unsure_count;
 pub use waits::Wording;
 pub use was_read::assigned_of;
 pub use wq_diagnosis::{CertificateKind, item_words, of_no_item, workqueue_words};

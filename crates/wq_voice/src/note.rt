@@ -104,7 +104,10 @@ fn put_listed<A: Allocator + Copy>(
 }
 
 /// These, with a comma between each two.
-fn listed<A: Allocator + Copy>(alloc: A, items: &[Vec<u8, A>]) -> Result<Vec<u8, A>, AllocError>
+pub(crate) fn listed<A: Allocator + Copy>(
+    alloc: A,
+    items: &[Vec<u8, A>],
+) -> Result<Vec<u8, A>, AllocError>
     ensures { IfOk result (λ words. words.items ≡ listed (map (λ words. words.items) items.now)) }
 {
     let mut words = Vec::new(alloc);

@@ -9,14 +9,16 @@ ghost use Rattle.wq_hang.specs.Answer.{IsAnswer, IsHangOf};
 ghost use Rattle.wq_cert.specs.Texts.{workqueues_of_text};
 ghost use Rattle.wq_names.specs.Names.{names_of};
 ghost use Rattle.wq_groups.specs.DeclaredGroups.{declared_waits};
-ghost use Rattle.wq_names.specs.Messages.{can_hang};
-ghost use Rattle.wq_voice.specs.Reasons.{told, AreSaid, GivesReason, GivesReasonOf, GivesReasonOfGroups};
+ghost use Rattle.wq_voice.specs.Reasons.{can_hang_lead, told, AreSaid, GivesReason, GivesReasonOf, GivesReasonOfGroups};
 ghost use Rattle.wq_voice.specs.Reasons.{GivesReasonOn};
+ghost use Rattle.wq_voice.specs.Unsure.{GivesHang, TellsHang};
 ghost use Rattle.wq_voice.specs.Waits.{words_of};
 ghost use Rattle.wq_voice.specs.declared.waits.Wording.TheVariants.{OnWorkqueues};
 
 use crate::flush_lines::FlushLines;
+use crate::lead::Lead;
 use crate::subject::{Subject, put_walk};
+use crate::unsure::of_hang;
 use crate::waits::Wording;
 use std::alloc::{AllocError, Allocator};
 use wq_cert::CertError;
@@ -25,13 +27,14 @@ use wq_core::Assigned;
 use wq_diagnosis::Source;
 use wq_groups::Declaration;
 use wq_hang::{Answer, Hop, hang};
-use wq_names::{messages, workqueue_names};
+use wq_names::workqueue_names;
+use wq_text::put;
 
 /// What is said of the waits by which these workqueues hang.
 fn of_hops<A: Allocator + Copy>(
     alloc: A,
     subject: &Subject<'_, '_, '_, A>,
-    lead: &[u8],
+    lead: &Lead,
     hops: &[Hop],
 ) -> Result<Vec<u8, A>, AllocError>
     requires hang { (steps : List Step)
@@ -52,7 +55,7 @@ fn of_hops<A: Allocator + Copy>(
 fn of_answer<A: Allocator + Copy>(
     alloc: A,
     subject: &Subject<'_, '_, '_, A>,
-    lead: &[u8],
+    lead: &Lead,
     answer: &Answer<A>,
 ) -> Result<Option<Vec<u8, A>>, AllocError>
     requires answer { IsAnswer
@@ -77,7 +80,7 @@ fn of_answer<A: Allocator + Copy>(
 pub fn of_subject<A: Allocator + Copy>(
     alloc: A,
     subject: &Subject<'_, '_, '_, A>,
-    lead: &[u8],
+    lead: &Lead,
 ) -> Result<Option<Vec<u8, A>>, AllocError>
     ensures { IfOk result (λ said.
         GivesReason subject.now.declaration.file.now lead.now (λ h. words_of subject.now.wording
@@ -89,7 +92,7 @@ pub fn of_subject<A: Allocator + Copy>(
     of_answer(alloc, subject, lead, &answer)
 }
 
-/// How these workqueues, whose text is that one, hang by these waits.
+/// How these workqueues, whose text is that one, hang by these waits; and which of the unsure flushes matter.
 ///
 /// The only error is out of memory (20).
 pub fn say_hops<'a, A: Allocator + Copy>(
@@ -103,8 +106,9 @@ pub fn say_hops<'a, A: Allocator + Copy>(
         assignment.text.now ≡ Ok assigned.now.workqueues }
     requires hang { (steps : List Step) × IsHangOf (declared_waits assigned.now.declared) assigned.now.workqueues
         hops.now steps }
-    ensures { IfOk result (λ said. AreSaid declaration.entry.file.now (told can_hang (λ h. words_of OnWorkqueues
-        assigned.now.declared assigned.now.workqueues (names_of assignment.entry.text.now) h) hops.now) said.items) }
+    ensures { IfOk result (λ said. TellsHang declaration.entry.file.now (λ h. words_of OnWorkqueues
+        assigned.now.declared assigned.now.workqueues (names_of assignment.entry.text.now) h)
+        assigned.now.declared assigned.now.workqueues hops.now said.items) }
 {
     let names = workqueue_names(alloc, assignment.text)?;
     let flushes = FlushLines::new(alloc, declaration.text)?;
@@ -116,7 +120,32 @@ pub fn say_hops<'a, A: Allocator + Copy>(
         flushes: &flushes,
         names: &names,
     };
-    of_hops(alloc, &subject, messages::CAN_HANG, hops)
+    let mut said = of_hops(alloc, &subject, &Lead::can_hang(), hops)?;
+    let notes = of_hang(alloc, &subject, hops)?;
+    put(&mut said, &notes)?;
+    Ok(said)
+}
+
+/// How these workqueues, whose text is that one, hang soonest, and which of the unsure flushes matter; nothing where
+/// they can't hang.
+pub(crate) fn say_hang<'a, A: Allocator + Copy>(
+    alloc: A,
+    declaration: Source<'a>,
+    assignment: Source<'a>,
+    assigned: &Assigned<'_, 'a, A>,
+) -> Result<Option<Vec<u8, A>>, AllocError>
+    requires read { workqueues_of_text assigned.now.declared.table.names assigned.now.declared.partition
+        assignment.text.now ≡ Ok assigned.now.workqueues }
+    ensures { IfOk result (λ said. GivesHang declaration.entry.file.now assignment.entry.text.now
+        assigned.now.declared assigned.now.workqueues (option_map (λ text. text.items) said)) }
+{
+    match hang(alloc, assigned)? {
+        Answer::Safe => Ok(None),
+        Answer::Hang(hops, _) => {
+            let said = say_hops(alloc, declaration, assignment, assigned, &hops)?;
+            Ok(Some(said))
+        }
+    }
 }
 
 /// How these workqueues, whose text is that one, hang soonest; nothing where they can't.
@@ -141,7 +170,7 @@ pub(crate) fn say_reason<'a, A: Allocator + Copy>(
         flushes: &flushes,
         names: &names,
     };
-    of_subject(alloc, &subject, messages::CAN_HANG)
+    of_subject(alloc, &subject, &Lead::can_hang())
 }
 
 /// How the workqueues with this text hang soonest; nothing where they can't, or where it is refused.
@@ -187,5 +216,5 @@ pub(crate) fn of_groups<'a, A: Allocator + Copy>(
         flushes: &flushes,
         names: &[],
     };
-    of_subject(alloc, &subject, messages::CAN_HANG_ON_ANY)
+    of_subject(alloc, &subject, &Lead::can_hang_on_any())
 }

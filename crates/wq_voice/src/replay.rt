@@ -3,13 +3,15 @@
 //!
 //! A call takes the time and the memory of making the steps again up to that one, or of the search for a shortest run.
 
-ghost use Rattle.std.specs.Prelude.{◌≡◌, ℕ, IfOk, List, Ok, option_map};
-ghost use Rattle.wq_cert.specs.Texts.{run_of, workqueues_of_text};
+ghost use Rattle.std.specs.Prelude.{◌≡◌, ℕ, IfOk, List, Ok, Option, option_map};
+ghost use Rattle.wq_cert.specs.Texts.{workqueues_of_text};
+ghost use Rattle.wq_cert.specs.Part.{made_of};
+ghost use Rattle.wq_items.specs.declared.target.Target.{Target};
 ghost use Rattle.wq_names.specs.Names.{names_of};
 ghost use Rattle.wq_commands.specs.Commands.{ReplaysTexts};
 ghost use Rattle.wq_commands.specs.declared.end.End.{End};
 ghost use Rattle.wq_diagnosis.specs.Reasons.{SaysStep};
-ghost use Rattle.wq_voice.specs.Voice.{SaysEnd, SaysEndOf};
+ghost use Rattle.wq_voice.specs.Voice.{declared_read, SaysEnd, SaysEndOf};
 
 use crate::file_names::FileNames;
 use crate::reason::say_reason;
@@ -34,12 +36,41 @@ fn say_unlawful<A: Allocator + Copy>(
 ) -> Result<Option<Vec<u8, A>>, AllocError>
     requires read { workqueues_of_text assigned.now.declared.table.names assigned.now.declared.partition assignment.now
         ≡ Ok assigned.now.workqueues }
-    requires run { run_of assigned.now.declared.table.names run.text.now ≡ Ok steps.now }
+    requires run { (waits : List (List Target)) × (kept : Option (List ℕ))
+        × (made_of assigned.now.declared.table.names waits run.text.now ≡ Ok (kept, steps.now)) }
     ensures { IfOk result (λ said. SaysStep run.entry.file.now assigned.now.declared assigned.now.workqueues
         (names_of assignment.now) steps.now number (option_map (λ text. text.items) said)) }
 {
     let names = workqueue_names(alloc, assignment)?;
     of_unlawful(alloc, assigned, &names, steps, run, number)
+}
+
+/// The same of a run that was made in a reading, or with all flushes.
+fn say_unlawful_in_reading<A: Allocator + Copy>(
+    alloc: A,
+    assigned: &Assigned<'_, '_, A>,
+    assignment: &[u8],
+    replayed: &Replayed<A>,
+    run: Source<'_>,
+    number: u32,
+) -> Result<Option<Vec<u8, A>>, AllocError>
+    requires read { workqueues_of_text assigned.now.declared.table.names assigned.now.declared.partition assignment.now
+        ≡ Ok assigned.now.workqueues }
+    requires run { made_of assigned.now.declared.table.names assigned.now.declared.table.waits run.text.now
+        ≡ Ok (option_map (λ places. places.items) replayed.now.kept, replayed.now.steps.items) }
+    ensures { IfOk result (λ said. SaysStep run.entry.file.now
+        (declared_read assigned.now.declared (option_map (λ places. places.items) replayed.now.kept))
+        assigned.now.workqueues (names_of assignment.now) replayed.now.steps.items number
+        (option_map (λ text. text.items) said)) }
+{
+    match &replayed.kept {
+        Some(kept) => {
+            let reading = assigned.declared.reading(alloc, kept.as_slice())?;
+            let read = Assigned::new(&reading, assigned.workqueues());
+            say_unlawful(alloc, &read, assignment, &replayed.steps, run, number)
+        }
+        None => say_unlawful(alloc, assigned, assignment, &replayed.steps, run, number),
+    }
 }
 
 /// What is said of a run that was made, of workqueues whose text is the second and of steps whose text is the third.
@@ -52,9 +83,11 @@ fn say_replayed<A: Allocator + Copy>(
 ) -> Result<Option<Vec<u8, A>>, AllocError>
     requires read { workqueues_of_text assigned.now.declared.table.names assigned.now.declared.partition
         texts.now.second ≡ Ok assigned.now.workqueues }
-    requires run { run_of assigned.now.declared.table.names texts.now.third ≡ Ok replayed.now.steps.items }
+    requires run { made_of assigned.now.declared.table.names assigned.now.declared.table.waits texts.now.third
+        ≡ Ok (option_map (λ places. places.items) replayed.now.kept, replayed.now.steps.items) }
     ensures { IfOk result (λ said. SaysEnd names.now.declaration.now names.now.run.now texts.now.second
-        assigned.now.declared assigned.now.workqueues replayed.now.steps.items replayed.now.end
+        assigned.now.declared assigned.now.workqueues (option_map (λ places. places.items) replayed.now.kept)
+        replayed.now.steps.items replayed.now.end
         (option_map (λ text. text.items) said)) }
 {
     match replayed.end {
@@ -75,14 +108,7 @@ fn say_replayed<A: Allocator + Copy>(
                 file: names.run,
                 text: texts.third(),
             };
-            say_unlawful(
-                alloc,
-                assigned,
-                texts.second(),
-                &replayed.steps,
-                run,
-                number,
-            )
+            say_unlawful_in_reading(alloc, assigned, texts.second(), replayed, run, number)
         }
     }
 }

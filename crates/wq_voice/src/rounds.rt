@@ -1,4 +1,5 @@
-//! How the workqueues of each component can hang: by a round of waits on them that takes the fewest steps.
+//! How the workqueues of each component can hang: by a round of waits on them with the fewest unsure flushes, and of
+//! those with the fewest steps.
 //!
 //! The rule is that of "Reasons" in docs/FORMAT.md. A component takes the time of a search from each of its items, and
 //! that of going through its flushes and all workqueues once.
@@ -11,13 +12,13 @@ ghost use Rattle.wq_groups.specs.DeclaredGroups.{declared_waits};
 ghost use Rattle.wq_voice.specs.Components.{begins_on, lanes_of, AddsRounds};
 ghost use Rattle.wq_voice.specs.Waits.{words_of};
 
+use crate::lead::Lead;
 use crate::subject::{Subject, put_walk};
 use std::alloc::{AllocError, Allocator};
 use wq_core::Assigned;
 use wq_diagnosis::workqueue_of;
 use wq_graph::WaitArc;
 use wq_hang::Rounds;
-use wq_names::messages;
 
 /// For each workqueue whether an item of one of these flushes is on it.
 fn marks_of<A: Allocator + Copy>(
@@ -81,7 +82,7 @@ pub fn put_round<A: Allocator + Copy>(
     let _table = assigned.table();
     let lanes = lanes_of(alloc, assigned, arcs)?;
     match rounds.least_on(alloc, &lanes)? {
-        Some(hops) => put_walk(alloc, out, subject, messages::CAN_HANG, &hops),
+        Some(hops) => put_walk(alloc, out, subject, &Lead::can_hang(), &hops),
         None => Ok(()),
     }
 }

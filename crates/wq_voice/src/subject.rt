@@ -5,19 +5,18 @@
 
 ghost use Rattle.std.specs.Prelude.{◌≡◌, ◌++◌, ◌∷◌, [], ◌<◌, IfOk, OnOk, length, map};
 ghost use Rattle.std.specs.List.{All};
-ghost use Rattle.wq_names.specs.Messages.{and_further};
-ghost use Rattle.wq_voice.specs.Reasons.{told, AddsSaid, IsSaidOf};
+ghost use Rattle.wq_voice.specs.Reasons.{and_lead, lead_for, told, AddsSaid, IsSaidOf};
 ghost use Rattle.wq_voice.specs.Waits.{words_of};
 
 use crate::block::{Spot, plain_head, said_at};
 use crate::flush_lines::FlushLines;
+use crate::lead::Lead;
 use crate::waits::{Wording, bare_words, words_of};
 use std::alloc::{AllocError, Allocator};
 use wq_core::Assigned;
 use wq_deadlock::is_on_bare;
 use wq_diagnosis::{Source, workqueue_of};
 use wq_hang::Hop;
-use wq_names::messages;
 use wq_text::put;
 
 /// Workqueues of the groups of a declaration, and the texts that say so.
@@ -104,12 +103,12 @@ fn block_of<A: Allocator + Copy>(
 fn what_of<A: Allocator + Copy>(
     alloc: A,
     subject: &Subject<'_, '_, '_, A>,
-    lead: &[u8],
+    lead: &Lead,
     hop: &Hop,
 ) -> Result<Vec<u8, A>, AllocError>
     requires item { hop.now.item < length subject.now.assigned.now.declared.partition.group_of }
     requires target { hop.now.flush.item < length subject.now.assigned.now.declared.partition.group_of }
-    ensures { IfOk result (λ what. what.items ≡ lead.now ++ words_of subject.now.wording
+    ensures { IfOk result (λ what. what.items ≡ lead_for lead.now hop.now ++ words_of subject.now.wording
         subject.now.assigned.now.declared subject.now.assigned.now.workqueues (map (λ n. n.now) subject.now.names.now)
         hop.now) }
 {
@@ -121,7 +120,7 @@ fn what_of<A: Allocator + Copy>(
     } = *subject;
     let words = words_of(alloc, wording, assigned, names, hop)?;
     let mut what = Vec::new(alloc);
-    put(&mut what, lead)?;
+    put(&mut what, lead.before(hop))?;
     put(&mut what, &words)?;
     Ok(what)
 }
@@ -131,12 +130,13 @@ fn put_wait<A: Allocator + Copy>(
     alloc: A,
     out: &mut Vec<u8, A>,
     subject: &Subject<'_, '_, '_, A>,
-    lead: &[u8],
+    lead: &Lead,
     hop: &Hop,
 ) -> Result<(), AllocError>
     requires item { hop.now.item < length subject.now.assigned.now.declared.partition.group_of }
     requires target { hop.now.flush.item < length subject.now.assigned.now.declared.partition.group_of }
-    ensures { OnOk result (AddsSaid subject.now.declaration.file.now ((lead.now ++ words_of subject.now.wording
+    ensures { OnOk result (AddsSaid subject.now.declaration.file.now
+        ((lead_for lead.now hop.now ++ words_of subject.now.wording
         subject.now.assigned.now.declared subject.now.assigned.now.workqueues (map (λ n. n.now) subject.now.names.now)
         hop.now)
         ∷ []) out.old.items out.new.items) }
@@ -156,13 +156,13 @@ fn put_further<A: Allocator + Copy>(
     requires items { All (λ h. h.item < length subject.now.assigned.now.declared.partition.group_of) hops.now }
     requires targets { All (λ h. h.flush.item < length subject.now.assigned.now.declared.partition.group_of) hops.now }
     ensures { OnOk result
-        (AddsSaid subject.now.declaration.file.now (map (λ h. and_further ++ words_of subject.now.wording
+        (AddsSaid subject.now.declaration.file.now (map (λ h. lead_for and_lead h ++ words_of subject.now.wording
         subject.now.assigned.now.declared
         subject.now.assigned.now.workqueues (map (λ n. n.now) subject.now.names.now) h) hops.now) out.old.items
         out.new.items) }
 {
     for hop in hops {
-        put_wait(alloc, out, subject, messages::AND_FURTHER, hop)?;
+        put_wait(alloc, out, subject, &Lead::and_further(), hop)?;
     }
     Ok(())
 }
@@ -172,7 +172,7 @@ pub(crate) fn put_walk<A: Allocator + Copy>(
     alloc: A,
     out: &mut Vec<u8, A>,
     subject: &Subject<'_, '_, '_, A>,
-    lead: &[u8],
+    lead: &Lead,
     hops: &[Hop],
 ) -> Result<(), AllocError>
     requires items { All (λ h. h.item < length subject.now.assigned.now.declared.partition.group_of) hops.now }

@@ -11,13 +11,14 @@ use Rattle.wq_commands.specs.YesIsTrue.{YesIsTrue}
 use Rattle.wq_commands.proofs.PromiseLemmas.{KeepsPromise-answers, YesIsTrue-checks}
 use Rattle.wq_circles.specs.Circling.{AnswersCircles}
 use Rattle.wq_circles.proofs.Promised.{KeepsCircles-answers, KeepsOwnCircles-answers}
+use Rattle.wq_hang_command.proofs.Promised.{KeepsHang-hangs, KeepsVerdict-judges}
 use Rattle.wq_run.specs.declared.fault.CommandFault.{CommandFault}
 use Rattle.wqplan.specs.CommandLine.{Asked, Behind}
 use Rattle.wqplan.specs.Ended.{EndedBy, EndsAsAsked, EndsOn, has_second}
 use Rattle.wqplan.specs.Promised.{Keeps, KeepsAllCircles, PromisesAsAsked}
 use Rattle.wqplan.specs.declared.command_line.Files.{Files}
 use Rattle.wqplan.specs.declared.commands.Verb.{Verb}
-use Rattle.wqplan.specs.declared.commands.Verb.TheVariants.{Check, Circles, Plan}
+use Rattle.wqplan.specs.declared.commands.Verb.TheVariants.{Check, Circles, Deadlock, Hang, Plan}
 
 module _ (end : End) (out : List ℕ) where
   of_circles : (assigned : Bool) (texts : Given) → AnswersCircles assigned texts end out
@@ -32,6 +33,8 @@ module _ (end : End) (out : List ℕ) where
       → EndsOn verb files behind texts end out → Keeps verb files texts end out
   Keeps-ends Plan files behind texts h = KeepsPromise-answers texts.first end out h
   Keeps-ends Check files behind texts h = of_check texts.first texts.second h
+  Keeps-ends Deadlock files behind texts h = KeepsVerdict-judges texts.first texts.second end out h
+  Keeps-ends Hang files behind texts h = KeepsHang-hangs texts.first texts.second end out h
   Keeps-ends Circles files behind texts h = of_circles (has_second files) texts h
   Keeps-ends verb files behind texts h = tt
 

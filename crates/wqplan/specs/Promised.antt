@@ -4,12 +4,13 @@ use Rattle.clap.specs.Words.{Text}
 use Rattle.wq_meter.specs.Shell.{Given}
 use Rattle.wq_commands.specs.declared.end.End.{End}
 use Rattle.wq_commands.specs.declared.end.End.TheVariants.{Good}
+use Rattle.wq_commands.specs.HangPromise.{KeepsHang, KeepsVerdict}
 use Rattle.wq_commands.specs.Promise.{KeepsPromise}
 use Rattle.wq_commands.specs.YesIsTrue.{YesIsTrue}
 use Rattle.wq_circles.specs.CirclesPromise.{KeepsCircles, KeepsOwnCircles}
 use Rattle.wqplan.specs.declared.command_line.Files.{Files}
 use Rattle.wqplan.specs.declared.commands.Verb.{Verb}
-use Rattle.wqplan.specs.declared.commands.Verb.TheVariants.{Check, Circles, Plan}
+use Rattle.wqplan.specs.declared.commands.Verb.TheVariants.{Check, Circles, Deadlock, Hang, Plan}
 use Rattle.wqplan.specs.CommandLine.{Asked}
 use Rattle.wqplan.specs.Ended.{EndsOn, HasTexts, has_second}
 
@@ -18,11 +19,13 @@ abbrev pub KeepsAllCircles : Bool → Given → End → List ℕ → Type 0
 KeepsAllCircles false texts end out = KeepsOwnCircles texts.first end out
 KeepsAllCircles true texts end out = KeepsCircles texts.first texts.second end out
 
--- what an answer to these texts keeps: that of `plan` its promise; a yes of `check` is true; that of `circles` its
--- promise. What the other commands promise is how they end
+-- what an answer to these texts keeps: that of `plan` its promise; a yes of `check` is true; those of `deadlock`,
+-- `hang` and `circles` their promises. What the other commands promise is how they end
 abbrev pub Keeps : Verb → Files Text → Given → End → List ℕ → Type 0
 Keeps Plan files texts end out = KeepsPromise texts.first end out
 Keeps Check files texts end out = end ≡ Good → YesIsTrue texts.first texts.second out
+Keeps Deadlock files texts end out = KeepsVerdict texts.first texts.second end out
+Keeps Hang files texts end out = KeepsHang texts.first texts.second end out
 Keeps Circles files texts end out = KeepsAllCircles (has_second files) texts end out
 Keeps _ files texts end out = Unit {0}
 

@@ -9,7 +9,7 @@ returns g c =
     let file = c.args.assignment.file.now in
     record {
       said = said;
-      reason = c.in_ok-said.ensures;
+      reason = rw c.can_hang.ensures at c.in_ok-said.ensures;
       is =
           c.in_ok-put_said.ensures
           ∙ ap (λ (text : List ℕ). text ++ unwrap_or said [])

@@ -5,7 +5,7 @@ use Rattle.wq_groups.specs.Partition.{Partition}
 use Rattle.wq_core.specs.Assigned.{Assigned}
 use Rattle.wq_core.specs.Workqueues.{Workqueues}
 use Rattle.wq_groups.specs.DeclaredGroups.{declared_waits, Declared}
-use Rattle.wq_voice.specs.Reasons.{GivesReason}
+use Rattle.wq_voice.specs.Reasons.{GivesReason, Lead}
 use Rattle.wq_voice.specs.Waits.{words_of}
 use Rattle.wq_voice.specs.declared.waits.Wording.TheVariants.{OnWorkqueues}
 use Rattle.wq_changes.specs.Without.{lane_without, without_change}
@@ -49,10 +49,10 @@ returns g c =
       subst (λ (ws : Workqueues). GivesReason first (lead_of c.args.change.now)
           (λ h. words_of OnWorkqueues s ws names h) (declared_waits s) ws said)
           without
-          (subst (λ (lead : List ℕ). GivesReason first lead (λ h. words_of OnWorkqueues s ws names h) (declared_waits s)
+          (subst (λ (lead : Lead). GivesReason first lead (λ h. words_of OnWorkqueues s ws names h) (declared_waits s)
           ws said)
           c.lead_of.ensures
-          (subst (λ (a : Assigned). GivesReason first c.lead_of.result.now
+          (subst (λ (a : Assigned). GivesReason first c.lead_of.result
           (λ h. words_of OnWorkqueues a.declared ws names h) (declared_waits a.declared) ws said) c.old.view_is
           (rw c.new-assigned.ensures at c.in_ok-said.ensures))),
     )

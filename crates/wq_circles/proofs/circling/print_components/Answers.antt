@@ -41,5 +41,5 @@ returns g c =
     ] in (
       some,
       c.in_ok-text-2.ensures
-          ∙ ap (λ (t : Table). circles_text t.names components waits) c.table.ensures.is,
+          ∙ ap (λ (t : Table). circles_text t.names t.waits components waits) c.table.ensures.is,
     )

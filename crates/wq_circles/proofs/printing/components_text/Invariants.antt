@@ -8,5 +8,5 @@ use Rattle.wq_circles.proofs.printing.components_text.Given as goal
 abbrev pub invariant-loop-arcs : goal.invariant-loop-arcs
 invariant-loop-arcs g l =
     l.out.items ≡ line_text (count_line (codes "components") (length l.components))
-    ++ flat_map line_text (flat_map (component_lines l.table.names)
+    ++ flat_map line_text (flat_map (component_lines l.table.names l.table.waits)
     (map (λ v. v.items) (take l.arcs-index l.components)))

@@ -3,7 +3,7 @@ use Rattle.std.proofs.lemmas.Result.{IfOk-weaker}
 use Rattle.wq_groups.specs.Assignment.{item_lanes}
 use Rattle.wq_graph.specs.Graph.{group_graph}
 use Rattle.wq_cert.specs.PlanText.{plan_text}
-use Rattle.wq_plan.specs.Plan.{chain_of}
+use Rattle.wq_plan.specs.Plan.{chain_of_plan}
 use Rattle.wq_plan.specs.Solve.{IsPlanned}
 use Rattle.wq_groups.specs.DeclaredGroups.{declared_waits, Declared}
 use Rattle.wq_commands.specs.Answer.{ends_of}
@@ -34,7 +34,7 @@ pub returns : goal.returns
 returns g c =
     let s = c.args.declared.now in
     let a = c.args.assignment.now in
-    let arcs : c.deref.result.now ≡ map ends_of (chain_of (group_graph (declared_waits s)) a.lane_of_group) =
+    let arcs : c.deref.result.now ≡ map ends_of (chain_of_plan (declared_waits s) a.lane_of_group) =
     c.deref.ensures.value ∙ c.in_ok-chain.ensures ∙ ap (map ends_of) c.requires.planned.longest in
     IfOk-weaker c.plan_text.result _ _ (λ text printed. printed
     ∙ ap (λ (d : Declared). plan_text d.table.names a.lanes (item_lanes a d.partition.group_of) c.deref.result.now)

@@ -8,6 +8,7 @@ use Rattle.wq_groups.specs.DeclaredGroups.{declared_waits}
 use Rattle.wq_commands.proofs.AnswerLemmas.{IsDeclaration-sound}
 use Rattle.wq_circles.proofs.OfAssigned.{waits_between_items}
 use Rattle.wq_dot.specs.declared.look.FlushLook.{FlushLook}
+use Rattle.wq_voice.specs.Unsure.{unsure_count}
 use Rattle.wq_dot.specs.Drawing.{drawing_text}
 use Rattle.wq_dot.specs.Flushes.{all_arcs, bold_red, marked, red_look_at, red_looks_of}
 use Rattle.wq_dot.specs.Dotting.{circles_title}
@@ -95,13 +96,16 @@ returns g c =
     let looks_with : List WaitArc → List FlushLook =
     λ l. red_looks_of (flush_count t.waits) hops (all_arcs components ++ l) in
     let title_with : ℕ → List Bool → List FlushLook → List ℕ =
-    λ leading b l. circles_title hanging leading b (marked l) (bold_red l) in
+    λ leading b l. circles_title hanging leading b (marked l) (bold_red l) (unsure_count t.waits) in
     let looked =
     c.in_ok-looks.ensures ∙ ap (λ (n : ℕ). red_looks_of n hops (all_arcs components ++ waits)) count in
     let counted = c.marked-red.ensures ∙ ap marked (c.as_slice.ensures.value ∙ looked) in
     let bold = c.bold_red-bold.ensures ∙ ap bold_red (c.as_slice-2.ensures.value ∙ looked) in
+    let unsure = c.unsure_count-unsure.ensures ∙ ap (λ (x : Table). unsure_count x.waits) c.table-2.ensures.is in
     let title =
-    c.as_slice-3.ensures.value ∙ c.in_ok-title.ensures ∙ ap₂ (circles_title hanging (length waits) bare) counted bold in
+    c.as_slice-3.ensures.value ∙ c.in_ok-title.ensures
+    ∙ ap₂ (λ (red all : ℕ). circles_title hanging (length waits) bare red all c.unsure_count-unsure.result) counted bold
+    ∙ ap (circles_title hanging (length waits) bare (marked (looks_with waits)) (bold_red (looks_with waits))) unsure in
     let looks = c.as_slice-4.ensures.value ∙ looked in
     IfOk-weaker c.drawing_text.result _ _
     (λ text drawn. record {

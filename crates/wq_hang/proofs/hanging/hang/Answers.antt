@@ -1,17 +1,18 @@
 use Rattle.std.proofs.Common.{◌≡◌, ◌<◌, List, ap, ◌∙◌, sym, subst, arith}
 use Rattle.std.specs.List.{All}
 use Rattle.wq_groups.specs.DeclaredGroups.{declared_waits}
-use Rattle.wq_core.specs.Wiring.{Wiring, items}
+use Rattle.wq_core.specs.Wiring.{Wiring, IsWiring, items}
 use Rattle.wq_core.specs.Workqueues.{wiring_of}
 use Rattle.wq_core.specs.Held.{Machine}
 use Rattle.wq_core.specs.Deadlock.{IsSafe}
 use Rattle.wq_core.proofs.Results.{OnErr-holds}
 use Rattle.wq_hang.specs.declared.hop.Hop.{Hop}
-use Rattle.wq_hang.specs.Shortest.{IsShortestHang}
-use Rattle.wq_hang.specs.Walk.{IsLeastWalk, IsRoundOrFirst, run_of_walk}
+use Rattle.wq_hang.specs.Shortest.{IsFewest}
+use Rattle.wq_hang.specs.Walk.{IsLeastWalk, IsRoundOrFirst, BeginsUnsure, AreFirstAlike, ArePlacesApart, needs}
+use Rattle.wq_hang.specs.Walk.{run_of_walk}
 use Rattle.wq_hang.proofs.LeastFound.{IsSafe-no_lane, walk_items}
-use Rattle.wq_hang.proofs.Shortest.{IsShortestHang-least}
-use Rattle.wq_hang.proofs.SomeLanes.{IsWiring-assigned, same_bare}
+use Rattle.wq_hang.proofs.Fewest.{one_each, IsFewest-least}
+use Rattle.wq_hang.proofs.SomeLanes.{IsWiring-assigned, ArePlacesApart-assigned, same_bare}
 use Rattle.wq_hang.proofs.hanging.hang.Goals as goal
 
 pub returns-then-lanes-eq0-clause-answer : goal.returns-then-lanes-eq0-clause-answer
@@ -60,12 +61,20 @@ returns-in-Some-clause-answer g c =
     ∙ ap (λ (x : Wiring). run_of_walk x c.as_slice.result.now c.as_slice-in-Some.result.now) same
     ∙ ap (λ (l : List Hop). run_of_walk v l c.as_slice-in-Some.result.now) c.as_slice.ensures.value
     ∙ ap (run_of_walk v hops) c.as_slice-in-Some.ensures.value in
+    let wiring : IsWiring v = IsWiring-assigned a is in
+    let places : ArePlacesApart v = ArePlacesApart-assigned a is in
+    let begins : BeginsUnsure hops = rw c.in-Some.is at c.in_ok-hops.ensures.begins in
+    let alike : AreFirstAlike c.new-waits.result hops = rw c.in-Some.is at c.in_ok-hops.ensures.alike in
     record {
       assignment = is.assignment.assignment;
-      shortest = subst (IsShortestHang v) (sym run) (IsShortestHang-least v hops beside (IsWiring-assigned a is) least);
+      fewest = subst (IsFewest v (needs hops)) (sym run)
+          (IsFewest-least v hops beside wiring places least is.assignment.few);
+      one_each = one_each v hops beside wiring places least;
       beside = beside;
       walk = least.walk;
       first = subst (λ (x : Wiring). IsRoundOrFirst x hops beside) same chosen;
+      begins = begins;
+      alike = subst (λ (x : Wiring). AreFirstAlike x hops) same alike;
       run = run;
     }
 

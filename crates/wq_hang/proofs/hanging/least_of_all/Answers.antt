@@ -5,8 +5,8 @@ use Rattle.wq_hang.specs.Search.{ArePassed}
 use Rattle.wq_hang.proofs.LeastFound.{ArePassed-marked}
 use Rattle.wq_hang.proofs.hanging.least_of_all.Goals as goal
 
-pub least_round-requires-clause-passed : goal.least_round-requires-clause-passed
-least_round-requires-clause-passed g c =
+pub least_round_settled-requires-clause-passed : goal.least_round_settled-requires-clause-passed
+least_round_settled-requires-clause-passed g c =
     let w = c.args.waits.now in
     let marks = c.in_ok-marks.marks.items in
     let passed = c.in_ok-passed.passed.items in

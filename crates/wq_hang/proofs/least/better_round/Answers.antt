@@ -8,8 +8,12 @@ use Rattle.wq_hang.proofs.LeastFound.{IsNoBetter-still, IsNoBetter-low, IsNoBett
 use Rattle.wq_hang.proofs.LeastFound.{IsBetter-searched}
 use Rattle.wq_hang.proofs.least.better_round.Goals as goal
 
-pub returns-then-least-le3 : goal.returns-then-least-le3
-returns-then-least-le3 g c = record { some = tt; none = IsNoBetter-low c.args.waits.now c.args.first c.args.least c.if-least-le3.true }
+pub returns-then-least-own : goal.returns-then-least-own
+returns-then-least-own g c = record {
+  some = tt;
+  none = IsNoBetter-low c.args.waits.now c.args.first c.args.least
+      (omega (arith, c.if-least-own.true, c.least_hop-own.ensures));
+}
 
 pub returns-then-not-has_rescuer : goal.returns-then-not-has_rescuer
 returns-then-not-has_rescuer g c =

@@ -13,6 +13,8 @@ loop-item-init g c =
       by_each = c.in_ok-begin.ensures.by ∙ c.items.ensures.items;
       near = c.in_ok-begin.ensures.near;
       far = c.in_ok-begin.ensures.far;
+      near_unsure = c.in_ok-begin.ensures.near_unsure;
+      far_unsure = c.in_ok-begin.ensures.far_unsure;
     } in
     IsGoing-first w c.args.first limit c.items.ensures.wiring c.args.on.now c.requires.on c.begin.new.self c.expand.new.self new c.requires.rescuer c.in_ok-expand.ensures
 
@@ -47,14 +49,29 @@ loop-item-preserved g c =
 pub returns : goal.returns
 returns g c =
     let w = c.args.waits.now in
-    let all = IsSearched-all w c.args.first c.args.limit c.items.ensures.wiring c.args.on.now c.requires.on c.loop-item.search c.loop-item.invariant c.in_default.ensures.near c.in_default.ensures.far c.requires.first c.requires.rescuer in
+    let all = IsSearched-all w c.args.first c.args.limit c.items.ensures.wiring c.args.on.now c.requires.on
+    c.loop-item.search c.loop-item.invariant (omega (
+      arith,
+      c.in_default.ensures.near,
+      c.in_default.ensures.far,
+      c.in_default.ensures.near_unsure,
+      c.in_default.ensures.far_unsure,
+    )) c.requires.first c.requires.rescuer in
     subst (IsSearched w c.args.first c.args.limit) (sym c.in_default.ensures.none) all
 
-pub loop-item-preserved-then-saturating_sub-le3 : goal.loop-item-preserved-then-saturating_sub-le3
-loop-item-preserved-then-saturating_sub-le3 g c =
+pub loop-item-preserved-then-saturating_sub-least_hop : goal.loop-item-preserved-then-saturating_sub-least_hop
+loop-item-preserved-then-saturating_sub-least_hop g c =
     IsGoing-skipped c.args.waits.now c.args.first c.args.limit c.items.ensures.wiring c.args.on.now c.requires.on c.loop-item.search c.take.new.self c.in-Some.item c.loop-item.invariant c.in-Some.ensures.some
-    (omega (arith, c.cost-cost.ensures, c.saturating_sub.ensures, c.if-saturating_sub-le3.true))
+    (omega (arith, c.cost-cost.ensures, c.saturating_sub.ensures, c.if-saturating_sub-least_hop.true))
 
-pub loop-item-smaller-then-saturating_sub-le3 : goal.loop-item-smaller-then-saturating_sub-le3
-loop-item-smaller-then-saturating_sub-le3 g c =
+pub loop-item-smaller-then-saturating_sub-least_hop : goal.loop-item-smaller-then-saturating_sub-least_hop
+loop-item-smaller-then-saturating_sub-least_hop g c =
     work-skipped c.args.waits.now c.args.first c.args.limit c.items.ensures.wiring c.args.on.now c.requires.on c.loop-item.search c.take.new.self c.in-Some.item c.in-Some.ensures.some
+
+pub least_hop-requires : goal.least_hop-requires
+least_hop-requires g c =
+    let w = c.args.waits.now in
+    let s = c.loop-item.search in
+    let was = taken_was w c.args.first c.args.limit c.items.ensures.wiring c.args.on.now c.requires.on s c.take.new.self
+    c.in-Some.item c.in-Some.ensures.some in
+    (c.loop-item.invariant.reach.todo c.in-Some.item was).0

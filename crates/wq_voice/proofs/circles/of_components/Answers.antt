@@ -1,4 +1,4 @@
-use Rattle.std.proofs.Common.{◌++◌, ℕ, List, [], length, map, sym, subst}
+use Rattle.std.proofs.Common.{◌++◌, ℕ, List, [], length, map, sym, ap, subst, ◌∙◌}
 use Rattle.std.specs.Prelude.{flat_map}
 use Rattle.wq_groups.specs.Declaration.{IsDeclaration, declaration_of}
 use Rattle.wq_groups.proofs.Declarations.{IsDeclaration-of}
@@ -8,9 +8,9 @@ use Rattle.wq_circles.specs.ComponentsText.{AreBetween}
 use Rattle.wq_circles.proofs.ForBare.{AreBetween-waits}
 use Rattle.wq_circles.proofs.Loops.{AreBetween-components}
 use Rattle.wq_groups.specs.DeclaredGroups.{Declared}
-use Rattle.wq_voice.specs.Components.{first_told, AddsRounds}
-use Rattle.wq_names.specs.Messages.{can_hang}
-use Rattle.wq_voice.specs.Reasons.{told, AddsSaid}
+use Rattle.wq_voice.specs.Components.{first_told, AddsRounds, GivesReasons}
+use Rattle.wq_voice.specs.Reasons.{can_hang_lead, told, AddsSaid}
+use Rattle.wq_voice.specs.Unsure.{IsNoDifference}
 use Rattle.wq_voice.specs.Waits.{words_of}
 use Rattle.wq_voice.proofs.Blocks.{AddsSaid-then, AreSaid-added}
 use Rattle.wq_voice.proofs.circles.of_components.Goals as goal
@@ -50,15 +50,25 @@ returns g c =
     let words = λ (h : Hop). words_of subject.wording s ws (map (λ n. n.now) subject.names.now) h in
     let middle = c.put_rounds.new.out.items in
     let new = c.put_first.new.out.items in
-    let components = map (λ v. v.items) c.args.components.now in
+    let note = c.in_ok-note.note.items in
+    let components : List (List WaitArc) = map (λ v. v.items) c.args.components.now in
     let first : AddsRounds file words s ws components c.new-said.result.items middle = c.in_ok-put_rounds.ensures in
-    let begun : AddsRounds file words s ws components [] middle = subst (λ (out : List ℕ). AddsRounds file words s ws components out middle) c.new-said.ensures.items first in
+    let begun : AddsRounds file words s ws components [] middle =
+    subst (λ (out : List ℕ). AddsRounds file words s ws components out middle) c.new-said.ensures.items first in
     let waits = c.args.waits.now in
     let then : AddsSaid file (first_told words s waits) middle new = c.in_ok-put_first.ensures in
+    let gives : GivesReasons file words s ws components waits new =
     record {
       rounds = begun.0;
       least = begun.1;
-      said = AreSaid-added file (flat_map (told can_hang words) begun.0 ++ first_told words s waits) new
-          (AddsSaid-then file (flat_map (told can_hang words) begun.0) (first_told words s waits) [] middle new begun.2
-          then);
-    }
+      said = AreSaid-added file (flat_map (told can_hang_lead words) begun.0 ++ first_told words s waits) new
+          (AddsSaid-then file (flat_map (told can_hang_lead words) begun.0) (first_told words s waits) [] middle new
+          begun.2 then);
+    } in (
+      new,
+      note,
+      c.in_ok-put.ensures.added ∙ ap (λ (l : List ℕ). new ++ l) c.deref.ensures.value,
+      gives,
+      subst (λ (place : List ℕ). IsNoDifference file place s components waits note) c.idle_place-place.ensures
+          c.in_ok-note.ensures,
+    )

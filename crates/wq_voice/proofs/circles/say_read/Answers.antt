@@ -2,8 +2,9 @@ use Rattle.std.proofs.Common.{◌≡◌, Bool, true, false, List, Some, map, ref
 use Rattle.std.specs.Prelude.{IfOk, option_map}
 use Rattle.wq_graph.specs.declared.arc.WaitArc.{WaitArc}
 use Rattle.wq_names.specs.Names.{names_of}
-use Rattle.wq_voice.specs.Components.{are_some, GivesReasons}
-use Rattle.wq_voice.specs.Note.{NotesBare}
+use Rattle.wq_voice.specs.Components.{are_some}
+use Rattle.wq_names.specs.Messages.{on_these}
+use Rattle.wq_voice.specs.Unsure.{NotesSafe, TellsComponents}
 use Rattle.wq_voice.specs.Voice.{SaysIfSome}
 use Rattle.wq_voice.specs.Waits.{words_of}
 use Rattle.wq_voice.specs.declared.waits.Wording.TheVariants.{OnWorkqueues}
@@ -22,8 +23,8 @@ returns-then-not-are_some g c =
     let none : are_some components waits ≡ false =
     sym (rw (c.deref.ensures.value, c.deref-2.ensures.value) at c.are_some.ensures) ∙ c.if-not-are_some.true in
     subst (λ (b : Bool). IfOk c.say_safe.result (λ said. SaysIfSome b
-    (GivesReasons first (λ h. words_of OnWorkqueues s ws (names_of lanes) h) s ws components waits)
-    (NotesBare first second lanes s ws) (option_map (λ v. v.items) said)))
+    (TellsComponents first on_these (λ h. words_of OnWorkqueues s ws (names_of lanes) h) s ws components waits)
+    (NotesSafe first second lanes s ws) (option_map (λ v. v.items) said)))
     (sym none) (rw c.second.ensures at c.say_safe.ensures)
 
 pub returns : goal.returns
@@ -39,9 +40,10 @@ returns g c =
     let text = c.in_ok-said.said.items in
     let some : are_some components waits ≡ true =
     sym (rw (c.deref.ensures.value, c.deref-2.ensures.value) at c.are_some.ensures) ∙ c.if-not-are_some.false in
-    let gives : GivesReasons first (λ h. words_of OnWorkqueues s ws (names_of lanes) h) s ws components waits text =
+    let gives
+    : TellsComponents first on_these (λ h. words_of OnWorkqueues s ws (names_of lanes) h) s ws components waits text =
     rw c.second.ensures at c.in_ok-said.ensures in
     subst (λ (b : Bool). SaysIfSome b
-    (GivesReasons first (λ h. words_of OnWorkqueues s ws (names_of lanes) h) s ws components waits)
-    (NotesBare first second lanes s ws) (Some text))
+    (TellsComponents first on_these (λ h. words_of OnWorkqueues s ws (names_of lanes) h) s ws components waits)
+    (NotesSafe first second lanes s ws) (Some text))
     (sym some) (text, refl, gives)

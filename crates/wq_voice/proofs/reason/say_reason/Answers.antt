@@ -2,8 +2,7 @@ use Rattle.std.proofs.Common.{◌≡◌, ℕ, List, map, ap, subst, ◌∙◌}
 use Rattle.std.specs.Prelude.{IfOk, option_map}
 use Rattle.wq_names.specs.Names.{names_of}
 use Rattle.wq_groups.specs.DeclaredGroups.{declared_waits}
-use Rattle.wq_names.specs.Messages.{can_hang}
-use Rattle.wq_voice.specs.Reasons.{GivesReason}
+use Rattle.wq_voice.specs.Reasons.{can_hang_lead, GivesReason}
 use Rattle.wq_voice.specs.Waits.{words_of}
 use Rattle.wq_voice.specs.declared.waits.Wording.TheVariants.{OnWorkqueues}
 use Rattle.wq_diagnosis.proofs.ReadTexts.{limits-read}
@@ -18,6 +17,6 @@ returns g c =
     ap (λ ns. map (λ n. n.now) ns) c.deref.ensures.value
     ∙ c.in_ok-names.ensures (limits-read s.table.names s.partition text ws c.requires.read) in
     subst (λ (ns : List (List ℕ)). IfOk c.of_subject.result
-    (λ said. GivesReason c.args.declaration.file.now can_hang (λ h. words_of OnWorkqueues s ws ns h) (declared_waits s)
-    ws (option_map (λ v. v.items) said)))
-    names c.of_subject.ensures
+    (λ said. GivesReason c.args.declaration.file.now can_hang_lead (λ h. words_of OnWorkqueues s ws ns h)
+    (declared_waits s) ws (option_map (λ v. v.items) said)))
+    names (rw c.can_hang.ensures at c.of_subject.ensures)

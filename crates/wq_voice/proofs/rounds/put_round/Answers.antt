@@ -6,11 +6,10 @@ use Rattle.wq_groups.proofs.Declarations.{IsDeclaration-of}
 use Rattle.wq_core.specs.Wiring.{Wiring}
 use Rattle.wq_core.specs.Workqueues.{wiring_of}
 use Rattle.wq_hang.specs.declared.hop.Hop.{Hop}
-use Rattle.wq_hang.specs.Walk.{IsLeastRoundOn, IsRound, IsRoundOn}
+use Rattle.wq_hang.specs.Walk.{BeginsUnsure, IsLeastRoundOn, IsRound, IsRoundOn}
 use Rattle.wq_groups.specs.DeclaredGroups.{Declared}
 use Rattle.wq_voice.specs.Components.{lanes_of}
-use Rattle.wq_names.specs.Messages.{can_hang}
-use Rattle.wq_voice.specs.Reasons.{told, AddsSaid}
+use Rattle.wq_voice.specs.Reasons.{can_hang_lead, told, AddsSaid, Lead}
 use Rattle.wq_voice.specs.Waits.{words_of}
 use Rattle.wq_voice.proofs.Rounded.{AddsRounds-other, AddsRounds-some}
 use Rattle.wq_voice.proofs.Walked.{round_items, round_targets}
@@ -58,9 +57,13 @@ returns-in-Some-clause-added g c =
     let found : IsLeastRoundOn c.args.rounds.now c.deref.result.now hops = rw c.in-Some.is at c.in_ok-hops.ensures.some in
     let on : IsLeastRoundOn c.args.rounds.now (lanes_of s ws arcs) hops = subst (λ (lanes : List ℕ). IsLeastRoundOn c.args.rounds.now lanes hops) (c.deref.ensures.value ∙ c.in_ok-lanes.ensures) found in
     let least : IsLeastRoundOn (wiring_of (declaration_of s.table s.partition) ws) (lanes_of s ws arcs) hops = subst (λ (w : Wiring). IsLeastRoundOn w (lanes_of s ws arcs) hops) c.requires.rounds on in
+    let begins : BeginsUnsure hops = rw c.in-Some.is at c.in_ok-hops.ensures.begins in
     on_ok_weaker c.put_walk.result (λ said.
-    AddsRounds-some s ws file words arcs hops c.args.out.now.items c.put_walk.new.out.items least
-    (subst (λ (l : List Hop). AddsSaid file (told can_hang words l) c.args.out.now.items c.put_walk.new.out.items) c.deref-in-Some.ensures.value said)) c.put_walk.ensures
+    AddsRounds-some s ws file words arcs hops c.args.out.now.items c.put_walk.new.out.items least begins
+    (subst (λ (l : List Hop). AddsSaid file (told can_hang_lead words l) c.args.out.now.items c.put_walk.new.out.items)
+    c.deref-in-Some.ensures.value
+    (subst (λ (lead : Lead). AddsSaid file (told lead words c.deref-in-Some.result.now) c.args.out.now.items
+    c.put_walk.new.out.items) c.can_hang.ensures said))) c.put_walk.ensures
 
 pub returns-clause-added : goal.returns-clause-added
 returns-clause-added g c =

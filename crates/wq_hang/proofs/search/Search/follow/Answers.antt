@@ -9,5 +9,6 @@ pub reach_lane-requires-clause-on : goal.reach_lane-requires-clause-on
 reach_lane-requires-clause-on g c k d lt =
     let there : Contains (get_or c.args.on.now c.get-2.result []) (get_or c.places.result.now k d) = subst (λ (l : List ℕ). Contains l (get_or c.places.result.now k d)) c.places.ensures (Contains-get_or c.places.result.now k d lt) in
     let item = (c.requires.on.within c.get-2.result (get_or c.places.result.now k d) there).0 in
-    let large = AsLarge-reach true (c.args.cost + 3) c.args.self.now (hop_to c.args.item c.args.flush.now c.args.flush.now.item) in
+    let large = AsLarge-reach true (c.args.cost + c.unsure_part.result + 3) c.args.self.now
+    (hop_to c.args.item c.args.flush.now c.args.flush.now.item) in
     omega (arith, item, c.requires.one_each, ap (λ (r : Reach). length r.costs) c.in_ok-reach.ensures, large.one_each)

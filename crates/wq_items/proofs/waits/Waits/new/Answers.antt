@@ -9,7 +9,7 @@ use Rattle.wq_items.specs.declared.flush.Flush.{Flush}
 use Rattle.wq_items.proofs.waits.Waits.new.Goals as goal
 
 some : Flush
-some = record { item = 0; target = record { item = 0; whole = false; place = 0 } }
+some = record { item = 0; target = record { item = 0; whole = false; unsure = false; place = 0 } }
 
 pub sorted-requires-clause-keys : goal.sorted-requires-clause-keys
 sorted-requires-clause-keys g c =

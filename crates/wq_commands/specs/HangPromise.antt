@@ -1,0 +1,58 @@
+-- What an answer about workqueues promises, in terms of what the two texts say: of `safe`, and of a run by which they
+-- hang. With unsure flushes it is a promise about all readings.
+use Rattle.std.specs.Prelude.{◌≡◌, ℕ, ◌<◌, ◌≤◌, List, [], length, Option, Some, Result, Ok, unwrap_or}
+use Rattle.wq_groups.specs.Declaration.{Declaration}
+use Rattle.wq_groups.specs.Partition.{Partition}
+use Rattle.wq_core.specs.declared.step.Step.{Step}
+use Rattle.wq_core.specs.Deadlock.{DeadlocksBy, IsSafe}
+use Rattle.wq_core.specs.Readings.{IsSafeAnyway, reading}
+use Rattle.wq_core.specs.Wiring.{Wiring}
+use Rattle.wq_core.specs.Workqueues.{Workqueues, wiring_of}
+use Rattle.wq_hang.specs.Shortest.{IsFewest}
+use Rattle.wq_cert.specs.Part.{made_of}
+use Rattle.wq_cert.specs.Texts.{workqueues_of_text}
+use Rattle.wq_commands.specs.declared.end.End.{End}
+use Rattle.wq_commands.specs.declared.end.End.TheVariants.{Bad, Good}
+use Rattle.wq_commands.specs.DeclaredIn.{Named, declared_in}
+
+-- the groups of what is declared
+abbrev pub groups_in : Declaration → Partition
+groups_in d = record { group_of = d.group_of; groups = d.groups }
+
+-- the texts say this: the first one what is declared, and the second one on which workqueues that is
+pub record SayBoth (declared lanes : List ℕ) (s : Named) (ws : Workqueues) : Type 0 where
+  pub declares : declared_in declared ≡ Some s
+  pub assigns : workqueues_of_text s.names (groups_in s.declared) lanes ≡ Ok ws
+
+-- no run ends stuck, whatever the unsure flushes turn out to be
+abbrev pub AreSafeAnyway : List ℕ → List ℕ → Type 0
+AreSafeAnyway declared lanes =
+    (s : Named) × (ws : Workqueues) × SayBoth declared lanes s ws × IsSafeAnyway (wiring_of s.declared ws)
+
+-- the text has these steps, and says that these unsure flushes are kept; none if it has no unsure part
+abbrev pub IsRunText : Named → List ℕ → List ℕ → List Step → Type 0
+IsRunText s out kept steps =
+    (part : Option (List ℕ)) × (made_of s.names s.declared.waits out ≡ Ok (part, steps)) × (kept ≡ unwrap_or part [])
+
+-- the text has a run of the reading that keeps the unsure flushes that it says, of which this holds; and no reading
+-- that keeps fewer hangs
+pub record PrintsFewest (Holds : Wiring → List ℕ → List Step → Type 0) (declared lanes out : List ℕ) : Type 0 where
+  pub s : Named
+  pub ws : Workqueues
+  pub says : SayBoth declared lanes s ws
+  pub kept : List ℕ
+  pub steps : List Step
+  pub text : IsRunText s out kept steps
+  pub holds : Holds (wiring_of s.declared ws) kept steps
+  pub fewest : (others : List ℕ) → length others < length kept → IsSafe (reading (wiring_of s.declared ws) others)
+
+-- what `hang` promises: `safe` is printed if they are safe anyway; else a shortest run that ends stuck
+pub record KeepsHang (declared lanes : List ℕ) (end : End) (out : List ℕ) : Type 0 where
+  pub safe : end ≡ Good → AreSafeAnyway declared lanes
+  pub hang : end ≡ Bad → PrintsFewest IsFewest declared lanes out
+
+-- what `deadlock` promises: `safe` is printed if they are safe anyway; else a run that deadlocks
+pub record KeepsVerdict (declared lanes : List ℕ) (end : End) (out : List ℕ) : Type 0 where
+  pub safe : end ≡ Good → AreSafeAnyway declared lanes
+  pub deadlocks : end ≡ Bad
+      → PrintsFewest (λ w kept steps. DeadlocksBy (reading w kept) steps) declared lanes out

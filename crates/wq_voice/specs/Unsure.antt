@@ -1,0 +1,154 @@
+-- What is said of unsure flushes: whether they matter, and which make no difference.
+use Rattle.std.specs.Prelude.{◌≡◌, ◌==◌, ◌&&◌, if◌then◌else◌, ℕ, Bool, true, false, not, List, [], ◌∷◌, ◌++◌}
+use Rattle.std.specs.Prelude.{Option, Some, None}
+use Rattle.std.specs.Prelude.{length, map, filter, flat_map, decimal, unwrap_or}
+use Rattle.std.specs.List.{range_with_len}
+use Rattle.wq_items.specs.declared.target.Target.{Target}
+use Rattle.wq_items.specs.Readings.{is_among, unsure_places}
+use Rattle.wq_items.specs.Table.{flush_count}
+use Rattle.wq_core.specs.declared.step.Step.{Step}
+use Rattle.wq_core.specs.Deadlock.{IsSafe}
+use Rattle.wq_core.specs.Workqueues.{Workqueues, wiring_of}
+use Rattle.wq_graph.specs.declared.arc.WaitArc.{WaitArc}
+use Rattle.wq_deadlock.specs.Judging.{bare_waits}
+use Rattle.wq_hang.specs.declared.hop.Hop.{Hop}
+use Rattle.wq_hang.specs.Answer.{IsHangOf}
+use Rattle.wq_hang.specs.Walk.{needs}
+use Rattle.wq_circles.specs.Components.{AreComponents}
+use Rattle.wq_cert.specs.Part.{has_unsure}
+use Rattle.wq_names.specs.Messages.{arent_decided, hangs_for_sure}
+use Rattle.wq_names.specs.Messages.{isnt_decided, make_no_difference, makes_no_difference}
+use Rattle.wq_names.specs.Messages.{on_these, safe_whatever, safe_whatever_one, to_a_plan, unsure_line, unsure_lines}
+use Rattle.wq_names.specs.Names.{names_of}
+use Rattle.wq_groups.specs.DeclaredGroups.{declared_waits, Declared}
+use Rattle.wq_diagnosis.specs.Diagnosis.{shown_lines}
+use Rattle.wq_diagnosis.specs.Refused.{NotesNoItem}
+use Rattle.wq_voice.specs.Components.{GivesReasons}
+use Rattle.wq_voice.specs.Note.{NotesBare, listed}
+use Rattle.wq_voice.specs.Reasons.{AreSaid, can_hang_lead, told}
+use Rattle.wq_voice.specs.Waits.{words_of}
+use Rattle.wq_voice.specs.declared.waits.Wording.{Wording}
+use Rattle.wq_voice.specs.declared.waits.Wording.TheVariants.{OfGroups, OnWorkqueues}
+
+-- how many flushes are unsure
+abbrev pub unsure_count : List (List Target) → ℕ
+unsure_count waits = length (unsure_places waits)
+
+-- so many unsure lines, in words
+abbrev pub all_words : ℕ → List ℕ
+all_words n = if n == 1 then unsure_line else unsure_lines (decimal n)
+
+-- a note, and below it what else is said; just that if there is no note
+abbrev pub above : List ℕ → Option (List ℕ) → Option (List ℕ)
+above [] said = said
+above (byte ∷ note) said = Some ((byte ∷ note) ++ unwrap_or said [])
+
+-- ---- beside `safe`
+
+-- beside `safe`: that it is so whatever so many unsure flushes turn out to be
+abbrev pub safe_words : List ℕ → ℕ → List ℕ
+safe_words file n = if n == 1 then safe_whatever_one file else safe_whatever file (decimal n)
+
+-- the same as a line; nothing if no flush is unsure
+abbrev pub safe_note : List ℕ → Declared → List ℕ
+safe_note file s =
+    if unsure_count s.table.waits == 0 then [] else shown_lines (safe_words file (unsure_count s.table.waits) ∷ [])
+
+-- what is said beside `safe` of workqueues with this text: that note, and then which items are on workqueues without a
+-- rescuer
+abbrev pub NotesSafe : List ℕ → List ℕ → List ℕ → Declared → Workqueues → Option (List ℕ) → Type 0
+NotesSafe first second lanes s ws said =
+    (rest : Option (List ℕ)) × NotesBare first second lanes s ws rest × (said ≡ above (safe_note first s) rest)
+
+-- the same where each group has a workqueue of its own
+abbrev pub NotesSafeGroups : List ℕ → Declared → Option (List ℕ) → Type 0
+NotesSafeGroups first s said =
+    (rest : Option (List ℕ)) × NotesNoItem first s rest × (said ≡ above (safe_note first s) rest)
+
+-- ---- flushes that make no difference
+
+-- the flush at this place is unsure, and `circles` doesn't print it: it is in none of these components, and isn't among
+-- these flushes to no rescuer
+abbrev pub is_idle : List (List Target) → List (List WaitArc) → List WaitArc → ℕ → Bool
+is_idle waits components bare place =
+    is_among (unsure_places waits) place
+    && not (is_among (map (λ (a : WaitArc). a.place) (flat_map (λ arcs. arcs) components ++ bare)) place)
+
+-- the places of these flushes
+abbrev pub idle_places : List (List Target) → List (List WaitArc) → List WaitArc → List ℕ
+idle_places waits components bare = filter (is_idle waits components bare) (range_with_len 0 (flush_count waits))
+
+-- of so many unsure lines those with these numbers make no difference there; nothing if there are none
+abbrev pub no_difference_note : List ℕ → List ℕ → ℕ → List ℕ → List ℕ
+no_difference_note file place all [] = []
+no_difference_note file place all (line ∷ []) =
+    shown_lines (makes_no_difference file (all_words all) place (decimal line) ∷ [])
+no_difference_note file place all (line ∷ other ∷ more) =
+    shown_lines
+    (make_no_difference file (decimal (length (line ∷ other ∷ more))) (all_words all) place
+    (listed (map decimal (line ∷ other ∷ more)))
+    ∷ [])
+
+-- this note, of as many lines as there are unsure flushes that make no difference
+abbrev pub IsNoDifference : List ℕ → List ℕ → Declared → List (List WaitArc) → List WaitArc → List ℕ → Type 0
+IsNoDifference file place s components bare note =
+    (lines : List ℕ) × (length lines ≡ length (idle_places s.table.waits components bare))
+    × (note ≡ no_difference_note file place (unsure_count s.table.waits) lines)
+
+-- the same of these workqueues
+abbrev pub MakeNoDifference : List ℕ → Declared → Workqueues → List ℕ → Type 0
+MakeNoDifference file s ws note =
+    (components : List (List WaitArc)) × AreComponents (declared_waits s) ws components
+    × IsNoDifference file on_these s components (bare_waits (declared_waits s) ws) note
+
+-- where they make none: on these workqueues, or where none are named to whether there is a plan
+abbrev pub idle_place : Wording → List ℕ
+idle_place OnWorkqueues = on_these
+idle_place OfGroups = to_a_plan
+
+-- how the workqueues of each of these components can hang is said in this file, and then by which of the flushes to no
+-- rescuer; and behind that, which unsure flushes make no difference there
+abbrev pub TellsComponents : List ℕ → List ℕ → (Hop → List ℕ) → Declared → Workqueues → List (List WaitArc)
+    → List WaitArc → List ℕ → Type 0
+TellsComponents file place words s ws components waits text =
+    (reasons : List ℕ) × (note : List ℕ) × (text ≡ reasons ++ note)
+    × GivesReasons file words s ws components waits reasons
+    × IsNoDifference file place s components waits note
+
+-- ---- beside a run
+
+-- so many waits aren't decided
+abbrev pub undecided_words : List ℕ → ℕ → List ℕ
+undecided_words file n = if n == 1 then isnt_decided file else arent_decided file (decimal n)
+
+-- the same as a line
+abbrev pub undecided_note : List ℕ → ℕ → List ℕ
+undecided_note file n = shown_lines (undecided_words file n ∷ [])
+
+-- of a run that needs these unsure flushes: that it hangs for sure if there are none; else how many aren't decided, and
+-- which make no difference
+abbrev pub AreNotesOf : List ℕ → Declared → Workqueues → List ℕ → List ℕ → Type 0
+AreNotesOf file s ws [] notes = notes ≡ shown_lines (hangs_for_sure file ∷ [])
+AreNotesOf file s ws (place ∷ kept) notes =
+    (idle : List ℕ) × MakeNoDifference file s ws idle
+    × (notes ≡ undecided_note file (length (place ∷ kept)) ++ idle)
+
+-- the same of the waits of a run; nothing if no flush is unsure
+abbrev pub AreHangNotes : Bool → List ℕ → Declared → Workqueues → List Hop → List ℕ → Type 0
+AreHangNotes false file s ws hops notes = notes ≡ []
+AreHangNotes true file s ws hops notes = AreNotesOf file s ws (needs hops) notes
+
+-- the waits of a walk are said in this file, and behind them these notes
+abbrev pub TellsHang : List ℕ → (Hop → List ℕ) → Declared → Workqueues → List Hop → List ℕ → Type 0
+TellsHang file words s ws hops text =
+    (reason : List ℕ) × (notes : List ℕ) × (text ≡ reason ++ notes)
+    × AreSaid file (told can_hang_lead words hops) reason
+    × AreHangNotes (has_unsure s.table.waits) file s ws hops notes
+
+-- how workqueues with this text hang soonest is said in this file, and which unsure flushes matter; nothing if no run
+-- ends stuck
+abbrev pub GivesHang : List ℕ → List ℕ → Declared → Workqueues → Option (List ℕ) → Type 0
+GivesHang first lanes s ws None = IsSafe (wiring_of (declared_waits s) ws)
+GivesHang first lanes s ws (Some text) =
+    (hops : List Hop) × (steps : List Step) × IsHangOf (declared_waits s) ws hops steps
+    × TellsHang first (λ h. words_of OnWorkqueues s ws (names_of lanes) h) s ws hops text

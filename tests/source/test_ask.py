@@ -1,0 +1,342 @@
+"""`ask`: which line it asks about, what it shows, and what becomes of the declaration by each answer."""
+
+import os
+import pty
+import re
+import signal
+import stat
+import subprocess
+
+import pytest
+
+from conftest import ROOT, Ran
+
+SOURCE = """\
+static void r_log(struct work_struct *work)
+{
+	struct r *r = container_of(work, struct r, log_work);
+
+	complete(&r->logged);
+}
+
+static void r_sent(struct r *r)
+{
+	wait_for_completion(&r->logged);
+}
+
+static void r_send(struct work_struct *work)
+{
+	struct r *r = container_of(work, struct r, send_work);
+
+	r_sent(r);
+}
+
+static void r_retry(struct work_struct *work)
+{
+	struct r *r = container_of(work, struct r, retry_work);
+
+	flush_work(&r->send_work);
+	if (r->lost)
+		complete(&r->logged);
+}
+
+void r_start(struct r *r)
+{
+	r->wq = alloc_workqueue("r", WQ_MEM_RECLAIM, 0);
+	r->log_wq = alloc_workqueue("r_log", WQ_MEM_RECLAIM, 0);
+	INIT_WORK(&r->log_work, r_log);
+	INIT_WORK(&r->send_work, r_send);
+	INIT_WORK(&r->retry_work, r_retry);
+	queue_work(r->log_wq, &r->log_work);
+	queue_work(r->wq, &r->send_work);
+	queue_work(r->wq, &r->retry_work);
+}
+"""
+RETRY = "flush? r_retry r_send  # flush r.c:24 r_retry: flush_work"
+SEND = "flush? r_send r_retry  # done r.c:10 r_sent"
+LOG = "flush? r_send r_log  # done r.c:10 r_sent"
+SITE = "r.c r_sent wait_for_completion(&r->logged)"
+DEPENDS = 4
+
+
+@pytest.fixture
+def drafted_files(wqsource, tmp_path):
+    """The folder with the source, its draft and its assignment."""
+    (tmp_path / "r.c").write_text(SOURCE)
+    ran = wqsource("draft", "--tree", tmp_path, "--assign", tmp_path / "r.assign", "r.c")
+    (tmp_path / "r.wq").write_text(ran.out)
+    return tmp_path
+
+
+class Talk:
+    """`wqsource ask` at a terminal: what it writes, question by question."""
+
+    def __init__(self, words, folder, env=None):
+        self.master, slave = pty.openpty()
+        command = [str(ROOT / "source" / "wqsource"), *map(str, words)]
+        self.process = subprocess.Popen(
+            command, cwd=folder, env=env, stdin=slave, stdout=subprocess.PIPE, stderr=subprocess.PIPE, start_new_session=True
+        )
+        os.close(slave)
+
+    def wait(self):
+        """What it writes until it asks, or ends."""
+        found = b""
+        while not found.endswith(b"\n> ") and (read := os.read(self.process.stdout.fileno(), 1)):
+            found += read
+        return found.decode()
+
+    def answer(self, text):
+        os.write(self.master, text.encode() + b"\n")
+
+    def end(self):
+        """The end of the input, if it still asks; the status and what was written last."""
+        out, err = self.process.communicate(timeout=120)
+        os.close(self.master)
+        return Ran(self.process.returncode, out.decode(), err.decode())
+
+
+@pytest.fixture
+def ask(wqplan, drafted_files):
+    """ask(answers ..): all that it wrote, and its status. Behind the last answer the input ends."""
+
+    def talk(*answers, words=("ask", "r.wq", "r.assign")):
+        talking = Talk(words, drafted_files)
+        said = talking.wait()
+        for answer in answers:
+            if not said.endswith("\n> "):
+                break
+            talking.answer(answer)
+            said += talking.wait()
+        if said.endswith("\n> "):
+            os.write(talking.master, b"\x04")
+        ran = talking.end()
+        return Ran(ran.status, said + ran.out, ran.err)
+
+    return talk
+
+
+def questions(said):
+    return re.findall(r"^Question \d+: is this so\?  (.*)$", said, re.M)
+
+
+def changed(before, after):
+    """The lines that are gone, and the new ones."""
+    old, new = before.splitlines(), after.splitlines()
+    return [line for line in old if line not in new], [line for line in new if line not in old]
+
+
+def test_the_draft_has_three_unsure_lines(drafted_files):
+    lines = (drafted_files / "r.wq").read_text().splitlines()
+    assert sorted(line for line in lines if line.startswith("flush")) == sorted([RETRY, SEND, LOG])
+    assert not any(line.startswith("?") for line in lines)
+
+
+def test_without_a_terminal(wqsource, wqplan, drafted_files):
+    """The next question, a status of its own, and nothing is written."""
+    before = (drafted_files / "r.wq").read_bytes()
+    ran = wqsource("ask", "r.wq", "r.assign", cwd=drafted_files)
+    assert ran.status == DEPENDS and len(questions(ran.out)) == 1 and ran.err == ""
+    assert "\n> " not in ran.out and ran.out.endswith("It depends still: 3 lines are unsure. Ask again to go on.\n")
+    assert (drafted_files / "r.wq").read_bytes() == before
+    assert os.listdir(drafted_files).count("r.wq.new") == 0
+
+
+def test_what_a_question_shows(ask, drafted_files):
+    """The line, the hang, the way with its source lines, the lines around the wait, and what may end it."""
+    text = (drafted_files / "r.wq").read_text()
+    (drafted_files / "r.wq").write_text(text.replace(RETRY, "# no wait: r.c r_retry flush_work(&r->send_work): a test"))
+    said = ask().out
+    assert questions(said) == ["flush? r_send r_retry"]
+    number = (drafted_files / "r.wq").read_text().splitlines().index(SEND) + 1
+    assert f"  r.wq:{number}: {SEND}\n" in said
+    assert "  With this line it can hang:\n    r_send, on workqueue 1, waits for r_retry  (not sure)\n" in said
+    assert "  r.c:10 r_sent: wait_for_completion(&r->logged)\n" in said
+    assert "    the way there, from r_send:\n      r.c:17 r_send: r_sent(r);\n" in said
+    assert "    >    10     wait_for_completion(&r->logged);\n         11 }\n" in said
+    assert "      r_retry, at r.c:26 r_retry: complete(&r->logged);\n      r_log, at r.c:5 r_log: complete" in said
+    assert "\n  n WHY   it isn't so: not for r_retry\n" in said
+    assert "\n  ni WHY  r_send doesn't wait there: decides 1 unsure line more\n  s " in said
+
+
+def test_sure(ask, drafted_files):
+    """The `?` goes, nothing else changes, and the workqueues hang for sure."""
+    before = (drafted_files / "r.wq").read_text()
+    ran = ask("y")
+    gone, new = changed(before, (drafted_files / "r.wq").read_text())
+    assert gone in ([RETRY], [SEND]) and new == [gone[0].replace("flush?", "flush")]
+    assert ran.status == 1 and "hangs for sure, whatever the 2 unsure lines left turn out to be:\n" in ran.out
+    _, _, run = ran.out.partition("\nrun ")
+    assert run.splitlines()[0] == "4" and len(run.splitlines()) == 5
+    # (and it says so again)
+    assert ask().out == ran.out[ran.out.index("\nhangs for sure") :]
+
+
+def test_not_so(ask, drafted_files, wqsource):
+    """A `# no wait` line takes its place: of the item alone if others wait there, and for the target alone if the item does."""
+    before = (drafted_files / "r.wq").read_text()
+    ran = ask("n it is   never lost", "n it is never lost", "n it is never lost")
+    assert sorted(questions(ran.out)) == ["flush? r_retry r_send", "flush? r_send r_retry"]
+    gone, new = changed(before, (drafted_files / "r.wq").read_text())
+    assert sorted(gone) == sorted([RETRY, SEND])
+    assert sorted(new) == [
+        "# no wait of r_send for r_retry: " + SITE + ": it is never lost",
+        "# no wait: r.c r_retry flush_work(&r->send_work): it is never lost",
+    ]
+    assert ran.status == 0 and "safe whatever the 1 unsure line left turns out to be\n" in ran.out
+    # each of these lines is needed, and one line is still unsure
+    ran = wqsource("audit", "--decl", "r.wq", cwd=drafted_files)
+    assert ran.status == 1 and "unsure: 1 line is, from r.wq:" in ran.out
+    assert "r.wq:" not in ran.out.partition("unsure: ")[0].partition("# wqsource: r.wq")[2] and "left:" not in ran.out
+    made_sure = (drafted_files / "r.wq").read_text().replace("flush?", "flush")
+    (drafted_files / "r.wq").write_text(made_sure)
+    assert wqsource("audit", "--decl", "r.wq", "--each-item", cwd=drafted_files).status == 0
+
+
+@pytest.mark.parametrize("word", ["ni", "na"])
+def test_nobody_waits_there(ask, drafted_files, wqsource, word):
+    """All unsure lines of the site go, and one line dismisses it: no other item comes there."""
+    text = (drafted_files / "r.wq").read_text()
+    (drafted_files / "r.wq").write_text(text.replace(RETRY, "# no wait: r.c r_retry flush_work(&r->send_work): a test"))
+    before = (drafted_files / "r.wq").read_text()
+    ran = ask(f"{word} an interrupt ends it")
+    gone, new = changed(before, (drafted_files / "r.wq").read_text())
+    assert sorted(gone) == sorted([SEND, LOG]) and new == [f"# no wait: {SITE}: an interrupt ends it"]
+    assert ran.status == 0 and ran.out.endswith("\nsafe\n")
+    assert wqsource("audit", "--decl", "r.wq", cwd=drafted_files).status == 0
+
+
+@pytest.mark.parametrize("word,comments", [
+    ("ni", ["# no wait of r_retry: " + SITE + ": never"]),
+    ("na", ["# no wait: " + SITE + ": never"]),
+])
+def test_an_item_that_does_not_wait_where_others_do(ask, drafted_files, wqsource, word, comments):
+    """r_retry waits as r_send does, for r_log, itself or r_send's end."""
+    source = SOURCE.replace("\tflush_work(&r->send_work);\n", "\tr_sent(r);\n")
+    (drafted_files / "r.c").write_text(source)
+    before = wqsource("draft", "--tree", drafted_files, "r.c").out
+    (drafted_files / "r.wq").write_text(before)
+    ran = ask(f"{word} never", "q")
+    gone, new = changed(before, (drafted_files / "r.wq").read_text())
+    asked = questions(ran.out)[0].split()[1]
+    assert new == [comment.replace("r_retry", asked) for comment in comments]
+    assert len(gone) == (2 if word == "ni" else 4) and all(word == "na" or line.split()[1] == asked for line in gone)
+    audited = wqsource("audit", "--decl", "r.wq", cwd=drafted_files).out
+    assert "left:" not in audited and "says it waits at" not in audited
+
+
+def test_a_site_at_which_an_item_waits_for_sure(ask, drafted_files):
+    """Then not everybody there can be denied."""
+    text = (drafted_files / "r.wq").read_text()
+    (drafted_files / "r.wq").write_text(text.replace(LOG, LOG.replace("?", "")).replace(RETRY, ""))
+    ran = ask("ni nobody", "na nobody")
+    assert "  ni WHY" not in ran.out and "  na WHY" not in ran.out and re.search(r"^> line \d+ says for sure that an item waits there", ran.out, re.M)
+    assert ran.status == DEPENDS
+
+
+def test_later(ask, drafted_files):
+    """Another line is asked about, as long as there is one; nothing is written."""
+    before = (drafted_files / "r.wq").read_bytes()
+    ran = ask("s", "s", "s")
+    assert sorted(questions(ran.out)) == ["flush? r_retry r_send", "flush? r_send r_retry"]
+    assert ran.status == DEPENDS and (drafted_files / "r.wq").read_bytes() == before
+
+
+def test_no_more_questions(ask, drafted_files):
+    assert ask("q").status == DEPENDS
+    assert ask().status == DEPENDS
+    ran = ask("n it is never lost", "q")
+    assert ran.status == DEPENDS and "2 lines are unsure" in ran.out
+    assert "it is never lost" in (drafted_files / "r.wq").read_text()
+
+
+@pytest.mark.parametrize("answer,said", [("n", "say why"), ("na", "say why"), ("N", "y, n"), ("x", "y, n WHY, s or q"), ("", "y, n"), ("y y", "y, n")])
+def test_what_is_no_answer(ask, drafted_files, answer, said):
+    before = (drafted_files / "r.wq").read_bytes()
+    ran = ask(answer)
+    assert said in ran.out.rpartition("\n> ")[0].rpartition("> ")[2] and ran.status == DEPENDS
+    assert (drafted_files / "r.wq").read_bytes() == before
+
+
+def test_a_line_without_a_place(ask, drafted_files):
+    """No source is needed. What isn't so remains as a comment that decides nothing."""
+    (drafted_files / "r.wq").write_text("item a\nitem b\nflush? a b  # by hand\n  flush? b a\n")
+    (drafted_files / "r.assign").write_text("wq 0 a b\n")
+    ran = ask("n never", "n not either")
+    assert ran.status == 0 and ran.out.endswith("\nsafe\n")
+    assert sorted((drafted_files / "r.wq").read_text().splitlines()[2:]) == [
+        "#flush? a b  # by hand; not so: never",
+        "#flush? b a  # not so: not either",
+    ]
+
+
+def test_lines_of_the_same_words(ask, drafted_files):
+    """Each is asked about by itself."""
+    (drafted_files / "r.wq").write_text("item a\nitem b\nflush? a b  # first\nflush? a b  # second\n")
+    (drafted_files / "r.assign").write_text("wq 0 a b\n")
+    ran = ask("n never", "y")
+    assert ran.status == 1 and questions(ran.out) == ["flush? a b"] * 2
+    text = (drafted_files / "r.wq").read_text()
+    assert text == "item a\nitem b\n#flush? a b  # first; not so: never\nflush a b  # second\n"
+    (drafted_files / "r.wq").write_text("item a\nitem b\nflush? a b  # first\nflush? a b  # second\n")
+    assert questions(ask("s").out) == ["flush? a b"] * 2
+
+
+def test_lines_that_must_be_decided_before(ask, drafted_files):
+    text = (drafted_files / "r.wq").read_text()
+    (drafted_files / "r.wq").write_text(text + "? other r.c:10 r_sent: x()\n? other r.c:10 r_sent: y()\n")
+    ran = ask()
+    at = text.count("\n") + 1
+    assert ran.status == 3 and f"refused 4 line {at}: 2 lines to decide first, from line {at} on" in ran.err
+
+
+def test_without_the_program(wqsource, drafted_files):
+    ran = wqsource("ask", "r.wq", "r.assign", cwd=drafted_files, env={**os.environ, "WQPLAN": "/none/wqplan"})
+    assert ran.status == 3 and "/none/wqplan" in ran.err and ran.out == ""
+
+
+def test_an_interrupt_loses_no_answer(wqplan, drafted_files):
+    """^C at a question: what was answered before is in the declaration, which is whole."""
+    before = (drafted_files / "r.wq").read_text()
+    talking = Talk(("ask", "r.wq", "r.assign"), drafted_files)
+    assert talking.wait().endswith("\n> ")
+    talking.answer("n it is never lost")
+    assert talking.wait().endswith("\n> ")
+    os.killpg(talking.process.pid, signal.SIGINT)
+    ran = talking.end()
+    assert ran.status == -signal.SIGINT and "Traceback" not in ran.err
+    gone, new = changed(before, (drafted_files / "r.wq").read_text())
+    assert len(gone) == len(new) == 1 and new[0].endswith(": it is never lost")
+    assert not (drafted_files / "r.wq.new").exists()
+
+
+def test_a_declaration_that_somebody_changes_meanwhile(wqplan, drafted_files):
+    """Both changes are kept, if the line is still there; else the answer is told, and asked again."""
+    talking = Talk(("ask", "r.wq", "r.assign"), drafted_files)
+    line = RETRY if questions(talking.wait()) == ["flush? r_retry r_send"] else SEND
+    text = (drafted_files / "r.wq").read_text()
+    (drafted_files / "r.wq").write_text("# by another hand\n" + text)
+    talking.answer("n never")
+    said = talking.wait()
+    now = (drafted_files / "r.wq").read_text()
+    assert now.startswith("# by another hand\n") and line not in now and ": never\n" in now
+    other = SEND if line == RETRY else RETRY
+    (drafted_files / "r.wq").write_text(now.replace(other, "# taken away"))
+    talking.answer("n nor that")
+    said += talking.wait()
+    ran = talking.end()
+    assert "'n nor that' wasn't taken" in said + ran.out and ran.status == 0
+    assert "nor that" not in (drafted_files / "r.wq").read_text()
+
+
+def test_the_file_stays_what_it_was(ask, drafted_files):
+    """A link remains one, and the mode and bytes that are no UTF-8 stay."""
+    text = (drafted_files / "r.wq").read_bytes() + b"# \xff\n"
+    (drafted_files / "there.wq").write_bytes(text)
+    os.chmod(drafted_files / "there.wq", 0o640)
+    (drafted_files / "r.wq").unlink()
+    (drafted_files / "r.wq").symlink_to("there.wq")
+    assert ask("n never", "q").status == DEPENDS
+    assert (drafted_files / "r.wq").is_symlink() and stat.S_IMODE(os.stat(drafted_files / "there.wq").st_mode) == 0o640
+    now = (drafted_files / "there.wq").read_bytes()
+    assert now != text and now.endswith(b"# \xff\n")
