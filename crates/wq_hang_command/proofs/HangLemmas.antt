@@ -105,10 +105,11 @@ module _ (s : Declared) (sound : IsSound s) (ws : Workqueues) (known : IsAssignm
             | inl less ↦ absurd (not_safe-reading s ws hops steps hang (other.fewest.fewest (needs hops) less))
             | inr at_most ↦ at_most
           ] in
+          let kept = AreKeptPlaces-needs s ws more soonest other in
           omega (
             arith,
             hang.fewest.soonest (needs more) enough 0 (omega arith) made (reads.run, reads.stuck),
-            length-reading s sound ws known made (needs more) (AreKeptPlaces-needs s ws more soonest other) is.deadlocks,
+            length-reading s sound ws known made (needs more) kept is.deadlocks,
           )
 
       few : (end : End) (out : List ℕ) → JudgesAssigned s ws end out → length steps ≤ 45056

@@ -108,8 +108,8 @@ module _ (Holds : Wiring → List ℕ → List Step → Type 0) (declared lanes 
         → KeepsBoth Holds declared lanes end out
     by_lanes s is sound (Ok ws) read h =
         each s is sound ws read
-        (AreWorkqueuesOf-workqueues_of_text s.table.names s.partition sound.partition (sym sound.one_group_each) lanes ws
-        read) end h
+        (AreWorkqueuesOf-workqueues_of_text s.table.names s.partition sound.partition (sym sound.one_group_each) lanes
+        ws read) end h
     by_lanes s is sound (Err fault) read h = refused end (cert_refusal fault) h
 
     by_texts : (r : Result Declared Refusal) → declaration declared ≡ r → ((s : Declared) → r ≡ Ok s → IsSound s)

@@ -82,7 +82,9 @@ module _ (d : Declaration) (a : Assignment) (one other : List Bool) (same : (q :
       }
 
 -- `deadlock` prints it
-pub JudgesDeclared-few : (s : Declared) → IsSound s → has_unsure s.table.waits ≡ false → (old : Workqueues) (moving text out : List ℕ) → old.assignment.lanes ≤ 4096 → (few : PrintsTooFew s old moving out)
+pub JudgesDeclared-few : (s : Declared) → IsSound s → has_unsure s.table.waits ≡ false
+    → (old : Workqueues) (moving text out : List ℕ) → old.assignment.lanes ≤ 4096
+    → (few : PrintsTooFew s old moving out)
     → JudgesDeclared s (assignment_text s.table.names s.partition few.start (names_of text)) Bad out
 JudgesDeclared-few s sound none old moving text out within few =
     let d = declared_waits s in

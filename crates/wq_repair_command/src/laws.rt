@@ -67,8 +67,8 @@ pub fn a_printed_circle_is_checked_with_yes()
         PrintsNeededCircle s old out → ChecksYesCircle s out }
 {}
 
-/// A run that is printed is that of the start: if no flush is unsure, `deadlock` prints it of the start's text, whatever
-/// text the names in this come from. (Else `deadlock` prints an unsure part, and a run of its reading.)
+/// A run that is printed is that of the start: if no flush is unsure, `deadlock` prints it of the start's text,
+/// whatever text its names come from. (Else `deadlock` prints an unsure part, and a run of its reading.)
 pub fn a_printed_run_is_that_of_the_start()
     ensures { (declared : List ℕ) (s : Declared) (old : Workqueues) (moving text out : List ℕ)
         → declaration declared ≡ Ok s → has_unsure s.table.waits ≡ false →
