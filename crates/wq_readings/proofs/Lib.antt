@@ -1,0 +1,3 @@
+pub mod DecisionLemmas
+pub mod NeededFlushes
+pub mod ReadingPlans
