@@ -305,14 +305,6 @@ module _ (t : Table) (is : IsTable t) where
         behind = more.behind;
       }
 
-  lines-many : (kept : List ℕ) (all : List ℕ) → ((p : ℕ) → Contains kept p → IsKeptPlace t.waits all p)
-      → length (lines_at kept) ≡ length kept
-  lines-many [] all each = refl
-  lines-many (p ∷ kept) all each =
-      let h = each p (0, omega arith, refl) in
-      ap (λ (l : List (List (List ℕ))). length l) (lines-cons p kept (h.item, h.target) (unsure_at-kept t is all p h))
-      ∙ ap suc (lines-many kept all (λ q there. each q (suc there.0, omega (arith, there.1), there.2)))
-
 -- `unsure M`
 abbrev near_unsure : ℕ → ℕ → Result ℕ CertError
 near_unsure line n = cond (ltb 16384 n) (Err (NumberOutOfRange line)) (Ok n)

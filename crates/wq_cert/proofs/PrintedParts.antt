@@ -136,12 +136,6 @@ pub record AreAt (count : ℕ) (those : List Owned) (flushes : List (Option Owne
   pub len : length flushes ≡ count
   pub each : (q : ℕ) → q < count → get_or flushes q None ≡ find (stands_at q) those
 
-pub AreAt-none : (count : ℕ) (flushes : List (Option Owned)) → flushes ≡ replicate count None → AreAt count [] flushes
-AreAt-none count flushes none = record {
-  len = ap (λ (l : List (Option Owned)). length l) none ∙ length-replicate count None;
-  each = λ q within. ap (λ (l : List (Option Owned)). get_or l q None) none ∙ get_or-replicate count q None None within;
-}
-
 or_none : (o : Option Owned) → option_or o None ≡ o
 or_none None = refl
 or_none (Some f) = refl

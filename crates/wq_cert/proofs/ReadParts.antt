@@ -12,7 +12,7 @@ use Rattle.wq_items.specs.declared.target.Target.{Target}
 use Rattle.wq_items.specs.Building.{and_then}
 use Rattle.wq_items.specs.Readings.{is_among}
 use Rattle.wq_items.specs.Table.{Table, IsTable, targets_of, flush_count, places}
-use Rattle.wq_items.proofs.ReadingLists.{AreMarked, AreMarked-none, AreMarked-more, AreMarked-all, each-below}
+use Rattle.wq_items.proofs.ReadingLists.{AreMarked, AreMarked-more, AreMarked-all, each-below}
 use Rattle.wq_cert.specs.declared.fault.CertError.{CertError}
 use Rattle.wq_cert.specs.declared.fault.CertError.TheVariants.{BadCertLine}
 use Rattle.wq_cert.specs.Lines.{CertLine, cert_line}
@@ -74,13 +74,6 @@ module _ (marks : List Bool) (form : Bool
   pub not-free : not (get_or marks u.place true) ≡ false → find (is_open marks form) (take (k + 1) ts) ≡ None
   not-free marked = passed (ap (λ (b : Bool). is_declared_so form u && b) marked ∙ and-false (is_declared_so form u))
 
-pub stood_for-past : (t : Table) (taken : List ℕ) (form : Bool × (ℕ × ℕ)) → IsTable t → length t.names ≤ form.1.0
-    → None ≡ stood_for t.waits taken form
-stood_for-past t taken form is far =
-    let none : targets_of t.waits form.1.0 ≡ [] = get_or_past t.waits form.1.0 [] (omega (arith, is.one_list_each)) in
-    sym (ap (λ (ts : List Target). option_map (λ (u : Target). u.place)
-    (find (λ (u : Target). is_declared_so form u && not (is_among taken u.place)) ts)) none)
-
 -- ---- one line after the other
 
 -- of a part of n lines these places are read, they are marked, and this many lines are left, from those of `rest` on
@@ -88,15 +81,6 @@ pub record PartRead (names : List (List ℕ)) (waits : List (List Target)) (n : 
     (places : List ℕ) (marks : List Bool) (left : ℕ) (rest : List CertLine) : Type 0 where
   pub goes_on : next_unsure names waits n [] lines ≡ next_unsure names waits left places rest
   pub marked : AreMarked (flush_count waits) places marks
-
-pub PartRead-none : (names : List (List ℕ)) (waits : List (List Target)) (n : ℕ) (lines : List CertLine)
-    (places : List ℕ) (marks : List Bool) → places ≡ [] → marks ≡ replicate (flush_count waits) false
-    → PartRead names waits n lines places marks n lines
-PartRead-none names waits n lines places marks none free = record {
-  goes_on = ap (λ (ps : List ℕ). next_unsure names waits n ps lines) (sym none);
-  marked = subst (λ (ps : List ℕ). AreMarked (flush_count waits) ps marks) (sym none)
-      (AreMarked-none (flush_count waits) marks free);
-}
 
 -- what is read after the line for which this is answered
 after_line : List (List ℕ) → List (List Target) → ℕ → List ℕ → List CertLine → Result ℕ CertError → Read (List ℕ)
@@ -141,8 +125,3 @@ module _ (names : List (List ℕ)) (waits : List (List Target)) (n i : ℕ) (lin
 
   pub PartRead-short : i < n → left ≡ [] → next_unsure names waits n [] lines ≡ Err (BadCertLine 0)
   PartRead-short lt none = next_goes_on lt [] none
-
-  pub PartRead-end : n ≤ i → next_unsure names waits n [] lines ≡ Ok (places, map cert_line left)
-  PartRead-end all =
-      let none : n - i ≡ 0 = omega arith in
-      h.goes_on ∙ ap (λ (m : ℕ). next_unsure names waits m places (map cert_line left)) none

@@ -144,18 +144,6 @@ module _ (unsure : ℕ → Bool) (graph : List (List WaitArc)) (lane : List ℕ)
     pub done : (v : ℕ) → Contains others v → slice_index now v ≡ doubts_at v
     pub few : All (λ n. n < 4096) now
 
-  pub AreKnownSoFar-none : (now : List ℕ) → now ≡ replicate (length lane) 0 → AreKnownSoFar 1 [] now
-  AreKnownSoFar-none now none = record {
-    one_each = ap (λ (l : List ℕ). length l) none ∙ length-replicate (length lane) 0;
-    lower = λ v vertex below.
-        let lowest : slice_index lane v ≡ 0 = omega arith in
-        ap (λ (l : List ℕ). slice_index l v) none ∙ get_or-replicate (length lane) v 0 0 vertex
-        ∙ sym (ap (λ (n : ℕ). least_doubts unsure graph lane n v) lowest);
-    done = λ v there. absurd (omega (arith, there.1));
-    few = All-same (λ n. n < 4096) now (replicate (length lane) 0) none
-        (All-replicate (λ n. n < 4096) (length lane) 0 (omega arith));
-  }
-
   -- one more vertex
   pub AreKnownSoFar-more : (above : ℕ) (others now : List ℕ) (v : ℕ) → AreKnownSoFar above others now → v < length lane
       → above < 4096 → slice_index lane v ≡ above

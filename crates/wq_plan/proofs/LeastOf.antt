@@ -89,9 +89,6 @@ module _ {X : Type 0} (f : X → ℕ) where
   least_by-most n (x ∷ xs) most = let rest : fold min (f x) (map f xs) ≤ f x = least_from-start (f x) (map f xs) in
       omega (arith, most x)
 
-  pub least_by-one : (x : X) → least_by (x ∷ []) ≡ f x
-  least_by-one x = refl
-
   -- the least with one more
   pub least_by-push : (xs : List X) (x : X) → 0 < length xs → least_by (xs ++ x ∷ []) ≡ min (least_by xs) (f x)
   least_by-push [] x some = absurd (omega arith)
@@ -106,11 +103,6 @@ module _ {X : Type 0} (f : X → ℕ) where
   IsFirstSoFar none xs first least =
       MatchOption first ((xs ≡ []) × (least ≡ none)) (λ x. (first_by xs ≡ Some x) × (least ≡ least_by xs)
       × (0 < length xs))
-
-  pub first_by-so_far : (none : ℕ) (xs : List X) (first : Option X) (least : ℕ) → IsFirstSoFar none xs first least
-      → first ≡ first_by xs
-  first_by-so_far none xs None least so_far = rw so_far.0 refl
-  first_by-so_far none xs (Some x) least so_far = sym so_far.0
 
   -- the next one has a lower number
   pub IsFirstSoFar-less : (none : ℕ) (xs : List X) (first : Option X) (least : ℕ) (x : X)

@@ -22,18 +22,6 @@ use Rattle.wq_graph.proofs.ListLemmas.{Contains-map}
 abbrev pub unsure_of : List Target → List ℕ
 unsure_of ts = map (λ (t : Target). t.place) (filter (λ (t : Target). t.unsure) ts)
 
--- those of an item more
-unsure_places-push : (waits : List (List Target)) (ts : List Target) → unsure_places (waits ++ ts ∷ [])
-    ≡ unsure_places waits ++ unsure_of ts
-unsure_places-push [] ts = append-nil (unsure_of ts)
-unsure_places-push (w ∷ waits) ts = ap (λ (l : List ℕ). unsure_of w ++ l) (unsure_places-push waits ts)
-    ∙ sym (append_assoc (unsure_of w) (unsure_places waits) (unsure_of ts))
-
-pub unsure_places-more : (waits : List (List Target)) (n : ℕ) → n < length waits → unsure_places (take (n + 1) waits)
-    ≡ unsure_places (take n waits) ++ unsure_of (targets_of waits n)
-unsure_places-more waits n item = ap unsure_places (take_more waits n [] item) ∙ unsure_places-push (take n waits)
-    (targets_of waits n)
-
 -- with a flush more
 abbrev place_of : Target → ℕ
 place_of t = t.place
