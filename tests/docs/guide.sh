@@ -1,10 +1,9 @@
 #!/usr/bin/env bash
 # Runs every command in the fenced blocks of README.md, of docs/GUIDE.md, docs/WAITS.md, docs/KERNELS.md and
 # docs/RUNTIME.md, and of the pages in examples/, and compares what it shows with what stands below it on the page; looks
-# for each excerpt of code on a page in crates/example_rdisk; compares the files that docs/GUIDE.md and docs/WAITS.md show with those in
-# examples/rdisk; and gives the `grep` lines of docs/GUIDE.md each name that the page says they find. Run it once the
-# gate or `rt run` has built the program and the example's program, crates/example_rdisk. The arguments, if there are
-# any, name others in their place.
+# for each excerpt of code on a page in crates/example_rdisk; and compares the files that docs/GUIDE.md and docs/WAITS.md show with those in
+# examples/rdisk. Run it once the gate or `rt run` has built the program and the example's program, crates/example_rdisk. The
+# arguments, if there are any, name others in their place.
 #
 # A fenced block of a page is one of these:
 # - a file: its first line is a comment that holds its name alone, as `# NAME` or `/* NAME */`. It is written as it stands.
@@ -142,7 +141,8 @@ pages() {
     done
 }
 
-# others: counts whether each other file of examples/rdisk is the plan of a declaration there.
+# others: counts whether each other file of examples/rdisk is the plan of a declaration there, or a script to which docs/GUIDE.md
+# links, and which it runs.
 others() {
     local file name plan
     page=examples/rdisk
@@ -154,40 +154,14 @@ others() {
         elif [ "$name" != "$file" ]; then
             plan=$(<"$file")
             play "wqplan plan $name.wq" "$plan"$'\n'
+        elif grep -qF "](../examples/rdisk/$file)" "$root/docs/GUIDE.md" && grep -qE "^\\$ bash $file( |\$)" "$root/docs/GUIDE.md"; then
+            ok "$page/$file: docs/GUIDE.md runs it"
         else
             fail "$page/$file: neither docs/GUIDE.md nor docs/WAITS.md shows it"
         fi
     done
 }
 
-# finds AT NAME..: counts whether the grep line AT of docs/GUIDE.md, counted from 1, finds a line with each of these names.
-finds() {
-    local at=$1 pattern name
-    shift
-    pattern=$(sed -n "s/^\$ grep -nE '\(.*\)' rdisk.c$/\1/p" "$root/docs/GUIDE.md" | sed -n "${at}p")
-    if [ -z "$pattern" ] || [ $# -eq 0 ]; then
-        fail "$page: there is no grep line $at, or no name for it"
-        return
-    fi
-    for name; do
-        if printf '\t%s(x);\n' "$name" | grep -qE -- "$pattern"; then
-            ok "$page: grep line $at finds $name"
-        else
-            fail "$page: grep line $at doesn't find $name"
-        fi
-    done
-}
-
-# names FIRST FIELD: the names in backticks that stand in docs/GUIDE.md from the line that begins with FIRST to the next empty
-# one. Of a table only this FIELD counts, each cell up to its `, where`.
-names() {
-    sed -n "/^$1/,/^\$/p" "$root/docs/GUIDE.md" | cut -d'|' -f"$2" | sed 's/, where.*//' |
-        grep -oE '`[A-Za-z]+_[A-Za-z_]*' | tr -d '`'
-}
-
 pages README.md docs/GUIDE.md docs/WAITS.md docs/KERNELS.md docs/RUNTIME.md examples/*.md
 others
-page=docs/GUIDE.md
-finds 1 $(names 'The line also finds' 1) $(names '| File | Lines' 4)
-finds 2 $(names '| Call in a work function | Line' 2)
 counts_of guide

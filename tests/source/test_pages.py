@@ -3,6 +3,7 @@
 import re
 
 from conftest import ROOT
+from csource import tables
 
 PAGE = (ROOT / "source" / "README.md").read_text()
 GUIDE = (ROOT / "docs" / "GUIDE.md").read_text()
@@ -48,6 +49,16 @@ def test_dismissed_in_the_guide(wqsource, tmp_path):
     for declared, status in ((text, 0), (re.sub("^flush send .*\n", "", text, flags=re.M), 1)):
         (tmp_path / "rdisk.wq").write_text(declared)
         assert wqsource("audit", "--decl", tmp_path / "rdisk.wq", "rdisk.c", cwd=RDISK).status == status
+
+
+def test_calls_of_the_guide():
+    """waits.txt has a kind for each call that may wait by the first table of section 2, but for those that start a process."""
+    waits = tables.Waits()
+    rows = re.search(r"^\| Call in a work function \|.*\n\|-.*\n((?:\|.*\n)+)", GUIDE, re.M)[1].splitlines()
+    calls = {call for row in rows for call in re.findall(r"`([a-z_]+)[(`]", row.split("|")[1].split(", where")[0])}
+    kinds = {call: waits.kind(call).name for call in calls if len(call) > 2}
+    assert len(kinds) > 35
+    assert {call for call, kind in kinds.items() if kind in ("none", "never")} == {"request_module", "call_usermodehelper"}
 
 
 def test_modules_and_tables():
