@@ -54,7 +54,7 @@ def run(words: argparse.Namespace, extractor: TokenExtractor) -> int:
     find_wqplan()
     survey = read_survey(words.verdicts)
     extractor.progress.say(f"looking through {words.tree}")
-    scan = TreeScan(words.tree, extractor, TreeIndex.kept(words.tree, extractor.cache))
+    scan = TreeScan(words.tree, extractor, TreeIndex.kept(words.tree, extractor.cache, extractor.jobs))
     units = selected(scan, [from_top(words.tree, name) for name in words.module])
     results = scanned(scan, units, words)
     printer = Printer(sys.stdout, survey, results, not words.module)
