@@ -66,7 +66,7 @@ def run(words: argparse.Namespace, extractor: TokenExtractor) -> int:
     if words.write:
         text = survey.text([row for row in printer.rows if row.hash], is_whole=not words.module)
         half = words.verdicts.with_suffix(words.verdicts.suffix + ".new")
-        half.write_text(text)
+        half.write_text(text, encoding="utf-8", errors="surrogateescape")
         half.replace(words.verdicts)
     return TOLD if printer.is_told(words.stale) else SILENT
 
