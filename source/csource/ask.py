@@ -117,6 +117,10 @@ class Read:
     def of(declaration: Declaration, program: Program) -> "Read":
         return Read(program, Cited(declaration, program), Draft(program, []))
 
+    def beside(self, declaration: Declaration) -> "Read":
+        """The same files beside another declaration: their ways stay."""
+        return Read(self.program, Cited(declaration, self.program), self.draft, self.ways)
+
     def sites_of(self, number: int) -> list[Site]:
         """The sites that a line of the declaration cites, but for the calls that lead to them."""
         line = self.cited.declaration.lines[number - 1]
@@ -201,6 +205,7 @@ class Asking:
         self.path, self.assignment, self.program, self.wqplan = path, assignment, program, wqplan
         # lines that were put off, by what stands in them
         self.later: collections.Counter[str] = collections.Counter()
+        self.read: Optional[Read] = None
         self.read_again()
 
     def read_again(self) -> None:
@@ -208,7 +213,8 @@ class Asking:
         self.text = Text(self.path)
         declaration = Declaration.of(str(self.path), self.text.text)
         self.unknown = {item.name for item in declaration.items if UNKNOWN in item.comment}
-        self.read = Read.of(declaration, self.program) if self.program else None
+        if self.program:
+            self.read = self.read.beside(declaration) if self.read else Read.of(declaration, self.program)
         self.hang = self.wqplan.hang(self.text.text, self.path.name, self.assignment)
         self.number, self.asked = self.next_question()
 

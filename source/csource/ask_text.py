@@ -218,16 +218,22 @@ def take(printer: Printer, answers: TextIO) -> bool:
         line = answers.readline()
         if not line or line.strip() == QUIT:
             return False
-        try:
-            wrong = answered(printer, line)
-        except Changed:
-            if not printer.asking.find_again():
-                printer.say(f"The declaration was changed meanwhile, and the line isn't there: {line.strip()!r} wasn't taken.")
-                return True
-            wrong = answered(printer, line)
+        wrong = taken(printer, line)
         if wrong is None:
             return True
         printer.say(wrong)
+
+
+def taken(printer: Printer, line: str) -> Optional[str]:
+    """As `answered`, of a declaration that others may change at the same time."""
+    while True:
+        try:
+            return answered(printer, line)
+        except Changed:
+            if not printer.asking.find_again():
+                said = "The declaration was changed meanwhile, and the line isn't there"
+                printer.say(f"{said}: {line.strip()!r} wasn't taken.")
+                return None
 
 
 def terminal() -> Optional[TextIO]:

@@ -151,7 +151,12 @@ class Audit:
 
     @property
     def is_done(self) -> bool:
-        """Whether nothing is left to decide or to mend."""
+        """Whether nothing is left to decide or to mend, and nothing is unsure."""
+        return self.is_decided and not self.cited.unsure()
+
+    @property
+    def is_decided(self) -> bool:
+        """Whether nothing is left to decide or to mend. An unsure line decides its site as a sure one does."""
         waiting = any(neighbour.sites for neighbour in self.neighbours)
         return not (
             self.left
@@ -163,7 +168,6 @@ class Audit:
             or self.stale_items
             or self.stale_closed
             or self.stale_spared
-            or self.cited.unsure()
             or self.each_item and self.for_others
             or self.misplaced
             or any(one.is_fault for one in self.contradictions)

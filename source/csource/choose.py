@@ -43,8 +43,16 @@ class Chosen:
 class Chooser:
     """Chooses files of a tree. `summary` says what a file calls, defines and has tables of."""
 
-    def __init__(self, tree: pathlib.Path, index: TreeIndex, layers: Layers, summary: Callable[[str], Summary]) -> None:
+    def __init__(
+        self,
+        tree: pathlib.Path,
+        index: TreeIndex,
+        layers: Layers,
+        summary: Callable[[str], Summary],
+        jobs: int = 1,
+    ) -> None:
         self.tree = tree
+        self.jobs = jobs
         self.index = index
         self.layers = layers
         self.summary = summary
@@ -90,7 +98,7 @@ class Chooser:
         users: dict[str, list[str]] = {name: [] for name in names}
         if names:
             word = re.compile(r"\b(%s)\b" % "|".join(names))
-            for line in grep(self.tree, "-HwF", *[part for name in names for part in ("-e", name)]):
+            for line in grep(self.tree, "-HwF", *[part for name in names for part in ("-e", name)], jobs=self.jobs):
                 file, _, text = line.partition(":")
                 for name in word.findall(text):
                     if file.endswith(".c") and file not in users[name]:

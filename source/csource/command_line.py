@@ -260,7 +260,7 @@ def run_ask(words: argparse.Namespace, extractor: program.ReadsFacts) -> int:
     if words.files or declaration.files:
         files = files_of(words.tree, words.files, declaration)
         stacked = words.stacked or declaration.is_stacked
-        read = program.read(words.tree, files, extractor, program.Tables(), stacked)
+        read = program_of(words.tree, files, extractor, stacked)
     asking = ask.Asking(pathlib.Path(words.declaration), words.assignment, read, wqplan)
     extractor.progress.end()
     ask_text.talk(asking, ask_text.terminal(), sys.stdout)
@@ -273,6 +273,7 @@ VERBS = {"audit": run_audit, "drift": run_drift, "draft": run_draft, "ask": run_
 
 
 def main() -> NoReturn:
+    let_bytes_through()
     words = parser().parse_args()
     # (millions of small objects, which live as long as the command; to look through them again and again costs a third)
     gc.disable()
@@ -304,6 +305,13 @@ def main() -> NoReturn:
         status = FAULT
     let_go_of_output()
     sys.exit(status)
+
+
+def let_bytes_through() -> None:
+    """What is no UTF-8, in a declaration or a name, is printed as it is, whatever the locale."""
+    for stream in (sys.stdin, sys.stdout, sys.stderr):
+        if isinstance(stream, io.TextIOWrapper):
+            stream.reconfigure(encoding="utf-8", errors="surrogateescape")
 
 
 def said_of(fault: Exception) -> str:

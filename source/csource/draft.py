@@ -1,6 +1,7 @@
 """`draft`: a first declaration of some files, in which nothing is sure, and what isn't known is left to a reader."""
 
-import re
+import collections
+import functools
 from dataclasses import dataclass, field
 from typing import Iterator
 
@@ -220,11 +221,12 @@ class Draft:
                     found[function] = Uncalled(function, f"{one.struct}.{one.member}", nearest, len(sites) - 1)
         return list(found.values())
 
+    @functools.cached_property
+    def names(self) -> collections.Counter[str]:
+        """The names of the files without their folders: how many have each."""
+        return collections.Counter(file.rpartition("/")[2] for file in self.program.facts.files)
+
     def short(self, file: str) -> str:
         """The name of a file as a citation gives it: without its folder, where one file alone has it."""
-        name = re.sub(r".*/", "", file)
-        return (
-            name
-            if sum(other == name or other.endswith("/" + name) for other in self.program.facts.files) == 1
-            else file
-        )
+        name = file.rpartition("/")[2]
+        return name if self.names[name] == 1 else file

@@ -23,14 +23,16 @@ def chosen_for(tree: pathlib.Path, name: str, extractor: TokenExtractor) -> Chos
     if not (tree / "Kbuild").is_file() and not (tree / "Makefile").is_file():
         raise Fault(f"{tree}: no kernel's source (it has no Makefile)")
     extractor.progress.say(f"looking for what belongs to {name}")
-    summary = functools.cache(lambda file: Summary.of(extractor.lines_of(tree, file)))
-    chooser = Chooser(tree, TreeIndex.kept(tree, extractor.cache), Layers(), summary)
+    summary, jobs = functools.cache(lambda file: Summary.of(extractor.lines_of(tree, file))), extractor.jobs
+    chooser = Chooser(tree, TreeIndex.kept(tree, extractor.cache, jobs), Layers(), summary, jobs)
     module = chooser.kbuild.named(from_top(tree, name))
     if module is None:
         hint = nearest(from_top(tree, name), [one.name for one in chooser.kbuild.all_modules()])
         raise Fault(
             f"{name}: no module of {tree} has this name: write its folder, `/`, and the name of its object{hint}"
         )
+    # (so they are read in several processes)
+    extractor.lines_of_all(tree, list(module.files))
     return chooser.choose(module)
 
 

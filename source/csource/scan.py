@@ -121,7 +121,7 @@ class TreeScan:
         self.index = index
         self.lines_of = functools.lru_cache(maxsize=2000)(functools.partial(extractor.lines_of, tree))
         summary = functools.cache(lambda file: Summary.of(self.lines_of(file)))
-        self.chooser = Chooser(tree, index, Layers(), summary)
+        self.chooser = Chooser(tree, index, Layers(), summary, extractor.jobs)
         self.module_of = functools.cache(lambda file: self.chooser.kbuild.module_of(file).name)
         self.tables = Tables()
         self.makers = [

@@ -54,7 +54,7 @@ def run(words: argparse.Namespace, extractor: TokenExtractor) -> int:
     find_wqplan()
     survey = read_survey(words.verdicts)
     extractor.progress.say(f"looking through {words.tree}")
-    scan = TreeScan(words.tree, extractor, TreeIndex.kept(words.tree, extractor.cache))
+    scan = TreeScan(words.tree, extractor, TreeIndex.kept(words.tree, extractor.cache, extractor.jobs))
     units = selected(scan, [from_top(words.tree, name) for name in words.module])
     results = scanned(scan, units, words)
     printer = Printer(sys.stdout, survey, results, not words.module)
@@ -66,7 +66,7 @@ def run(words: argparse.Namespace, extractor: TokenExtractor) -> int:
     if words.write:
         text = survey.text([row for row in printer.rows if row.hash], is_whole=not words.module)
         half = words.verdicts.with_suffix(words.verdicts.suffix + ".new")
-        half.write_text(text)
+        half.write_text(text, encoding="utf-8", errors="surrogateescape")
         half.replace(words.verdicts)
     return TOLD if printer.is_told(words.stale) else SILENT
 

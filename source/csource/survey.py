@@ -66,7 +66,7 @@ class Survey:
     def read(path: pathlib.Path) -> "Survey":
         found, head = Survey(), []
         identity: Optional[Identity] = None
-        for number, line in enumerate(path.read_text().splitlines(), 1):
+        for number, line in enumerate(path.read_text(encoding="utf-8", errors="surrogateescape").splitlines(), 1):
             if not line.strip() or line.startswith("#"):
                 if not found.verdicts and identity is None:
                     head.append(line)

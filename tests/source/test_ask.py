@@ -340,3 +340,13 @@ def test_the_file_stays_what_it_was(ask, drafted_files):
     assert (drafted_files / "r.wq").is_symlink() and stat.S_IMODE(os.stat(drafted_files / "there.wq").st_mode) == 0o640
     now = (drafted_files / "there.wq").read_bytes()
     assert now != text and now.endswith(b"# \xff\n")
+
+
+def test_bytes_that_are_no_utf_8(wqplan, drafted_files):
+    """They are printed as they are, in a locale that is strict about them as well."""
+    (drafted_files / "r.wq").write_bytes(b"item a\nitem b\nflush? a b  # \xff\n")
+    (drafted_files / "r.assign").write_text("wq 0 a b\n")
+    env = {**os.environ, "PYTHONIOENCODING": "utf-8:strict"}
+    command = [str(ROOT / "source" / "wqsource"), "ask", "r.wq", "r.assign"]
+    ran = subprocess.run(command, cwd=drafted_files, env=env, stdin=subprocess.DEVNULL, capture_output=True)
+    assert (ran.returncode, ran.stderr) == (DEPENDS, b"") and b"  r.wq:3: flush? a b  # \xff\n" in ran.stdout
