@@ -489,7 +489,9 @@ pub(crate) fn perform<'a, O: World<'a>, R: Threads + Wait + Sync, I: Read, W: Wr
     // workqueues has a run without helpers, with each item queued once and flushing as declared, that ends stuck; or a
     // printed circle of groups is given and every assignment has such a run. Of `check`: its yes is true. Of `circles`:
     // exactly the flushes on circles, and those to no rescuer, are printed, and `safe` exactly if no run ends stuck.
-    // The other commands end as they promise.
+    // Of `deadlock` and `hang`: `safe` holds in every reading; else the printed run ends stuck in the reading that
+    // keeps the printed lines, no reading that keeps fewer hangs, and of `hang` no run of one that keeps as few is
+    // shorter. The other commands end as they promise.
     ensures promised { IfOk result (λ end. (out : List ℕ)
         × PromisesAsAsked (Has (O.opens world.now) O.File.Read.remaining) (IsInput (I.remaining input.old.device))
         (spelled request.entry) end out
