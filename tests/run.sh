@@ -13,7 +13,7 @@
 #     lib        how tests start programs and read drawings: without a program
 #     docs       pages, manual pages, completion: without a program, but for `guide`, the commands of the pages
 #     cli        what the program prints, its diagnoses, the examples, install.sh: with wqplan
-#     model      the program against a model that was written from docs/FORMAT.md alone: with wqplan
+#     model      the program against a model that was written from docs/FORMAT.md and its parts: with wqplan
 #     source     the reader of C sources, source/wqsource: with Coccinelle, which it installs where it may
 #     runtime    books, runtimes and rescuers: with test_runtime
 #     kernel     the workqueue code of two series of Linux, and two drivers, in QEMU, where that and packages of Debian can be had:

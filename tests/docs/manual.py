@@ -18,6 +18,7 @@ sys.path.append(str(ROOT / "tests" / "lib"))
 import programs  # noqa: E402  (in tests/lib)
 
 FORMAT = (ROOT / "docs/FORMAT.md").read_text()
+MESSAGES = (ROOT / "docs/MESSAGES.md").read_text()
 # Where texts and their limits are described: not histories, nor what is worked out.
 TEXTS = ["Lines, words and numbers", "Names", "Limits", "Certificates"]
 FORMS = ["Plan texts", "Circle texts", "Run texts", "Certificates", "Refusals"]
@@ -37,9 +38,9 @@ OF_REFUSALS = "$ (cat decl && echo flush disk data) >unknown; wqplan plan unknow
 MODEL = 'wqplan() { python3 -B "%s/$1.py" "$@"; }' % (ROOT / "tests/model")
 
 
-def section(name):
-    """The section of docs/FORMAT.md with this heading, of the second or third level."""
-    return re.search(rf"^###? {re.escape(name)}\n(.*?)(?=^##|\Z)", FORMAT, re.M | re.S)[1]
+def section(name, page=FORMAT):
+    """The section of docs/FORMAT.md, or of another page, with this heading, of the second or third level."""
+    return re.search(rf"^###? {re.escape(name)}\n(.*?)(?=^##|\Z)", page, re.M | re.S)[1]
 
 
 def rows(name):
@@ -189,7 +190,7 @@ def compare_commands(count, page):
                 count.has(f"wqplan(1), EXIT STATUS, {status}", word, said)
     for fault in faults:
         count.has("wqplan(1), EXIT STATUS, 3", fault, dict(page.tagged("EXIT STATUS")).get("3", ""))
-    for form in re.findall(r"``(\S.*?\])``", section("Diagnoses")):
+    for form in re.findall(r"``(\S.*?\])``", section("Diagnoses", MESSAGES)):
         count.has("wqplan(1), DIAGNOSTICS", form, page.words("DIAGNOSTICS"))
     count.equal("wqplan(1), DECLARATION", directives(), page.tags("DECLARATION"))
 

@@ -18,7 +18,8 @@ import sys
 
 ROOT = pathlib.Path(__file__).resolve().parents[2]
 PAGES = ["README.md", "CONTRIBUTING.md", "bench/README.md", "tests/DIAGNOSES.md", "tests/FORMATS.md"]
-PAGES += [f"docs/{name}.md" for name in ("ARCHITECTURE", "DECISIONS", "DEFINITIONS", "FORMAT", "LOCKDEP", "PROMISES", "RUNTIME")]
+PAGES += [f"docs/{name}.md" for name in ("ARCHITECTURE", "DECISIONS", "DEFINITIONS", "FORMAT", "LOCKDEP", "MESSAGES", "PROMISES")]
+PAGES += ["docs/REPAIR.md", "docs/RUNTIME.md"]
 # Where sections are named: in sources, on pages and in what is beside them, in these folders and at the top.
 CITING = ["bench", "crates", "docs", "examples", "kernel", "man", "package", "source", "tests"]
 # The pages that are measured: all of the repository.

@@ -1,5 +1,5 @@
 #!/usr/bin/env python3
-"""Says whether standard error has what belongs to an answer of wqplan, by docs/FORMAT.md, "Diagnoses".
+"""Says whether standard error has what belongs to an answer of wqplan, by docs/MESSAGES.md.
 
     standard_error.py OUT ERR FILE
     standard_error.py OUT ERR of COMMAND FILE..

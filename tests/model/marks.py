@@ -1,5 +1,5 @@
 # How standard error shows a line, marks what is meant in it, and speaks of a workqueue, for reasons.py and unrescued.py:
-# docs/FORMAT.md, "Diagnoses", and tests/DIAGNOSES.md, "What is shown of a long line".
+# docs/MESSAGES.md, "Diagnoses", and tests/DIAGNOSES.md, "What is shown of a long line".
 
 import dataclasses
 

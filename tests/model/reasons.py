@@ -1,4 +1,4 @@
-# A model of the reasons: what standard error says where workqueues can hang, by docs/FORMAT.md, "Diagnoses", and tests/DIAGNOSES.md,
+# A model of the reasons: what standard error says where workqueues can hang, by docs/MESSAGES.md, "Reasons", and tests/DIAGNOSES.md,
 # "Where workqueues can hang". Which of several least circular waits is said, and with which of its waits it begins, is left open. So
 # `said_of` has the model's own words, and `wrong_with` judges those of the program: it reads from their places which flushes are said,
 # asks whether they are a circular wait than which none takes fewer steps, or the flush to no rescuer of least place, and then the words,

@@ -1,4 +1,4 @@
-# A model of what standard error says beside an answer of `repair`: docs/FORMAT.md, "Changes" and "What isn't sure", and
+# A model of what standard error says beside an answer of `repair`: docs/MESSAGES.md, "Changes", docs/FORMAT.md, "What isn't sure", and
 # tests/DIAGNOSES.md, "What `repair` changes". As reasons.py it has its own words, and judges those of the program: which of several least
 # circular waits is said is left open.
 

@@ -1,4 +1,4 @@
-# A model of what standard error says beside `safe` of workqueues without a rescuer: docs/FORMAT.md, "Diagnoses", Workqueues without a
+# A model of what standard error says beside `safe` of workqueues without a rescuer: docs/MESSAGES.md, "Notes", Workqueues without a
 # rescuer.
 
 import certificate
