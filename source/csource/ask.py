@@ -268,8 +268,9 @@ class Asking:
     def deny(self, why: str) -> None:
         """It isn't so: a `# no wait` line takes its place for each site that it cites."""
         assert self.number
-        others = [number for number in self.lines_there(self.item()) if number != self.number]
-        lines = [self.dismissal(site, why, bool(others)) for site in self.sites()]
+        there = self.lines_there(self.item())
+        others = {key for number, keys in there.items() if number != self.number for key in keys}
+        lines = [self.dismissal(site, why, site.key in others) for site in self.sites()]
         self.write({self.number: lines or [self.struck(why)]})
 
     def deny_item(self, why: str) -> None:

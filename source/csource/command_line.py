@@ -48,7 +48,7 @@ can't be read or mustn't be written, a name that means no file, a declaration wi
 def parser() -> argparse.ArgumentParser:
     shared = argparse.ArgumentParser(add_help=False)
     shared.add_argument(
-        "--jobs", type=int, default=os.cpu_count(), metavar="N", help="so many spatch at a time (all processors)"
+        "--jobs", type=int, default=os.cpu_count(), metavar="N", help="so many processes at a time (all processors)"
     )
     shared.add_argument(
         "--cache",

@@ -193,6 +193,20 @@ def test_not_so(ask, drafted_files, wqsource):
     assert wqsource("audit", "--decl", "r.wq", "--each-item", cwd=drafted_files).status == 0
 
 
+def test_a_line_with_two_places(ask, drafted_files):
+    """Each has a line of its own: for this target alone only where another line of the item waits, too."""
+    text = (drafted_files / "r.wq").read_text().replace(RETRY, "# no wait of r_retry: r.c r_retry flush_work(*): a test")
+    (drafted_files / "r.wq").write_text(text.replace(SEND, SEND + ", flush r.c:24 r_retry"))
+    before = (drafted_files / "r.wq").read_text()
+    ran = ask("n never")
+    gone, new = changed(before, (drafted_files / "r.wq").read_text())
+    assert questions(ran.out) == ["flush? r_send r_retry"] and len(gone) == 1
+    assert new == [
+        "# no wait of r_send for r_retry: " + SITE + ": never",
+        "# no wait of r_send: r.c r_retry flush_work(&r->send_work): never",
+    ]
+
+
 @pytest.mark.parametrize("word", ["ni", "na"])
 def test_nobody_waits_there(ask, drafted_files, wqsource, word):
     """All unsure lines of the site go, and one line dismisses it: no other item comes there."""

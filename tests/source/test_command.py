@@ -240,3 +240,15 @@ def test_kinds_of_the_kernels_calls():
     }
     found = {name: waits.kind(name).name for names in wanted.values() for name in names.split()}
     assert found == {name: kind for kind, names in wanted.items() for name in names.split()}
+
+
+def test_bytes_that_are_no_utf_8(tmp_path):
+    """What a declaration has of them is printed as it is, in a locale that is strict about them as well."""
+    declared = (RDISK / "rdisk.wq").read_bytes() + b"flush no\xff log  # rdisk.c:18 rdisk_log\n"
+    (tmp_path / "rdisk.wq").write_bytes(declared)
+    ran = subprocess.run(
+        [ROOT / "source" / "wqsource", "audit", "--decl", tmp_path / "rdisk.wq", "--tree", RDISK, "rdisk.c"],
+        env={**os.environ, "PYTHONIOENCODING": "utf-8:strict"},
+        capture_output=True,
+    )
+    assert (ran.returncode, ran.stderr) == (0, b"") and b"item no\xff doesn't reach" in b" ".join(ran.stdout.split())
