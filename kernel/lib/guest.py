@@ -95,10 +95,10 @@ def files_of(kernel, others, modules=(), programs=()):
 # The guest ----------------------------------------------------------------------------------------
 
 
-def machine_words(kernel, initrd, cpus, memory):
+def machine_words(kernel, initrd, cpus, memory, seed):
     """QEMU's arguments."""
     clock = ["-icount", f"shift={ICOUNT_SHIFT},sleep=off", "-rtc", "clock=vm"] if cpus == 1 else []
-    words = ["-accel", "tcg,thread=single", *clock, "-seed", "1"]
+    words = ["-accel", "tcg,thread=single", *clock, "-seed", str(seed)]
     words += ["-machine", "pc", "-cpu", "max", "-smp", str(cpus), "-m", memory]
     words += ["-nodefaults", "-no-user-config", "-display", "none", "-no-reboot", "-serial", "stdio"]
     words += ["-kernel", str(kernel.image), "-initrd", initrd]
@@ -109,11 +109,13 @@ def decoded(printed):
     return printed.decode("latin-1").replace("\r", "")
 
 
-def console_of(kernel, files, cpus=1, watch=lambda line: None, memory=MEMORY):
-    """All that a guest with these files writes to its console. `watch` is called with each line as it comes."""
+def console_of(kernel, files, cpus=1, watch=lambda line: None, memory=MEMORY, seed=1):
+    """All that a guest with these files writes to its console. `watch` is called with each line as it comes. The seed is
+    that of all that the guest draws at random: with one CPU all else is the same each time.
+    """
     words, environment = packages.qemu()
     with processes.in_memory(archive(files)) as (initrd, number):
-        words = [*words, *machine_words(kernel, initrd, cpus, memory)]
+        words = [*words, *machine_words(kernel, initrd, cpus, memory, seed)]
         environment = {**os.environ, **environment}
         try:
             printed = processes.printed_by(

@@ -247,9 +247,10 @@ def fetch_kernel(release, place, downloads):
         image.unlink()
 
 
-def modules(kernel, names, patch=None):
+def modules(kernel, names, patches=()):
     """For each of these modules of the kernel's package its file, and before it those of modules that it needs and that
-    aren't there yet. With a patch, those that come from a folder which it changes are built anew.
+    aren't there yet. With patches, those that come from a folder which one changes are built anew, and so are those that
+    the package lacks (what such a one needs must be named before it).
     """
 
     def make(place, downloads):
@@ -264,14 +265,14 @@ def modules(kernel, names, patch=None):
         if name in found:
             return []
         if name not in files:
-            raise Missing(f"the package of Linux {kernel.release} has no module {name}")
+            found[name] = lacking(kernel, name, patches)
+            return [name]
         found[name] = files[name] = unpacked(files[name])
         needed = re.search(rb"\0depends=([^\0]*)\0", found[name].read_bytes())[1].decode()
         return [*(each for more in needed.split(",") if more for each in load(more)), name]
 
     order = [load(name) for name in names]
-    if patch:
-        found |= patched(kernel, patch, found)
+    found |= patched(kernel, patches, found)
     return [[found[name] for name in group] for group in order]
 
 
@@ -295,9 +296,15 @@ def unpacked(path):
 # Modules with a patch ------------------------------------------------------------------------------
 
 
-def folders_of(patch):
-    """The folders with the files that a patch changes, as fs/nfs."""
-    return sorted({os.path.dirname(path) for path in re.findall(r"^\+\+\+ b/(\S+)", patch.read_text(), re.MULTILINE)})
+def folders_of(patches):
+    """The folders with the files that these patches change, as fs/nfs. Raises Missing for one that changes none."""
+    folders = set()
+    for patch in patches:
+        changed = re.findall(r"^\+\+\+ b/(\S+)", patch.read_text(), re.MULTILINE)
+        if not changed:
+            raise Missing(f"{patch}: it changes no file (`+++ b/FILE`)")
+        folders |= {os.path.dirname(path) for path in changed}
+    return sorted(folders)
 
 
 def source_of(kernel, folder):
@@ -327,25 +334,51 @@ def source_of(kernel, folder):
     return root / folder
 
 
-def patched(kernel, patch, files):
-    """Of these files of modules, by their names, those from a folder that the patch changes, built with it. It applies to
-    the top of the sources.
+def lacking(kernel, name, patches):
+    """Where the package would have a module that it lacks, and that is made in a folder which a patch changes."""
+    for folder in folders_of(patches):
+        for called in configured(source_of(kernel, folder)):
+            if called.replace("-", "_") == name:
+                return pathlib.Path(f"/kernel/{folder}/{called}.ko")
+    raise Missing(f"the package of Linux {kernel.release} has no module {name}")
+
+
+def configured(folder):
+    """The modules of a folder of the sources, and of each the word of the configuration that has it made."""
+    makefile = (folder / "Makefile").read_text()
+    return {name: word for word, name in re.findall(r"^obj-\$\((CONFIG_\w+)\)\s*\+=\s*(\S+)\.o$", makefile, re.MULTILINE)}
+
+
+def neighbours(folder):
+    """The folders beside this one whose headers its files include, as `#include "../host/nvme.h"` does."""
+    texts = [path.read_text(errors="replace") for path in folder.glob("*.[ch]")]
+    names = {name for text in texts for name in re.findall(r'^#include "\.\./(\w+)/', text, re.MULTILINE)}
+    return sorted(names - {folder.name})
+
+
+def patched(kernel, patches, files):
+    """Of these files of modules, by their names, those from a folder that a patch changes, built with all patches. They
+    apply to the top of the sources, one after the other.
     """
     built = {}
-    folders = folders_of(patch)
-    if not folders:
-        raise Missing(f"{patch}: it changes no file (`+++ b/FILE`)")
+    texts = b"".join(patch.read_bytes() for patch in patches)
+    folders = folders_of(patches)
     for folder in folders:
         here = {name: path.name for name, path in files.items() if str(path.parent).endswith(f"/kernel/{folder}")}
         if not here:
-            raise Missing(f"{patch}: none of the modules is in {folder}")
-        said = hashlib.sha256(patch.read_bytes() + " ".join(sorted(here)).encode()).hexdigest()[:16]
+            raise Missing(f"{', '.join(map(str, patches))}: none of the modules is in {folder}")
+        said = hashlib.sha256(texts + " ".join(sorted(here)).encode()).hexdigest()[:16]
 
         def build(place, _, folder=folder, here=here):
             at = place / "tree" / folder
-            shutil.copytree(source_of(kernel, folder), at)
-            output_of(["patch", "-p1", "-d", place / "tree", "-i", patch.resolve()])
-            output_of(["make", "-C", kernel.headers(), f"M={at}", *kernel.compiler(), *here.values()])
+            beside = [f"{os.path.dirname(folder)}/{name}" for name in neighbours(source_of(kernel, folder))]
+            for each in sorted({*folders, *beside}):
+                shutil.copytree(source_of(kernel, each), place / "tree" / each)
+            for patch in patches:
+                output_of(["patch", "-p1", "-d", place / "tree", "-i", patch.resolve()])
+            words = configured(at)
+            asked = [f"{words[name]}=m" for file in here.values() if (name := file.removesuffix(".ko")) in words]
+            output_of(["make", "-C", kernel.headers(), f"M={at}", *kernel.compiler(), *asked, *here.values()])
             for file in here.values():
                 output_of(["strip", "-g", "-o", place / file, at / file])
             shutil.rmtree(place / "tree")

@@ -39,3 +39,32 @@ flush_both() {
         done
     done
 }
+
+# slept PID: how often the process has slept, which it does in each flush.
+slept() {
+    times=over
+    while read -r name count; do
+        case $name in
+            voluntary_ctxt_switches:) times=$count ;;
+        esac
+    done 2>/dev/null <"/proc/$1/status"
+}
+
+# tell_flushes: which of the processes of flush_both go on.
+tell_flushes() {
+    before=
+    for one in $flushing; do
+        slept "$one"
+        before="$before $times"
+    done
+    wait_for 10
+    set -- $before
+    for one in $flushing; do
+        slept "$one"
+        how="go on"
+        [ "$times" = "$1" ] && ! ended "$one" && how=HANG
+        echo "flushes, process $one: $how"
+        [ "$how" = HANG ] && failed "process $one hangs"
+        shift
+    done
+}

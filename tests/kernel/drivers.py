@@ -7,8 +7,9 @@ On Linux 6.1, unchanged: an NFS mount that ends while a delegation is on its way
 (examples/md.md), NVMe whose connection is lost while a partition table is read (examples/nvme-multipath.md), and a thin
 pool that can't write its metadata (examples/dm-thin.md). On Linux 6.12: NVMe whose connection is lost twice
 (examples/nvme-scan.md). While no worker can be created these must hang, and the rescuer must sleep where the page says;
-and the status must be 1, since the script then says `failed`. So must a SCSI target that was sent PREEMPT AND ABORT
-(examples/target.md), where a worker sleeps, and no shortage is made. It takes a minute and a half of processor time.
+and the status must be 1, since the script then says `failed`. So must an NVMe target on a full ext4 (examples/ext4.md),
+and a SCSI target that was sent PREEMPT AND ABORT (examples/target.md), where a worker sleeps, and no shortage is made.
+It takes two minutes of processor time.
 
 With --patched also what the pages say of patched drivers, and of each script on the other kernel: that takes some ten
 minutes more the first time, and downloads the sources of two kernels, some 290 MB. It is run before a release.
@@ -44,6 +45,8 @@ ABORTS = "flush_work", "dm_pool_abort_metadata", "metadata_operation_failed", "c
 SCANS = "async_synchronize_cookie_domain", "nvme_scan_ns_list", "nvme_scan_work"
 CARRIES_OUT = "__target_execute_cmd", "tcm_loop_write_pending", "transport_generic_new_cmd", "target_queued_submit_work"
 PREEMPTS = "core_tmr_lun_reset", "core_scsi3_pro_preempt", "target_scsi3_emulate_pr_out", *CARRIES_OUT, "worker_thread"
+FULL = "ext4_should_retry_alloc", "ext4_da_write_begin", "nvmet_file_execute_io"
+ENDS_AN_ASSOCIATION = "__flush_workqueue", "nvmet_fc_delete_assoc_work"
 # What a script says before what hangs, and before what does so later.
 PARTS = "while no worker can be created", "with memory again", "with memory", "three minutes later"
 
@@ -62,18 +65,21 @@ class Run:
 
     def words(self):
         """The command that the script's head has, with the flags."""
-        text = (SCRIPTS / re.sub("-(dirty|twice)", "", self.script)).read_text()
+        text = (SCRIPTS / re.sub("-(dirty|twice)", "", self.script)).read_text().replace("\\\n#", "")
         modules = re.search(r"^# +kernel/driver .*kernel/drivers/\S+ (.+)$", text, re.MULTILINE)[1].split()
         return [ROOT / "kernel/driver", *self.flags, SCRIPTS / self.script, *modules]
 
 
 THIN = "thin.sh", "--program", "dmsetup"
 TARGET = "target.sh", "--program", "sg_persist"
+EXT4 = "ext4.sh", "--program", "mkfs.ext4"
+BY_FCLOOP = "nvmet-fc.sh", "--patch", SCRIPTS / "fcloop.patch"
 WITH_TWICE = "nvme-twice.sh", "--file", SCRIPTS / "nvme.sh"
 UNCHANGED = [
     Run(NFS, hung=1, rescuer="rpciod", frames=ON_RPCIOD),
     Run("md.sh", hung=4, rescuer="md", frames=ON_MD, stays=True),
     Run(*THIN, hung=1, rescuer="dm-thin", frames=ABORTS, tries=3),
+    Run(*EXT4, hung=2, rescuer="nvmet-buffered-", frames=("flush_work", *FULL)),
     Run("nvme.sh", hung=1, rescuer="nvme-wq", frames=READS_A_TABLE),
     Run(*WITH_TWICE, "--kernel", "6.12", hung=1, rescuer="kworker/R-nvme-wq", frames=SCANS),
     Run(*TARGET, hung=2, rescuer="target_submission", frames=("flush_work", *PREEMPTS), stays=True),
@@ -91,6 +97,8 @@ PATCHED = [
     Run(NFS, "--kernel", "6.12", *WITH_NFS),
     Run(*WITH_TWICE),
     Run(*THIN, "--kernel", "6.12", hung=1, rescuer="kworker/R-dm-thin", frames=("__flush_work", *ABORTS[1:]), tries=3),
+    Run(*EXT4, "--kernel", "6.12", hung=2, rescuer="kworker/R-nvmet-buffered-io-wq", frames=("__flush_work", *FULL)),
+    Run(*BY_FCLOOP, hung=1, rescuer="nvmet-wq", frames=ENDS_AN_ASSOCIATION),
     Run(*TARGET, "--kernel", "6.12", hung=2, rescuer="target_submission", frames=("__flush_work", *PREEMPTS), stays=True),
     Run(*TARGET, "--patch", SCRIPTS / "target.patch"),
     Run(*TARGET, "--patch", SCRIPTS / "target.patch", "--kernel", "6.12"),
