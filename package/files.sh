@@ -46,7 +46,7 @@ tool wqsource source/wqsource
 tool wqjudge kernel/judge
 tool wqrecord record/wqrecord
 # What kernel/ uses of the model of tests/: the steps of docs/FORMAT.md.
-for path in tests/model/{certificate,circle,command_line,deadlock,declaration,steps}.py tests/lib/records.py \
+for path in tests/model/{certificate,circle,command_line,deadlock,declaration,readings,steps,walks}.py tests/lib/records.py \
     docs/tables/directives.txt; do
     file 644 "$path" "share/wqplan/$path"
 done
