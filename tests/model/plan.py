@@ -1,5 +1,5 @@
 # A model of `wqplan plan [FILE]`: a small plain program that reads a declaration and prints the
-# answer that docs/FORMAT.md asks for. It was written from docs/FORMAT.md and its parts alone, by someone who had
+# answer that docs/FORMAT.md asks for. It was written from docs/FORMAT.md alone, by someone who had
 # not read the sources, the specifications or the proofs. So it is an opinion from outside the
 # proofs: where it and the program differ, one of them has read the page wrongly, or the page is
 # unclear. It goes for plain reading, and not for speed. Each part names the section of
