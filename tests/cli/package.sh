@@ -85,7 +85,7 @@ is 'no script is run when it is installed or removed' 'control md5sums' "$(dpkg-
     # The tools stand as they are in the repository; their commands are links to them.
     printf 'lrwxrwxrwx usr/bin/%s\n' wqsource wqjudge wqrecord
     cd -- "$repository" && find source kernel record -name __pycache__ -prune -o -type f -printf '%M usr/share/wqplan/%p\n'
-    printf -- '-rw-r--r-- usr/share/wqplan/%s\n' tests/model/{certificate,circle,command_line,deadlock,declaration,steps}.py \
+    printf -- '-rw-r--r-- usr/share/wqplan/%s\n' tests/model/{certificate,circle,command_line,deadlock,declaration,readings,steps,walks}.py \
         tests/lib/records.py docs/tables/directives.txt
 } | LC_ALL=C sort >"$work/wanted"
 dpkg-deb --contents "$deb" >"$work/contents"

@@ -16,7 +16,7 @@ cp -- "$repository/kernel/judge" "$clone/kernel"
 cp -- "$repository/kernel/lib/init" "$clone/kernel/lib"
 cp -- "$repository/record/wqrecord" "$clone/record"
 cp -- "$repository/record/wqr/says.py" "$clone/record/wqr"
-cp -- "$repository"/tests/model/{certificate,circle,command_line,deadlock,declaration,steps}.py "$clone/tests/model"
+cp -- "$repository"/tests/model/{certificate,circle,command_line,deadlock,declaration,readings,steps,walks}.py "$clone/tests/model"
 cp -- "$repository/tests/lib/records.py" "$clone/tests/lib"
 cp -- "$repository/docs/tables/directives.txt" "$clone/docs/tables"
 while IFS=: read -r crate _; do
