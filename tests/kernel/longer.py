@@ -28,6 +28,7 @@ sys.path.append(str(drivers.ROOT / "kernel/lib"))
 import packages  # noqa: E402  (in kernel/lib)
 
 REPORT = drivers.ROOT / "kernel/nfs-report"
+ENDS_BY_ANSWER = "nfs4_delegreturn_release", "rpc_async_schedule"
 # What a machine has and the guest hasn't: programs by their names, and a shell.
 AS_A_MACHINE = "$busybox --install -s /bin\nexport PATH=/bin\nmkdir -p /run\nsh /nfs-hang.sh\n"
 RECLAIM = "nfs-reclaim.sh"
@@ -101,8 +102,8 @@ def main():
         reclaim(series)
         attached(series)
     of_memory("6.1", "md-memory.sh", "md", drivers.ON_MD, drivers.stack_of)
-    of_memory("6.1", "nfs-memory.sh", "rpciod", drivers.ON_RPCIOD, listed_stack)
-    of_memory("6.12", "nfs-memory.sh", "kworker/R-rpciod", drivers.ON_RPCIOD, listed_stack)
+    of_memory("6.1", "nfs-memory.sh", "rpciod", ENDS_BY_ANSWER, listed_stack)
+    of_memory("6.12", "nfs-memory.sh", "kworker/R-rpciod", ENDS_BY_ANSWER, listed_stack)
     return drivers.counts_of("longer", drivers.counts[True], drivers.counts[False])
 
 
