@@ -10,8 +10,14 @@ array md1 9:0
 # have begun, and stand still until memory is short.
 exec 8<>/dev/md0 9<>/dev/md1
 flush_both 15
-wait_for 1
-kill -STOP $flushing
+for one in $flushing; do
+    times=0
+    until [ "$times" = over ] || [ "$times" -gt 50 ]; do
+        wait_for 1
+        slept "$one"
+    done
+    kill -STOP "$one"
+done
 echo "processes$flushing flush$what"
 short
 kill -CONT $flushing

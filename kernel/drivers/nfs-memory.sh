@@ -1,6 +1,7 @@
 # For kernel/driver --pressure: as nfs.sh, but memory alone is short (examples/nfs.md). With memory a process closes a file of
 # /mnt while the network is down, so that its delegation is on its way back, and /mnt is unmounted. Then memory becomes
-# short, the network comes back, and a process writes to the other mount, and calls fsync.
+# short, and the network comes back. The server is in the guest, and needs memory, too: so what counts is where the rescuer
+# of rpciod sleeps, and not what else waits.
 #
 #     kernel/driver --pressure 8 kernel/drivers/nfs-memory.sh nfsv4 nfsd
 
@@ -27,15 +28,15 @@ $busybox umount /mnt
 echo "umount: returned"
 short
 echo 0x9 >$network
-wait_for 8
+wait_for 10
 exec 7>/go.other
 echo >&7
 exec 7>&-
-wait_for 8
-blocked
-tell_pressure "16 seconds later"
-if ended $fsync; then echo "fsync of another mount: returned"; else echo "fsync of another mount: HANGS"; fi
+wait_for 30
+tell_pressure "forty seconds later"
+tasks
 plenty
 wait_for 20
 tell_pressure "with memory again"
-if ended $fsync; then echo "fsync of another mount: returned"; else echo "fsync of another mount: HANGS"; fi
+echo "with memory again:"
+must_end "fsync of another mount" $fsync

@@ -446,7 +446,7 @@ hangs 'dm-thin: the kernel' dm-thin.wq dm-thin.assign
 why 'dm-thin: the kernel' dm-thin.wq dm-thin.assign '`do_worker` `shrink_work.pool` `shrink_work.other`'
 repairs 'dm-thin: the kernel' dm-thin.wq dm-thin.assign 'shrink_work.pool 1 2'
 
-# nvmet-fc, ext4, srp: an item with a rescuer waits for one without.
+# nvmet-fc, ext4, srp, netfs: an item with a rescuer waits for one without.
 counts nvmet-fc 3 1 3 2
 answers nvmet-fc 'plan 2' del_work defer_work
 plan_is_least nvmet-fc
@@ -465,6 +465,12 @@ plan_is_least srp
 hangs 'srp: the kernel' srp.wq srp.assign
 to_no_rescuer 'srp: the kernel' 2 srp.wq srp.assign wb_workfn reconnect_work
 repairs 'srp: the kernel' srp.wq srp.assign 'rescuer 1'
+counts netfs 3 2 3 3
+answers netfs 'plan 2' oplock_break write_collection_worker
+plan_is_least netfs
+hangs 'netfs: the kernel' netfs.wq netfs.assign
+to_no_rescuer 'netfs: the kernel' 2 netfs.wq netfs.assign oplock_break write_collection_worker
+repairs 'netfs: the kernel' netfs.wq netfs.assign 'rescuer 2'
 
 # libfc: what adds a port waits for a workqueue without a rescuer; and if that had one, for an item there that waits for it.
 counts libfc 6 4 6 4
@@ -716,6 +722,7 @@ done <<'end'
 4 nvmet-fc nvmet-fc
 4 ext4 ext4
 4 srp srp
+4 netfs netfs
 4 libfc libfc
 6 libfc libfc.rescued
 8 nvme-delete nvme-delete

@@ -6,6 +6,9 @@
 - kernel/drivers/nfs-reclaim.sh on both kernels: kswapd must wait for the server that doesn't answer (examples/nfs.md).
 - What is attached to the mail of docs/GUIDE.md, section 14 (kernel/nfs-report), on both kernels: the module is built in
   a folder that has nothing else, and the script, with it alone, must say that the fsync hangs, and then returns.
+- kernel/drivers/md-memory.sh and nfs-memory.sh: memory alone is short, in TRIES guests with other seeds. Each must come
+  into that state and to its end. How many hang is counted, and told; in one that does, the rescuer must sleep where the
+  pages say.
 
 Each guest takes some minutes of processor time. Where QEMU or a kernel can't be had, it says so, and skips what needs
 it: that is no failure.
@@ -25,9 +28,11 @@ sys.path.append(str(drivers.ROOT / "kernel/lib"))
 import packages  # noqa: E402  (in kernel/lib)
 
 REPORT = drivers.ROOT / "kernel/nfs-report"
+ENDS_BY_ANSWER = "nfs4_delegreturn_release", "rpc_async_schedule"
 # What a machine has and the guest hasn't: programs by their names, and a shell.
 AS_A_MACHINE = "$busybox --install -s /bin\nexport PATH=/bin\nmkdir -p /run\nsh /nfs-hang.sh\n"
 RECLAIM = "nfs-reclaim.sh"
+TRIES = 20
 
 
 def console_of(flags, script):
@@ -70,10 +75,35 @@ def attached(series):
     drivers.tell(said == ["HANGS", "returned"], f"nfs-hang.sh on {series}", console[-1500:])
 
 
+def listed_stack(console, thread):
+    """The functions of a thread's stack in the kernel's own list of tasks, the innermost first."""
+    tasks = re.split(r"^\[ *[\d.]+\] task:", console, flags=re.MULTILINE)[1:]
+    found = [task for task in tasks if task.startswith(f"{thread[:15]:<15} state:")]
+    return re.findall(r"^\[ *[\d.]+\]  (\w+)\S*\+", found[0], re.MULTILINE) if found else []
+
+
+def of_memory(series, script, rescuer, frames, where):
+    """How often this hangs if memory alone is short. `where` finds the rescuer's stack, which tells whether it does."""
+    hung = 0
+    for seed in range(1, TRIES + 1):
+        name = f"{script} on {series}, seed {seed}"
+        console = console_of(("--kernel", series, "--pressure", "8", "--seed", str(seed)), script)
+        if console is None:
+            return
+        stack = where(console, rescuer)
+        drivers.tell(re.search(r"wqjudge: \d+ short$", console, re.MULTILINE), f"{name}: no worker can be created", console[-1500:])
+        drivers.tell(re.search(r"wqjudge: \d+ bye$", console, re.MULTILINE), f"{name}: its end", console[-1500:])
+        hung += drivers.is_part_of(frames, stack)
+    print(f"        {script} on {series}: of {TRIES} tries {hung} hang", flush=True)
+
+
 def main():
     for series in packages.SERIES:
         reclaim(series)
         attached(series)
+    of_memory("6.1", "md-memory.sh", "md", drivers.ON_MD, drivers.stack_of)
+    of_memory("6.1", "nfs-memory.sh", "rpciod", ENDS_BY_ANSWER, listed_stack)
+    of_memory("6.12", "nfs-memory.sh", "kworker/R-rpciod", ENDS_BY_ANSWER, listed_stack)
     return drivers.counts_of("longer", drivers.counts[True], drivers.counts[False])
 
 
