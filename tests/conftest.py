@@ -22,6 +22,7 @@ def pytest_addoption(parser):
     parser.addoption("--seed", default="1", help="of the random cases of the model; the same seed makes the same ones")
     parser.addoption("--sure", action="store_true", help="leaves out the cases of the model that have unsure lines")
     parser.addoption("--cases", type=int, help="how many random cases of each command the model has")
+    parser.addoption("--ask-program", action="store_true", help="the laws of unsure lines are put to the program, and not to the model")
 
 
 @pytest.fixture(scope="session")

@@ -3,9 +3,9 @@
 Declarations are made up with both kinds of flushes, `ordered` groups and unsure lines, each with an assignment in which some workqueues
 may have no rescuer. Of each reading all states are gone through by the number of steps that lead to them (test_search.py), without
 helpers, with one and with two for each workqueue, so that the fewest steps of a run that ends stuck are known of each. Each test puts a
-law of docs/FORMAT.md, "Unsure lines", to all of them. More of them:
+law of docs/FORMAT.md, "Unsure lines", to all of them. More of them, and the program's answers in place of the model's:
 
-    python3 -m pytest tests/model/test_unsure.py --cases 640
+    python3 -m pytest tests/model/test_unsure.py --cases 640 --ask-program
 """
 
 import dataclasses
@@ -14,7 +14,9 @@ import random
 import re
 
 import certificate
+import programs
 import pytest
+from commands import TEXTS_OF
 from declaration import read_declaration
 from make_declarations import join
 from models import ANSWERS
@@ -112,6 +114,21 @@ def make_case(seed, number):
 @functools.cache
 def cases_of(seed, count):
     return [make_case(seed, number) for number in range(count)]
+
+
+def of_program(program, folder, command, *texts):
+    """The program's answer, as the model would give it."""
+    with programs.files(folder, dict(zip(TEXTS_OF[command], texts))) as places:
+        return programs.ask([program, command, *places])[:2]
+
+
+@pytest.fixture(autouse=True)
+def asked(request, tmp_path, monkeypatch):
+    """With --ask-program it is the program that answers, and not the model."""
+    if request.config.getoption("--ask-program"):
+        program = request.getfixturevalue("program")
+        for command in ("plan", "replay", "deadlock", "hang", "circles"):
+            monkeypatch.setitem(ANSWERS, command, functools.partial(of_program, program, tmp_path, command))
 
 
 @pytest.fixture
