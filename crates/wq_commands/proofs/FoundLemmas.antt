@@ -37,7 +37,7 @@ use Rattle.wq_groups.specs.DeclaredGroups.{declared_waits, Declared}
 use Rattle.wq_commands.specs.Declaration.{DeclaresNoUnsure, declaration, max_declaration}
 use Rattle.wq_commands.specs.Found.{AnswersIn}
 use Rattle.wq_commands.specs.Replaying.{AnswersReplay, ReplaysAssigned, ReplaysDeclared, ReplaysRun}
-use Rattle.wq_commands.specs.Shell.{AnswersTexts, HasOneAnswer}
+use Rattle.wq_commands.specs.Shell.{AnswersTexts, HasOneAnswer, HasOneAnswerTo}
 use Rattle.wq_commands.proofs.AnswerLemmas.{Answers-same, declaration-take}
 use Rattle.wq_commands.proofs.CheckAnswers.{Checks-unique}
 use Rattle.wq_commands.proofs.InputLemmas.{Checks-take, Judges-take, ReplaysRun-take}
@@ -181,17 +181,17 @@ check-unique s texts found again end other out printed is one two =
     (declaration texts.first) s is (ChecksText-declared s texts.second again other printed two))
 
 pub deadlock-unique : {A : Type 0}
-    → HasOneAnswer (λ s texts (found : Found (Verdict A)) end out. (has_unsure s.table.waits ≡ false)
-    × JudgesText s texts.second found end out)
-deadlock-unique s texts found again end other out printed is one two =
+    → (s : Declared) → has_unsure s.table.waits ≡ false
+    → HasOneAnswerTo s (λ s texts (found : Found (Verdict A)) end out. JudgesText s texts.second found end out)
+deadlock-unique s none texts found again end other out printed is one two =
     let one_is = of_declared (λ s. JudgesDeclared s texts.second end out) (λ r. PrintsRefusal r end out)
-    (declaration texts.first) s is (JudgesText-declared s texts.second found end out one.1) in
+    (declaration texts.first) s is (JudgesText-declared s texts.second found end out one) in
     let two_is = of_declared (λ s. JudgesDeclared s texts.second other printed) (λ r. PrintsRefusal r other printed)
-    (declaration texts.first) s is (JudgesText-declared s texts.second again other printed two.1) in
+    (declaration texts.first) s is (JudgesText-declared s texts.second again other printed two) in
     let sure : DeclaresNoUnsure texts.first = λ t declares.
     (let both : Ok s ≡ Ok t = sym is ∙ declares in
     let same : s ≡ t = cc in
-    ap (λ (d : Declared). has_unsure d.table.waits) (sym same) ∙ one.0) in (
+    ap (λ (d : Declared). has_unsure d.table.waits) (sym same) ∙ none) in (
       Judges-same_end texts.first texts.second end other out printed one_is two_is,
       Judges-same_out texts.first texts.second end other out printed sure one_is two_is,
     )
