@@ -60,6 +60,13 @@ any_has {X} p (y ∷ ys) x (suc k, lt, at) passes = by (p y) (any_has p ys x (k,
     by true later = refl
     by false later = later
 
+pub least_hop-three : (w : Wiring) (i : ℕ) → 3 ≤ least_hop w i
+least_hop-three w i = by (list_any (λ (t : Target). not t.unsure) (declared_by w i))
+  where
+    by : (any : Bool) → 3 ≤ (if any then 3 else 32768 + 3)
+    by true = omega arith
+    by false = omega arith
+
 pub least_hop-enough : (w : Wiring) (h : Hop) → Contains (declared_by w h.item) h.flush
     → least_hop w h.item ≤ hop_cost h
 least_hop-enough w h there = by h.flush.unsure refl

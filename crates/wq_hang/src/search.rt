@@ -15,10 +15,10 @@ ghost use Rattle.wq_core.specs.Wiring.{HasRescuer, items, lane_of};
 ghost use Rattle.wq_hang.specs.declared.hop.Hop.{Hop};
 ghost use Rattle.wq_hang.specs.Walk.{max_walk_cost};
 ghost use Rattle.wq_hang.specs.Search.{AreItemsOn, IsTaken, IsSearched, with_todo, reach, reach_all, reach_lane};
-ghost use Rattle.wq_hang.specs.Search.{follow, expand};
+ghost use Rattle.wq_hang.specs.Search.{follow, expand, hop_to, least_hop};
 
 use crate::hop::Hop;
-use crate::hop_back::{least_hop, unsure_part};
+use crate::hop_back::{UNSURE, least_hop, unsure_part};
 use crate::waits::Waits;
 use std::alloc::{AllocError, Allocator};
 use std::collections::VecDeque;
@@ -106,6 +106,7 @@ impl<A: Allocator + Copy> Search<A> {
 
     /// An item is to be gone on from, which was reached at the least cost or at 1 more, and by a sure flush or an
     /// unsure one.
+    #[inline(always)]
     fn push(&mut self, near: bool, unsure: bool, item: ItemId) -> Result<(), AllocError>
         ensures { IfOk result (λ _. self.new ≡ with_todo near unsure item self.old) }
     {
@@ -118,17 +119,30 @@ impl<A: Allocator + Copy> Search<A> {
         Ok(())
     }
 
-    /// A hop leads to its item at this cost.
-    fn reach(&mut self, near: bool, cost: u32, hop: &Hop) -> Result<(), AllocError>
-        requires next { hop.now.next < length self.old.costs }
+    /// A flush of an item leads to this one next at this cost. The hop is made only if it is the cheapest so far: most
+    /// hops aren't.
+    #[inline(always)]
+    fn reach(
+        &mut self,
+        near: bool,
+        cost: u32,
+        item: ItemId,
+        flush: &Target,
+        next: ItemId,
+    ) -> Result<(), AllocError>
+        requires next { next < length self.old.costs }
         requires one_each { length self.old.by ≡ length self.old.costs }
-        ensures { IfOk result (λ _. self.new ≡ reach near cost self.old hop.now) }
+        ensures { IfOk result (λ _. self.new ≡ reach near cost self.old (hop_to item flush.now next)) }
     {
-        let at = usize::from(hop.next.get());
+        let at = usize::from(next.get());
         if cost < self.costs[at] {
             self.costs[at] = cost;
-            self.by[at] = *hop;
-            self.push(near, hop.flush.unsure, hop.next)?;
+            self.by[at] = Hop {
+                item,
+                flush: *flush,
+                next,
+            };
+            self.push(near, flush.unsure, next)?;
         }
         Ok(())
     }
@@ -148,12 +162,7 @@ impl<A: Allocator + Copy> Search<A> {
         ensures { IfOk result (λ _. self.new ≡ reach_all near cost item flush.now on.now self.old) }
     {
         for next in on {
-            let hop = Hop {
-                item,
-                flush: *flush,
-                next: ItemId::new(*next as u16),
-            };
-            self.reach(near, cost, &hop)?;
+            self.reach(near, cost, item, flush, ItemId::new(*next as u16))?;
         }
         Ok(())
     }
@@ -203,13 +212,8 @@ impl<A: Allocator + Copy> Search<A> {
         if !waits.has_rescuer(lane) {
             return Ok(());
         }
-        let direct = Hop {
-            item,
-            flush: *flush,
-            next: flush.item,
-        };
         let cost = cost + unsure_part(flush);
-        self.reach(true, cost + 3, &direct)?;
+        self.reach(true, cost + 3, item, flush, flush.item)?;
         let step = if flush.whole { 3 } else { 4 };
         self.reach_lane(
             flush.whole,
@@ -261,12 +265,14 @@ impl<A: Allocator + Copy> Search<A> {
     }
 
     /// What it costs to come to an item, as far as is known.
+    #[inline(always)]
     fn cost_so_far(&self, item: ItemId) -> u32 {
         let cost = self.costs.get(usize::from(item.get())).copied();
         cost.unwrap_or(u32::MAX)
     }
 
     /// Whether the first item of one queue comes before that of another, by what it costs to come there.
+    #[inline(always)]
     fn comes_first(&self, one: &VecDeque<ItemId, A>, other: &VecDeque<ItemId, A>) -> bool
         ensures one { IsTrue result → 0 < length one.now.items }
         ensures other { result ≡ false → (length one.now.items ≡ 0) ⊎ (0 < length other.now.items) }
@@ -322,6 +328,20 @@ impl<A: Allocator + Copy> Search<A> {
     }
 }
 
+/// Whether no round by way of an item that was reached at this cost can cost less than the best one so far, if so much
+/// of that is left. Whether the item declares a sure flush is looked at only if an unsure one led to it: where most
+/// flushes are sure, that hardly ever helps.
+#[inline(always)]
+fn is_too_dear<A: Allocator>(waits: &Waits<'_, A>, item: ItemId, cost: u32, left: u32) -> bool
+    requires { item < items waits.now }
+    ensures { IsTrue result → left ≤ least_hop waits.now item }
+{
+    if left <= 3 {
+        return true;
+    }
+    cost >= UNSURE && left <= least_hop(waits, item)
+}
+
 /// The search from an item, whose lane has a rescuer, for rounds that cost less than the limit.
 pub(crate) fn search_from<A: Allocator + Copy>(
     waits: &Waits<'_, A>,
@@ -340,8 +360,8 @@ pub(crate) fn search_from<A: Allocator + Copy>(
     search.expand(waits, on, first, 0)?;
     while let Some(item) = search.take() {
         let cost = search.cost(item);
-        // Then no round by way of this item costs less than the best one so far.
-        if search.cost(first).saturating_sub(cost) <= least_hop(waits, item) {
+        let left = search.cost(first).saturating_sub(cost);
+        if is_too_dear(waits, item, cost, left) {
             continue;
         }
         search.expand(waits, on, item, cost)?;

@@ -59,17 +59,17 @@ returns g c =
     )) c.requires.first c.requires.rescuer in
     subst (IsSearched w c.args.first c.args.limit) (sym c.in_default.ensures.none) all
 
-pub loop-item-preserved-then-saturating_sub-least_hop : goal.loop-item-preserved-then-saturating_sub-least_hop
-loop-item-preserved-then-saturating_sub-least_hop g c =
+pub loop-item-preserved-then-is_too_dear : goal.loop-item-preserved-then-is_too_dear
+loop-item-preserved-then-is_too_dear g c =
     IsGoing-skipped c.args.waits.now c.args.first c.args.limit c.items.ensures.wiring c.args.on.now c.requires.on c.loop-item.search c.take.new.self c.in-Some.item c.loop-item.invariant c.in-Some.ensures.some
-    (omega (arith, c.cost-cost.ensures, c.saturating_sub.ensures, c.if-saturating_sub-least_hop.true))
+    (omega (arith, c.cost-cost.ensures, c.saturating_sub.ensures, c.is_too_dear.ensures c.if-is_too_dear.true))
 
-pub loop-item-smaller-then-saturating_sub-least_hop : goal.loop-item-smaller-then-saturating_sub-least_hop
-loop-item-smaller-then-saturating_sub-least_hop g c =
+pub loop-item-smaller-then-is_too_dear : goal.loop-item-smaller-then-is_too_dear
+loop-item-smaller-then-is_too_dear g c =
     work-skipped c.args.waits.now c.args.first c.args.limit c.items.ensures.wiring c.args.on.now c.requires.on c.loop-item.search c.take.new.self c.in-Some.item c.in-Some.ensures.some
 
-pub least_hop-requires : goal.least_hop-requires
-least_hop-requires g c =
+pub is_too_dear-requires : goal.is_too_dear-requires
+is_too_dear-requires g c =
     let w = c.args.waits.now in
     let s = c.loop-item.search in
     let was = taken_was w c.args.first c.args.limit c.items.ensures.wiring c.args.on.now c.requires.on s c.take.new.self
