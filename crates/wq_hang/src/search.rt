@@ -167,7 +167,9 @@ impl<A: Allocator + Copy> Search<A> {
         Ok(())
     }
 
-    /// A flush of an item leads to each of these items, which are those of the target's lane, at this cost.
+    /// A flush of an item leads to each item of the target's lane at this cost. The items are looked up only if the lane
+    /// wasn't reached as cheaply before.
+    #[inline(always)]
     fn reach_lane(
         &mut self,
         near: bool,
@@ -175,16 +177,18 @@ impl<A: Allocator + Copy> Search<A> {
         item: ItemId,
         flush: &Target,
         lane: u16,
-        on: &[u32],
+        on: &Buckets<A>,
     ) -> Result<(), AllocError>
         requires lane { lane < length self.old.lane_costs }
-        requires on { All (λ j. j < length self.old.costs) on.now }
+        requires listed { lane < length on.now }
+        requires on { All (λ j. j < length self.old.costs) (slice_index_or on.now lane []) }
         requires few { length self.old.costs ≤ 4096 }
         requires one_each { length self.old.by ≡ length self.old.costs }
-        ensures { IfOk result (λ _. self.new ≡ reach_lane near cost item flush.now lane on.now self.old) }
+        ensures { IfOk result (λ _. self.new
+            ≡ reach_lane near cost item flush.now lane (slice_index_or on.now lane []) self.old) }
     {
         if cost < self.lane_costs[usize::from(lane)] {
-            self.reach_all(near, cost, item, flush, on)?;
+            self.reach_all(near, cost, item, flush, on.places(lane))?;
             self.lane_costs[usize::from(lane)] = cost;
         }
         Ok(())
@@ -215,14 +219,7 @@ impl<A: Allocator + Copy> Search<A> {
         let cost = cost + unsure_part(flush);
         self.reach(true, cost + 3, item, flush, flush.item)?;
         let step = if flush.whole { 3 } else { 4 };
-        self.reach_lane(
-            flush.whole,
-            cost + step,
-            item,
-            flush,
-            lane.get(),
-            on.places(lane.get()),
-        )
+        self.reach_lane(flush.whole, cost + step, item, flush, lane.get(), on)
     }
 
     /// The flushes of an item, which costs so much, lead on.
