@@ -98,8 +98,7 @@ _wqplan() {
             files=2
             ;;
         plan) files=1 ;;
-        check | deadlock | hang | circles | dot) files=2 ;;
-        replay) files=3 ;;
+        check | deadlock | dot) files=2 ;;
         *) return ;;
     esac
     [ "$words" -ge "$files" ] || _wqplan_files "$word"

@@ -11,22 +11,27 @@
 mod answer;
 mod bare;
 mod hanging;
+mod holding;
 mod hop;
 mod hop_back;
 pub mod laws;
 mod least;
+mod least_for;
 mod marks;
 mod needed;
 mod numbering;
 mod on_lanes;
+mod peeling;
 mod rounds;
 mod running;
 mod search;
 mod settling;
 mod waits;
+mod ways;
 
-pub use answer::Answer;
+pub use answer::{Answer, Held};
 pub use hanging::hang;
+pub use holding::held_up;
 pub use hop::Hop;
 pub use needed::needed_places;
 pub use rounds::Rounds;

@@ -16,6 +16,7 @@ ghost use Rattle.wq_hang.specs.declared.hop.Hop.{Hop};
 ghost use Rattle.wq_hang.specs.Walk.{max_walk_cost};
 ghost use Rattle.wq_hang.specs.Search.{AreItemsOn, IsTaken, IsSearched, with_todo, reach, reach_all, reach_lane};
 ghost use Rattle.wq_hang.specs.Search.{follow, expand};
+ghost use Rattle.wq_hang.specs.SearchFor.{started, started_lane};
 
 use crate::hop::Hop;
 use crate::hop_back::{least_hop, unsure_part};
@@ -24,6 +25,7 @@ use std::alloc::{AllocError, Allocator};
 use std::collections::VecDeque;
 use std::marker::Model;
 use wq_buckets::Buckets;
+use wq_groups::LaneId;
 use wq_items::{ItemId, Target};
 
 /// What was found so far.
@@ -79,7 +81,7 @@ impl<A: Allocator + Copy> Search<A> {
     }
 
     /// Begins anew: each of this many items costs as much as the limit. Memory is taken only the first time.
-    fn begin(&mut self, items: usize, lanes: usize, limit: u32) -> Result<(), AllocError>
+    pub(crate) fn begin(&mut self, items: usize, lanes: usize, limit: u32) -> Result<(), AllocError>
         ensures costs { OnOk result (self.new.costs ≡ replicate items limit) }
         ensures lane_costs { OnOk result (self.new.lane_costs ≡ replicate lanes limit) }
         ensures by { OnOk result (length self.new.by ≡ items) }
@@ -221,8 +223,42 @@ impl<A: Allocator + Copy> Search<A> {
         )
     }
 
+    /// It costs nothing to come to an item: it is queued, and may wait.
+    pub(crate) fn start(&mut self, item: ItemId) -> Result<(), AllocError>
+        requires { item < length self.old.costs }
+        ensures { IfOk result (λ _. self.new ≡ started item self.old) }
+    {
+        let at = usize::from(item.get());
+        if self.costs[at] > 0 {
+            self.costs[at] = 0;
+            self.push(true, false, item)?;
+        }
+        Ok(())
+    }
+
+    /// It costs 1 to come to each of these items, which are those of a lane: one that is queued is behind them.
+    pub(crate) fn start_lane(&mut self, lane: LaneId, on: &[u32]) -> Result<(), AllocError>
+        requires lane { lane < length self.old.lane_costs }
+        requires on { All (λ j. j < length self.old.costs) on.now }
+        requires few { length self.old.costs ≤ 4096 }
+        ensures { IfOk result (λ _. self.new ≡ started_lane lane on.now self.old) }
+    {
+        let own = usize::from(lane.get());
+        if self.lane_costs[own] > 1 {
+            self.lane_costs[own] = 1;
+            for item in on {
+                let at = *item as usize;
+                if self.costs[at] > 1 {
+                    self.costs[at] = 1;
+                    self.push(false, false, ItemId::new(*item as u16))?;
+                }
+            }
+        }
+        Ok(())
+    }
+
     /// The flushes of an item, which costs so much, lead on.
-    fn expand(
+    pub(crate) fn expand(
         &mut self,
         waits: &Waits<'_, A>,
         on: &Buckets<A>,
@@ -296,7 +332,7 @@ impl<A: Allocator + Copy> Search<A> {
     }
 
     /// The next item to go on from, the cheapest.
-    fn take(&mut self) -> Option<ItemId>
+    pub(crate) fn take(&mut self) -> Option<ItemId>
         ensures some { IfSome result (λ i. IsTaken self.old i self.new) }
         ensures none { IfNone result (self.new ≡ self.old) }
         ensures near { IfNone result (length self.old.near ≡ 0) }
