@@ -214,5 +214,6 @@ def test_row(program, tmp_path_factory, same, given):
     printed = found.printed.partition(b"\n")[0] + b"\n" if given.is_long else found.printed
     wanted = printed if printed in given.answers else given.answers[0]
     same(asked, b"%swith status %d" % (wanted, given.status), b"%swith status %s" % (printed, str(found.status).encode()))
-    belongs = bool(found.errors) if given.complains else fits(found.printed, found.errors, places, given.words[0])
+    names = [word for word in given.words[1:] if isinstance(word, str) and given.words[0] != "run"]
+    belongs = bool(found.errors) if given.complains else fits(found.printed, found.errors, places, given.words[0], names)
     assert belongs, f"{asked}\n{found.printed.decode()}this doesn't belong on standard error:\n{found.errors.decode()}"

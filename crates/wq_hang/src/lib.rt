@@ -15,6 +15,7 @@ mod holding;
 mod hop;
 mod hop_back;
 pub mod laws;
+pub mod laws_for;
 mod least;
 mod least_for;
 mod marks;
