@@ -188,7 +188,7 @@ def test_program(compare, command, request):
     seed, count = request.config.getoption("--seed"), request.config.getoption("--cases") or CASES // FEWER.get(command, 1)
     came = collections.Counter()
     sure = request.config.getoption("--sure")
-    for number, texts in enumerate(cases(command, seed, count, sure=sure)):
+    for number, texts in enumerate(cases(command, seed, count, sure=sure, names=True)):
         words = HELPERS[number % len(HELPERS)] if command == "run" else []
         came.update(of_smallest(compare, command, texts, words))
     wanted = [kind for kind, _, _ in KINDS[command]] + REASONS_OF.get(command, [])

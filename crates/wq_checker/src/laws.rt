@@ -7,7 +7,7 @@ ghost use Rattle.wq_items.specs.Chain.{Circle};
 ghost use Rattle.wq_groups.specs.Declaration.{Declaration, IsDeclaration};
 ghost use Rattle.wq_groups.specs.Assignment.{Assignment, IsAssignment};
 ghost use Rattle.wq_core.specs.declared.step.Step.{Step};
-ghost use Rattle.wq_core.specs.Wiring.{Wiring, IsWiring, LaneWaits, wiring};
+ghost use Rattle.wq_core.specs.Wiring.{Wiring, LaneWaits, wiring};
 ghost use Rattle.wq_core.specs.Deadlock.{IsSafe, Deadlocks, IsLeast};
 ghost use Rattle.wq_cert.specs.Certificate.{PlanCertificate, CircleCertificate, Certificate};
 ghost use Rattle.wq_checker.specs.declared.answer.Yes.{Yes};
@@ -82,6 +82,6 @@ pub fn steps_have_one_end_for_items()
     ensures one { (w : Wiring) (named : List ℕ) (steps : List Step) → (end : RunEnd) × EndsFor w named steps end }
     ensures at_most_one { (w : Wiring) (named : List ℕ) (steps : List Step) (r s : RunEnd) →
         EndsFor w named steps r → EndsFor w named steps s → r ≡ s }
-    ensures all_rescued { (w : Wiring) (steps : List Step) (end : RunEnd) → IsWiring w →
+    ensures all_rescued { (w : Wiring) (steps : List Step) (end : RunEnd) →
         EndsFor w (rescued_items w) steps end ↔ EndsAs w steps end }
 {}

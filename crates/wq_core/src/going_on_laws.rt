@@ -5,7 +5,7 @@
 ghost use Rattle.std.specs.Prelude.{ℕ, ◌≤◌, ◌↔◌, List, [], ◌∷◌, Contains};
 ghost use Rattle.std.specs.List.{All};
 ghost use Rattle.wq_core.specs.declared.step.Step.{Step};
-ghost use Rattle.wq_core.specs.Wiring.{Wiring, IsWiring, max_helpers, with_helpers};
+ghost use Rattle.wq_core.specs.Wiring.{Wiring, max_helpers, with_helpers};
 ghost use Rattle.wq_core.specs.State.{HasUnfinishedOf};
 ghost use Rattle.wq_core.specs.Rules.{Lawful};
 ghost use Rattle.wq_core.specs.Runs.{IsForcedStep, IsRun, IsRunFrom, after, end_of};
@@ -15,10 +15,10 @@ ghost use Rattle.wq_core.specs.MustGoOn.{DeadlocksFor, HasFewerRescuers, IsSafeF
 /// A run ends stuck exactly if it ends stuck for all items whose lanes have a rescuer. So it is with safe wirings, and
 /// with runs that deadlock.
 pub fn all_items_with_a_rescuer_must_go_on()
-    ensures stuck { (w : Wiring) (steps : List Step) → IsWiring w → IsRun w steps →
+    ensures stuck { (w : Wiring) (steps : List Step) → IsRun w steps →
         IsStuck w (end_of w steps) ↔ IsStuckFor w (rescued_items w) (end_of w steps) }
-    ensures safe { (w : Wiring) → IsWiring w → IsSafe w ↔ IsSafeFor w (rescued_items w) }
-    ensures deadlocks { (w : Wiring) (steps : List Step) → IsWiring w →
+    ensures safe { (w : Wiring) → IsSafe w ↔ IsSafeFor w (rescued_items w) }
+    ensures deadlocks { (w : Wiring) (steps : List Step) →
         DeadlocksBy w steps ↔ DeadlocksFor w (rescued_items w) steps }
 {}
 
