@@ -30,7 +30,7 @@ not_true false is = refl
 -- ---- items whose lanes have a rescuer
 
 module _ (w : Wiring) where
-  is_rescued : ℕ → Bool
+  abbrev is_rescued : ℕ → Bool
   is_rescued i = not (slice_index_or w.bare (lane_of w i) false)
 
   rescued-named : (i : ℕ) → i < items w → HasRescuer w (lane_of w i) → Contains (rescued_items w) i
@@ -193,27 +193,29 @@ module _ (w : Wiring) (b : List Bool) where
         (IsRunFrom-there (effect w s step) steps h.1),
   )
 
-  module _ (rescuer : (q : ℕ) → HasRescuer other q → HasRescuer w q) where
-    forced-back : (step : Step) → IsForcedStep other step → IsForcedStep w step
-    forced-back (Queue i) h = h
-    forced-back (Cancel i) h = h
-    forced-back (Start q i) h = rescuer q h
-    forced-back (Wait q t) h = tt
-    forced-back (Over q t) h = tt
-    forced-back (WaitAll q t) h = tt
-    forced-back (OverAll q t) h = tt
-    forced-back (Finish q i) h = tt
-    forced-back (Help q h deed) goes = goes
+-- what is forced with fewer rescuers is forced with more, and lawful in both
+module _ (w : Wiring) (b : List Bool) (rescuer : (q : ℕ) → HasRescuer (other w b) q → HasRescuer w q) where
+  forced-back : (step : Step) → IsForcedStep (other w b) step → IsForcedStep w step
+  forced-back (Queue i) h = h
+  forced-back (Cancel i) h = h
+  forced-back (Start q i) h = rescuer q h
+  forced-back (Wait q t) h = tt
+  forced-back (Over q t) h = tt
+  forced-back (WaitAll q t) h = tt
+  forced-back (OverAll q t) h = tt
+  forced-back (Finish q i) h = tt
+  forced-back (Help q h deed) goes = goes
 
-    stuck-there : (named : List ℕ) (steps : List Step) → IsStuckFor w named (end_of w steps)
-        → IsStuckFor other named (end_of other steps)
-    stuck-there named steps h = subst (λ (s : State). IsStuckFor other named s)
-        (sym (after-bare (empty_state w) steps)) (record {
-          item = h.item;
-          is_named = h.is_named;
-          left = h.left;
-          no_step = λ step f law. h.no_step step (forced-back step f) (Lawful-there other w.bare (end_of w steps) step law);
-        })
+  stuck-there : (named : List ℕ) (steps : List Step) → IsStuckFor w named (end_of w steps)
+      → IsStuckFor (other w b) named (end_of (other w b) steps)
+  stuck-there named steps h = subst (λ (s : State). IsStuckFor (other w b) named s)
+      (sym (after-bare w b (empty_state w) steps)) (record {
+        item = h.item;
+        is_named = h.is_named;
+        left = h.left;
+        no_step = λ step f law. h.no_step step (forced-back step f)
+            (Lawful-there (other w b) w.bare (end_of w steps) step law);
+      })
 
 HasFewerRescuers-helpers : (v w : Wiring) (n : ℕ) → HasFewerRescuers v w
     → HasFewerRescuers (with_helpers v n) (with_helpers w n)
