@@ -4,7 +4,7 @@
 //! empty state on, by the rules of "Steps". This takes the time of the core machine's steps, and also time and memory
 //! in the number of items, flushes and workqueues.
 
-ghost use Rattle.std.specs.Prelude.{◌≡◌, ◌<◌, ◌↔◌, IsTrue, IfOk, OnErr, IfErr, length, map};
+ghost use Rattle.std.specs.Prelude.{◌≡◌, ◌<◌, ◌↔◌, IsTrue, IfOk, OnErr, IfErr, length};
 ghost use Rattle.wq_groups.specs.Declaration.{declaration_of};
 ghost use Rattle.wq_core.specs.Wiring.{wiring};
 ghost use Rattle.wq_core.specs.Workqueues.{wiring_of};
@@ -15,7 +15,7 @@ ghost use Rattle.wq_core.specs.Deadlock.{IsStuck};
 ghost use Rattle.wq_core.specs.Played.{IsDeclaredStep};
 ghost use Rattle.wq_core.specs.MustGoOn.{IsStuckFor};
 ghost use Rattle.wq_checker.specs.RunEnds.{IsFirstUnlawful, EndsAs, EndsFor};
-ghost use Rattle.wq_checker.specs.Searching.{IsPlayed};
+ghost use Rattle.wq_checker.specs.Searching.{HasOneLeft, IsPlayed};
 
 use crate::once::is_once;
 use crate::run::RunEnd;
@@ -157,11 +157,23 @@ pub fn check_run_on<A: Allocator + Copy>(
     ends(alloc, core, steps)
 }
 
+/// Whether an entry of one of these items is unfinished.
+fn has_one_left<A: Allocator>(core: &Core<A>, named: &[ItemId]) -> bool
+    ensures { IsTrue result ↔ HasOneLeft core.now.state named.now }
+{
+    for item in named {
+        if core.has_unfinished(*item) {
+            return true;
+        }
+    }
+    false
+}
+
 /// Whether an entry of one of these items is unfinished, and no lane can move.
 fn is_stuck_for<A: Allocator>(core: &Core<A>, named: &[ItemId]) -> bool
-    ensures { IsTrue result ↔ IsStuckFor core.now.wiring (map (λ i. i) named.now) core.now.state }
+    ensures { IsTrue result ↔ IsStuckFor core.now.wiring named.now core.now.state }
 {
-    core.enabled().is_none() && named.iter().any(|item| core.has_unfinished(*item))
+    core.enabled().is_none() && has_one_left(core, named)
 }
 
 /// How a run without helpers that leaves this machine ends, where these items must go on.
@@ -175,7 +187,7 @@ fn end_for<A: Allocator + Copy>(
     requires helpers { core.now.wiring.helpers ≡ 0 }
     requires few { length steps.now < 4294967295 }
     requires played { IsPlayed core.now.wiring steps.now in_order core.now }
-    ensures end { IfOk result (λ end. EndsFor core.now.wiring (map (λ i. i) named.now) steps.now end) }
+    ensures end { IfOk result (λ end. EndsFor core.now.wiring named.now steps.now end) }
     ensures memory { OnErr result (0 < core.now.wiring.lanes) }
 {
     if !is_stuck_for(core, named) {
@@ -199,7 +211,7 @@ fn ends_for<A: Allocator + Copy>(
     requires helpers { core.wiring.helpers ≡ 0 }
     requires empty { core.state ≡ empty_state core.wiring }
     requires few { length steps.now < 4294967295 }
-    ensures end { IfOk result (λ end. EndsFor core.wiring (map (λ i. i) named.now) steps.now end) }
+    ensures end { IfOk result (λ end. EndsFor core.wiring named.now steps.now end) }
     ensures memory { OnErr result (0 < core.wiring.lanes) }
 {
     match play(&mut core, steps) {
@@ -222,7 +234,7 @@ pub fn check_run_for<A: Allocator + Copy>(
     requires assigned { length workqueues.now.assignment.lane_of_group ≡ groups.now.groups }
     requires few { length steps.now < 4294967295 }
     ensures end { IfOk result (λ end. EndsFor (wiring_of (declaration_of table.now groups.now) workqueues.now)
-        (map (λ i. i) named.now) steps.now end) }
+        named.now steps.now end) }
     ensures memory { OnErr result (0 < workqueues.now.assignment.lanes) }
 {
     let core = Core::on_workqueues(alloc, table, groups, workqueues)?;

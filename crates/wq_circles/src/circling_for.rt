@@ -42,7 +42,7 @@ fn is_free<A: Allocator + Copy>(
     held: &HeldCircles<A>,
 ) -> bool
     requires named { All (λ i. i < length assigned.now.declared.table.names) named.now }
-    ensures { result ≡ is_free assigned.now.declared assigned.now.workqueues (map (λ i. i) named.now)
+    ensures { result ≡ is_free assigned.now.declared assigned.now.workqueues named.now
         (map (λ l. l.items) held.now.components.items) held.now.waits.items }
 {
     let _table = assigned.table();
@@ -60,7 +60,7 @@ fn print_held<A: Allocator + Copy>(
 ) -> Result<(End, Vec<u8, A>), AllocError>
     requires named { All (λ i. i < length assigned.now.declared.table.names) named.now }
     ensures { IfOk result (λ printed. PrintsHeld (is_free assigned.now.declared assigned.now.workqueues
-        (map (λ i. i) named.now) (map (λ l. l.items) held.now.components.items) held.now.waits.items)
+        named.now (map (λ l. l.items) held.now.components.items) held.now.waits.items)
         assigned.now.declared (map (λ l. l.items) held.now.components.items) held.now.waits.items held.now.ways.items
         printed.0 printed.1.items) }
 {

@@ -64,7 +64,7 @@ fn led_to<A: Allocator + Copy>(
 ) -> Result<FoundVertices<A>, AllocError>
     requires named { All (λ i. i < length assigned.now.declared.table.names) named.now }
     ensures { IfOk result (λ found. AreMarksOf (declared_waits assigned.now.declared) assigned.now.workqueues
-        (IsLedTo (declared_waits assigned.now.declared) assigned.now.workqueues (map (λ i. i) named.now)) found.marks) }
+        (IsLedTo (declared_waits assigned.now.declared) assigned.now.workqueues named.now) found.marks) }
 {
     let mut found = FoundVertices::none(alloc, heads.len())?;
     for item in named {
@@ -220,7 +220,7 @@ pub fn held_circles<A: Allocator + Copy>(
 ) -> Result<HeldCircles<A>, AllocError>
     requires { All (λ i. i < length assigned.now.declared.table.names) named.now }
     ensures { IfOk result (λ held. AreHeldCircles (declared_waits assigned.now.declared) assigned.now.workqueues
-        (map (λ i. i) named.now) (map (λ l. l.items) held.components.items) held.waits.items held.ways.items) }
+        named.now (map (λ l. l.items) held.components.items) held.waits.items held.ways.items) }
 {
     let graph = rescued_graph(alloc, assigned)?;
     held_in_graph(alloc, assigned, &graph, named)

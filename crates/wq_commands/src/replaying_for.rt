@@ -39,7 +39,7 @@ fn end_of_steps_for<A: Allocator + Copy>(
 ) -> Result<RunEnd, AllocError>
     requires { length steps.now < 4294967295 }
     ensures { IfOk result (EndsFor (wiring_of (declared_waits assigned.now.declared) assigned.now.workqueues)
-        (map (λ i. i) named.now) steps.now) }
+        named.now steps.now) }
 {
     check_run_for(
         alloc,
@@ -64,7 +64,7 @@ fn end_in_reading_for<A: Allocator + Copy>(
     requires few { length steps.now < 4294967295 }
     ensures { IfOk result (EndsFor
         (wiring_read declared.now workqueues.now (option_map (λ places. places.items) kept.now))
-        (map (λ i. i) named.now) steps.now) }
+        named.now steps.now) }
 {
     match kept {
         Some(kept) => {

@@ -3,7 +3,7 @@
 //! Where lanes and flushes end and runs begin: a least walk for these items is found, and the run is that of the walk.
 //! It takes the time of the search for a least walk.
 
-ghost use Rattle.std.specs.Prelude.{◌≡◌, ◌<◌, length, map, IfOk, OnErr};
+ghost use Rattle.std.specs.Prelude.{◌<◌, length, IfOk};
 ghost use Rattle.std.specs.List.{All};
 ghost use Rattle.wq_groups.specs.DeclaredGroups.{declared_waits};
 ghost use Rattle.wq_hang.specs.AnswerFor.{IsAnswerFor};
@@ -29,7 +29,7 @@ pub fn held_up<A: Allocator + Copy>(
 ) -> Result<Held<A>, AllocError>
     requires { All (λ i. i < length assigned.now.declared.table.names) named.now }
     ensures { IfOk result (IsAnswerFor (declared_waits assigned.now.declared) assigned.now.workqueues
-        (map (λ i. i) named.now)) }
+        named.now) }
 {
     let workqueues = assigned.workqueues();
     let core = Core::on_workqueues(alloc, assigned.table(), assigned.groups(), workqueues)?;

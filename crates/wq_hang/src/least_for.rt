@@ -6,17 +6,14 @@
 //! is nearest, and so few items are looked from: at which a flush arrives of an item that is no nearer, and which are
 //! left when all that is nearer is taken off. It takes the time of a search for each of them.
 
-ghost use Rattle.std.specs.Prelude.{◌≡◌, ◌+◌, ◌<◌, ◌≤◌, ℕ, List, length, slice_index, IfOk, OnOk, IfSome, IfNone, map};
+ghost use Rattle.std.specs.Prelude.{◌<◌, ℕ, List, IfOk, IfSome, IfNone};
 ghost use Rattle.std.specs.List.{All};
 ghost use Rattle.wq_core.specs.Wiring.{HasRescuer, items, lane_of};
 ghost use Rattle.wq_hang.specs.declared.hop.Hop.{Hop};
-ghost use Rattle.wq_hang.specs.Walk.{AreFirstAlike, IsHop, IsToBare, max_walk_cost};
-ghost use Rattle.wq_hang.specs.Search.{AreItemsOn};
-ghost use Rattle.wq_hang.specs.WalkFor.{HoldsUp, IsLeastWalkFor, IsWalkFor, cost_for};
-ghost use Rattle.wq_hang.specs.SearchFor.{IsBest, IsNoWorse};
+ghost use Rattle.wq_hang.specs.Walk.{AreFirstAlike};
+ghost use Rattle.wq_hang.specs.WalkFor.{IsLeastWalkFor, IsWalkFor};
 
 use crate::hop::Hop;
-use crate::hop_back::unsure_part;
 use crate::least::{MOST, better_round};
 use crate::on_lanes::items_on_lanes;
 use crate::peeling::left_in_turn;
@@ -356,9 +353,9 @@ fn least_rescued<A: Allocator + Copy>(
 ) -> Result<Option<WalkFor<A>>, AllocError>
     requires named { All (λ i. (i < items waits.now) × HasRescuer waits.now (lane_of waits.now i)) named.now }
     ensures some { IfOk result (λ found.
-        IfSome found (λ walk. IsLeastWalkFor waits.now (map (λ i. i) named.now) walk.named walk.hops.items)) }
+        IfSome found (λ walk. IsLeastWalkFor waits.now named.now walk.named walk.hops.items)) }
     ensures none { IfOk result (λ found. IfNone found
-        ((x : ℕ) (hops : List Hop) → ¬ IsWalkFor waits.now (map (λ i. i) named.now) x hops)) }
+        ((x : ℕ) (hops : List Hop) → ¬ IsWalkFor waits.now named.now x hops)) }
 {
     let on = items_on_lanes(alloc, waits)?;
     let mut ways = Ways::new(alloc);
@@ -379,10 +376,10 @@ pub(crate) fn least_walk_for<A: Allocator + Copy>(
 ) -> Result<Option<WalkFor<A>>, AllocError>
     requires named { All (λ i. i < items waits.now) named.now }
     ensures some { IfOk result (λ found.
-        IfSome found (λ walk. IsLeastWalkFor waits.now (map (λ i. i) named.now) walk.named walk.hops.items)) }
+        IfSome found (λ walk. IsLeastWalkFor waits.now named.now walk.named walk.hops.items)) }
     ensures alike { IfOk result (λ found. IfSome found (λ walk. AreFirstAlike waits.now walk.hops.items)) }
     ensures none { IfOk result (λ found. IfNone found
-        ((x : ℕ) (hops : List Hop) → ¬ IsWalkFor waits.now (map (λ i. i) named.now) x hops)) }
+        ((x : ℕ) (hops : List Hop) → ¬ IsWalkFor waits.now named.now x hops)) }
 {
     for item in named {
         if !waits.has_rescuer(waits.lane_of(*item)) {

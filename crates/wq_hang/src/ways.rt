@@ -4,7 +4,7 @@
 //! itself, as does a target that doesn't wait. The search is that of `Search`, from several items at once. It takes
 //! time in the number of items, lanes and flushes.
 
-ghost use Rattle.std.specs.Prelude.{◌≡◌, ◌+◌, ◌<◌, ◌≤◌, ℕ, List, length, map, slice_index, slice_index_or, IfOk, OnOk};
+ghost use Rattle.std.specs.Prelude.{◌≡◌, ◌+◌, ◌<◌, ◌≤◌, ℕ, List, length, slice_index, slice_index_or, IfOk, OnOk};
 ghost use Rattle.std.specs.Prelude.{IfSome};
 ghost use Rattle.std.specs.List.{All};
 ghost use Rattle.wq_core.specs.Wiring.{HasRescuer, items, lane_of};
@@ -96,7 +96,7 @@ impl<A: Allocator + Copy> Ways<A> {
         requires on { AreItemsOn waits.now on.now }
         requires starts { All (λ i. (i < items waits.now) × HasRescuer waits.now (lane_of waits.now i)) starts.now }
         requires low { limit ≤ max_walk_cost }
-        ensures ways { OnOk result (AreWays waits.now (map (λ i. i) starts.now) limit self.new.reach) }
+        ensures ways { OnOk result (AreWays waits.now starts.now limit self.new.reach) }
         ensures order { OnOk result (AreInOrder limit self.new.reach.costs self.new.order) }
     {
         self.begin(waits, on, starts, limit)?;
@@ -208,8 +208,8 @@ impl<A: Allocator + Copy> Targets<A> {
     ) -> Result<Self, AllocError>
         requires starts { All (λ i. i < items waits.now) starts.now }
         requires low { limit ≤ max_walk_cost }
-        requires ways { AreWays waits.now (map (λ i. i) starts.now) limit ways.now.reach }
-        ensures { IfOk result (AreTargets waits.now (map (λ i. i) starts.now) limit ways.now.reach) }
+        requires ways { AreWays waits.now starts.now limit ways.now.reach }
+        ensures { IfOk result (AreTargets waits.now starts.now limit ways.now.reach) }
     {
         let mut targets = Targets::none(alloc, waits.items(), limit)?;
         for item in ways.order() {

@@ -38,7 +38,7 @@ fn print_held<A: Allocator + Copy>(
     named: &[ItemId],
     answer: &Held<A>,
 ) -> Result<(End, Vec<u8, A>), AllocError>
-    requires { IsAnswerFor (declared_waits assigned.now.declared) assigned.now.workqueues (map (λ i. i) named.now)
+    requires { IsAnswerFor (declared_waits assigned.now.declared) assigned.now.workqueues named.now
         answer.now }
     ensures { IfOk result (λ printed. PrintsHeld assigned.now.declared answer.now printed.0 printed.1.items) }
 {

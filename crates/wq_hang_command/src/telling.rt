@@ -40,9 +40,9 @@ fn say_answer<A: Allocator + Copy>(
         texts.now.second ≡ Ok assigned.now.workqueues }
     requires named { All (λ i. i < length assigned.now.declared.table.names) named.now }
     requires answer { IsAnswerFor (declared_waits assigned.now.declared) assigned.now.workqueues
-        (map (λ i. i) named.now) answer.now }
+        named.now answer.now }
     ensures { IfOk result (λ said. SaysHeld names.now.declaration.now names.now.second.now texts.now.second
-        assigned.now.declared assigned.now.workqueues (map (λ i. i) named.now) answer.now
+        assigned.now.declared assigned.now.workqueues named.now answer.now
         (option_map (λ text. text.items) said)) }
 {
     let assignment = Source {

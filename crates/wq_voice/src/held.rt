@@ -264,7 +264,7 @@ fn notes_of<A: Allocator + Copy>(
     requires { All (λ i. i < length subject.now.assigned.now.declared.table.names) named.now }
     ensures { IfOk result (λ notes. AreHeldNotes (has_unsure subject.now.assigned.now.declared.table.waits)
         subject.now.declaration.file.now subject.now.assigned.now.declared subject.now.assigned.now.workqueues
-        (map (λ i. i) named.now) hops.now notes.items) }
+        named.now hops.now notes.items) }
 {
     if !has_unsure(subject.assigned.table()) {
         return Ok(Vec::new(alloc));
@@ -297,9 +297,9 @@ pub fn say_held<'a, A: Allocator + Copy>(
         assignment.text.now ≡ Ok assigned.now.workqueues }
     requires named { All (λ i. i < length assigned.now.declared.table.names) named.now }
     requires held { (steps : List Step) × IsHeldBy (declared_waits assigned.now.declared) assigned.now.workqueues
-        (map (λ i. i) named.now) item hops.now steps }
+        named.now item hops.now steps }
     ensures { IfOk result (λ said. TellsHeld declaration.entry.file.now assignment.entry.file.now
-        assignment.entry.text.now assigned.now.declared assigned.now.workqueues (map (λ i. i) named.now) item hops.now
+        assignment.entry.text.now assigned.now.declared assigned.now.workqueues named.now item hops.now
         said.items) }
 {
     let names = workqueue_names(alloc, assignment.text)?;
@@ -330,7 +330,7 @@ pub(crate) fn say_soonest<'a, A: Allocator + Copy>(
         assignment.text.now ≡ Ok assigned.now.workqueues }
     requires named { All (λ i. i < length assigned.now.declared.table.names) named.now }
     ensures { IfOk result (λ said. GivesHeld declaration.entry.file.now assignment.entry.file.now
-        assignment.entry.text.now assigned.now.declared assigned.now.workqueues (map (λ i. i) named.now)
+        assignment.entry.text.now assigned.now.declared assigned.now.workqueues named.now
         (option_map (λ text. text.items) said)) }
 {
     match held_up(alloc, assigned, named)? {
@@ -396,7 +396,7 @@ fn without_flushes<A: Allocator + Copy>(
 ) -> Result<Vec<ItemId, A>, AllocError>
     requires { All (λ i. i < length assigned.now.declared.table.names) named.now }
     ensures { IfOk result (λ items. items.items
-        ≡ without_flushes assigned.now.declared assigned.now.workqueues (map (λ i. i) named.now)) }
+        ≡ without_flushes assigned.now.declared assigned.now.workqueues named.now) }
 {
     let marks = lanes_with_flushes(alloc, assigned)?;
     let mut is_named = vec![in alloc; false; usize::from(assigned.table().len())]?;
@@ -495,7 +495,7 @@ pub fn say_not_held<A: Allocator + Copy>(
         assignment.text.now ≡ Ok assigned.now.workqueues }
     requires named { All (λ i. i < length assigned.now.declared.table.names) named.now }
     ensures { IfOk result (λ said. NotesNotHeld file.now assignment.entry.file.now assignment.entry.text.now
-        assigned.now.declared assigned.now.workqueues (map (λ i. i) named.now)
+        assigned.now.declared assigned.now.workqueues named.now
         (option_map (λ text. text.items) said)) }
 {
     let said = say_safe(alloc, file, assignment, assigned)?;
