@@ -80,8 +80,8 @@ _wqplan() {
             codes+=' TooManyItems TooManyFlushes GroupedTwice ExtraWord BadCertLine NotAllItems GroupSplit'
             codes+=' NumberOutOfRange NotFalling ChainBroken LengthDiffers CircleBroken RunBroken TooManyLanes read'
             codes+=" memory thread tally write plan wq chain arc circle run unsure yes no 'not lawful' deadlock stuck"
-            codes+=' open safe components arc? norescuer workqueues refused fault item flush flushwq flush? flushwq?'
-            codes+=' ordered'
+            codes+=' open safe components arc? norescuer ways workqueues refused fault item flush flushwq flush?'
+            codes+=' flushwq? ordered'
             mapfile -t COMPREPLY < <(compgen -W "$codes" -- "$word")
             # The blank of `not lawful` belongs to the word.
             COMPREPLY=("${COMPREPLY[@]// /\\ }")
