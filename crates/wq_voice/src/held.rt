@@ -26,7 +26,7 @@ use crate::unsure::{line_of, of_idle, sure_note, undecided_note};
 use crate::waits::{Wording, home_words};
 use std::alloc::{AllocError, Allocator};
 use wq_cert::has_unsure;
-use wq_circles::held_circles;
+use wq_circles::{HeldCircles, held_circles};
 use wq_core::Assigned;
 use wq_deadlock::is_on_bare;
 use wq_diagnosis::{Source, item_words, workqueue_of};
@@ -242,14 +242,17 @@ fn of_named<A: Allocator + Copy>(
     subject: &Subject<'_, '_, '_, A>,
     named: &[ItemId],
 ) -> Result<Vec<u8, A>, AllocError> {
-    let held = held_circles(alloc, subject.assigned, named)?;
-    let mut waits = held.waits;
-    waits.extend_from_slice(held.ways.as_slice())?;
+    let HeldCircles {
+        components,
+        mut waits,
+        ways,
+    } = held_circles(alloc, subject.assigned, named)?;
+    waits.extend_from_slice(ways.as_slice())?;
     of_idle(
         alloc,
         subject,
         messages::TO_WHAT_IS_NAMED,
-        held.components.as_slice(),
+        components.as_slice(),
         waits.as_slice(),
     )
 }
