@@ -131,7 +131,7 @@ fn lanes_of<A: Allocator>(
 }
 
 /// Whether each item of a group that has a workqueue is marked.
-fn are_whole<A: Allocator>(
+fn are_whole<A: Allocator + Copy>(
     stood: &[bool],
     lane_of_group: &[Option<LaneId>],
     groups: &Groups<A>,
