@@ -66,3 +66,20 @@ ChecksOn s f text found end out =
 abbrev pub ChecksTexts : Declared → List ℕ → List ℕ → Found (Result YesAround NoAround) → End → List ℕ → Type 0
 ChecksTexts s text fixed =
     AnswersIn ThirdText (fixed_of_text s.table.names s.partition fixed) (λ f. ChecksOn s f text)
+
+-- ---- the answer alone
+
+-- the answer to the text of a certificate around these workqueues
+abbrev pub ChecksFixed : Declared → Fixed → List ℕ → End → List ℕ → Type 0
+ChecksFixed s f text end out =
+    (found : Found (Result YesAround NoAround)) × ChecksOn s f text found end out
+
+-- the answer to the texts of a declaration, of a certificate and of fixed workqueues: a refusal of the declaration comes
+-- first, and next one of the fixed workqueues
+abbrev pub ChecksAround : List ℕ → List ℕ → List ℕ → End → List ℕ → Type 0
+ChecksAround declared text fixed end out =
+    MatchResult (declaration declared)
+    (λ s. MatchResult (fixed_of_text s.table.names s.partition fixed)
+    (λ f. ChecksFixed s f text end out)
+    (λ fault. PrintsRefusal (cert_refusal fault) end out))
+    (λ r. PrintsRefusal r end out)

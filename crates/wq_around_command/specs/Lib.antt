@@ -4,3 +4,4 @@ pub use Rattle.wq_checker.specs.Around
 pub mod Planning
 pub mod Checking
 pub mod Promise
+pub mod Saying

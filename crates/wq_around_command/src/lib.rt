@@ -9,6 +9,7 @@ mod check;
 mod checking;
 mod plan;
 mod planning;
+mod saying;
 
 pub use check::CheckAroundCommand;
 pub use plan::PlanAroundCommand;
