@@ -1,0 +1,3 @@
+pub mod StartLanes
+pub mod Kept
+pub mod Fewest
