@@ -7,8 +7,9 @@
 //! With v vertices, w waits and n vertices asked about this takes time in (v + w) * (n / 256 + 1), and memory in v + w.
 
 use crate::bits::{Numbers, empty_sets};
-use crate::vertex_lists::VertexLists;
+use crate::vertex_lists::{Filling, VertexLists, count_one};
 use std::alloc::{AllocError, Allocator};
+use wq_graph::WaitGraph;
 
 /// How many words a row has.
 const WORDS: usize = 4;
@@ -27,20 +28,44 @@ pub(crate) struct Parts<A: Allocator> {
 }
 
 impl<A: Allocator + Copy> Parts<A> {
-    /// Of this many vertices each is a part of its own.
-    pub(crate) fn new(alloc: A, vertices: usize) -> Result<Self, AllocError> {
-        let mut part_of = Vec::with_capacity(alloc, vertices)?;
-        let mut vertex: u16 = 0;
-        for _ in 0..vertices {
-            part_of.push(vertex)?;
-            vertex = vertex.wrapping_add(1);
-        }
+    /// The parts of these vertices. A part has the number of one of its vertices.
+    pub(crate) fn new(part_of: Vec<u16, A>) -> Self {
+        Parts { part_of }
+    }
+
+    /// The same parts.
+    pub(crate) fn copy(&self, alloc: A) -> Result<Self, AllocError> {
+        let mut part_of = Vec::new(alloc);
+        part_of.extend_from_slice(&self.part_of)?;
         Ok(Parts { part_of })
     }
 
-    /// For each vertex its part.
-    pub(crate) fn part_of(&self) -> &[u16] {
-        self.part_of.as_slice()
+    /// How many vertices there are.
+    pub(crate) fn len(&self) -> usize {
+        self.part_of.len()
+    }
+
+    /// For each part those for which its vertices wait.
+    pub(crate) fn waits(
+        &self,
+        alloc: A,
+        graph: &WaitGraph<A>,
+    ) -> Result<VertexLists<A>, AllocError> {
+        let mut counts = vec![in alloc; 0u32; self.part_of.len()]?;
+        for vertex in 0..graph.vertices() {
+            let part = self.part(vertex);
+            for _ in graph.arcs(vertex) {
+                count_one(counts.as_mut_slice(), part);
+            }
+        }
+        let mut waits = Filling::new(alloc, counts.as_slice())?;
+        for vertex in 0..graph.vertices() {
+            let part = self.part(vertex);
+            for arc in graph.arcs(vertex) {
+                waits.put(part, self.part(arc.head));
+            }
+        }
+        Ok(waits.lists())
     }
 
     /// The part of a vertex.
@@ -51,7 +76,7 @@ impl<A: Allocator + Copy> Parts<A> {
         }
     }
 
-    /// Makes these vertices one part. Each was a part of its own.
+    /// Makes these vertices one part, that of the first. Each of the others was alone.
     pub(crate) fn unite(&mut self, vertices: &[u16]) {
         let Some(first) = vertices.first() else {
             return;
@@ -63,30 +88,23 @@ impl<A: Allocator + Copy> Parts<A> {
         }
     }
 
-    /// For each vertex a height that falls along all waits, the same for the vertices of a part. `targets` has for each
-    /// part those for which it waits.
-    pub(crate) fn heights(
-        &self,
-        alloc: A,
-        targets: &VertexLists<A>,
-    ) -> Result<Vec<u16, A>, AllocError> {
+    /// For each vertex the rank of its part: how many waits there are on a longest chain from it.
+    pub(crate) fn ranks(&self, alloc: A, graph: &WaitGraph<A>) -> Result<Vec<u16, A>, AllocError> {
+        let waits = self.waits(alloc, graph)?;
+        let downwards = downwards(alloc, &waits)?;
         let mut of_parts = vec![in alloc; 0u16; self.part_of.len()]?;
-        let mut height = u16::MAX;
-        for part in &downwards(alloc, targets)? {
-            if let Some(own) = of_parts.get_mut(usize::from(*part)) {
-                *own = height;
+        for place in (0..downwards.len()).rev() {
+            let part = downwards[place];
+            let rank = rank_above(of_parts.as_slice(), waits.of(part));
+            if let Some(own) = of_parts.get_mut(usize::from(part)) {
+                *own = rank;
             }
-            height = height.saturating_sub(1);
         }
-        let mut heights = Vec::with_capacity(alloc, self.part_of.len())?;
+        let mut ranks = Vec::with_capacity(alloc, self.part_of.len())?;
         for part in &self.part_of {
-            let height = match of_parts.get(usize::from(*part)) {
-                Some(height) => *height,
-                None => 0,
-            };
-            heights.push(height)?;
+            ranks.push(rank_of(of_parts.as_slice(), *part))?;
         }
-        Ok(heights)
+        Ok(ranks)
     }
 
     /// For each part which of these vertices, at most 256, lead to it or are in it. `targets` has for each part those
@@ -183,6 +201,23 @@ pub(crate) fn downwards<A: Allocator + Copy>(
         }
     }
     Ok(free)
+}
+
+/// The rank of a part.
+fn rank_of(ranks: &[u16], part: u16) -> u16 {
+    match ranks.get(usize::from(part)) {
+        Some(rank) => *rank,
+        None => 0,
+    }
+}
+
+/// The rank of a part that waits for these.
+fn rank_above(ranks: &[u16], targets: &[u16]) -> u16 {
+    let mut rank: u16 = 0;
+    for target in targets {
+        rank = rank.max(rank_of(ranks, *target).saturating_add(1));
+    }
+    rank
 }
 
 /// The row of a part.
