@@ -4,10 +4,21 @@ use Rattle.std.specs.Prelude.{◌↔◌, ◌⊎◌, Contains, AllPairs}
 use Rattle.std.proofs.lemmas.List.Elements.{Contains-get_or, Contains-push, Contains-push_cases, Contains-append_left}
 use Rattle.std.proofs.lemmas.List.Quantifiers.{all_pairs_push}
 use Rattle.std.proofs.Math.ListN.{length-set, length-replicate}
-use Rattle.std.proofs.lemmas.List.{get_or-replicate, get_or_push, get_or_append_left}
-use Rattle.std.proofs.lemmas.Bool.{cases_eq, false≢true}
+use Rattle.std.proofs.lemmas.List.{get_or-replicate, get_or_push, get_or_append_left, get_or_past}
+use Rattle.std.proofs.lemmas.Bool.{cases_eq, cases_lt, cases_Bool, false≢true}
 use Rattle.wq_repair.specs.Marks.{IsMarked, Marks}
 use Rattle.wq_repair.specs.Together.{Lists}
+
+-- a mark is within the list
+pub IsMarked-below : (marks : List Bool) (k : ℕ) → IsMarked marks k → k < length marks
+IsMarked-below marks k marked = elim (cases_lt k (length marks)) [
+  | inl lt ↦ lt
+  | inr past ↦ absurd (false≢true (sym (get_or_past marks k false past) ∙ marked))
+]
+
+-- a list says so, or doesn't
+pub cases_marked : (marks : List Bool) (k : ℕ) → IsMarked marks k ⊎ (¬ IsMarked marks k)
+cases_marked marks k = elim (cases_Bool (get_or marks k false)) [ inl is ↦ inl is | inr not ↦ inr (λ is. false≢true (sym not ∙ is)) ]
 
 -- the same said in other words
 pub Marks-as : (P Q : ℕ → Type 0) (n : ℕ) (xs : List Bool) → ((k : ℕ) → k < n → P k ↔ Q k) → Marks P n xs → Marks Q n xs

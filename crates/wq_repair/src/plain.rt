@@ -3,7 +3,7 @@
 //! It is made if the choice of `wq_choice` is wrong. For each group that may stay the graph of all is ranked anew, so
 //! with g groups and w waits it takes time in g * (g + w), and memory in g + w.
 
-ghost use Rattle.std.specs.Prelude.{◌≡◌, ◌+◌, ◌<◌, ◌≤◌, ℕ, Bool, List, length, slice_index, IfOk, IfSome, IfNone};
+ghost use Rattle.std.specs.Prelude.{◌≡◌, ◌+◌, ◌<◌, ◌≤◌, ℕ, Bool, List, true, length, slice_index, slice_set, IfOk, IfSome, IfNone};
 ghost use Rattle.std.specs.List.{All};
 ghost use Rattle.wq_groups.specs.DeclaredGroups.{declared_waits};
 ghost use Rattle.wq_items.specs.Chain.{Circle};
@@ -131,6 +131,21 @@ fn ranks_of_start<A: Allocator + Copy>(
     }
 }
 
+/// These groups and another one.
+fn with_group<A: Allocator + Copy>(
+    alloc: A,
+    groups: &[bool],
+    group: u16,
+) -> Result<Vec<bool, A>, AllocError>
+    requires { group < length groups.now }
+    ensures { IfOk result (λ more. more.items ≡ slice_set groups.now group true) }
+{
+    let mut more = Vec::new(alloc);
+    more.extend_from_slice(groups)?;
+    more[usize::from(group)] = true;
+    Ok(more)
+}
+
 /// Lets a group stay with those of its lane that stay, if that makes no circle.
 fn try_beside<A: Allocator + Copy>(
     alloc: A,
@@ -151,13 +166,15 @@ fn try_beside<A: Allocator + Copy>(
         IsSettled graph assignment.now fixed tried group settled.old →
         IsSettled graph assignment.now fixed tried (group + 1) settled.new) }
 {
-    let at = usize::from(group);
-    settled.stays[at] = true;
-    match ranks_if(alloc, start, assignment, needed, settled.stays.as_slice())? {
-        Some(ranks) => settled.ranks = ranks,
-        None => settled.stays[at] = false,
+    let stays = with_group(alloc, settled.stays.as_slice(), group)?;
+    match ranks_if(alloc, start, assignment, needed, stays.as_slice())? {
+        Some(ranks) => {
+            settled.stays = stays;
+            settled.ranks = ranks;
+            Ok(())
+        }
+        None => Ok(()),
     }
-    Ok(())
 }
 
 /// Lets a group stay, if that makes no circle: it makes none if no group stays on its lane yet.

@@ -104,6 +104,7 @@ fn settled<A: Allocator + Copy, C: Chooser<A>>(
     requires tried { Marks (IsTried old.now scope.now) start.now.declared.partition.groups tried.now }
     ensures { IfOk result (IsSettledIn (declared_waits start.now.declared) old.now scope.now tried.now) }
 {
+    let _few = workqueues_of(start);
     let assignment = old.assignment();
     let graph = graph_of_needed(alloc, start, scope.needed.as_slice())?;
     let fixed = but_not(alloc, scope.needed.as_slice(), scope.movable.as_slice())?;
@@ -140,16 +141,17 @@ fn repaired_from<A: Allocator + Copy, C: Chooser<A>>(
         IsReady (declared_waits start.now.declared) old.now names scope.now start.now.workqueues →
         IsMinimal (declared_waits start.now.declared) old.now names scope.now.needed new) }
 {
+    let _few = workqueues_of(start);
     let tried = tried_groups(alloc, old, scope)?;
-    let settled = settled(alloc, chooser, old, start, scope, tried.as_slice())?;
-    let leaves = but_not(alloc, scope.movable.as_slice(), settled.stays.as_slice())?;
+    let all = settled(alloc, chooser, old, start, scope, tried.as_slice())?;
+    let leaves = but_not(alloc, scope.movable.as_slice(), all.stays.as_slice())?;
     place(
         alloc,
         old,
         scope.given.as_slice(),
-        settled.stays.as_slice(),
+        all.stays.as_slice(),
         leaves.as_slice(),
-        settled.ranks.as_slice(),
+        all.ranks.as_slice(),
         usize::from(RANKS),
         scope.movable.as_slice(),
     )
