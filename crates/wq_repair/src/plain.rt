@@ -166,6 +166,7 @@ fn try_beside<A: Allocator + Copy>(
         IsSettled graph assignment.now fixed tried group settled.old →
         IsSettled graph assignment.now fixed tried (group + 1) settled.new) }
 {
+    let _few = workqueues_of(start);
     let stays = with_group(alloc, settled.stays.as_slice(), group)?;
     match ranks_if(alloc, start, assignment, needed, stays.as_slice())? {
         Some(ranks) => {

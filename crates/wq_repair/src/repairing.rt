@@ -116,8 +116,9 @@ fn settled<A: Allocator + Copy, C: Chooser<A>>(
         scope.movable.as_slice(),
         tried,
     )?;
+    let stays = with_chosen(alloc, fixed.as_slice(), tried, choice.stays.as_slice())?;
     let chosen = Settled {
-        stays: with_chosen(alloc, fixed.as_slice(), tried, choice.stays.as_slice())?,
+        stays,
         ranks: choice.ranks,
     };
     if is_settled(alloc, &graph, assignment, fixed.as_slice(), tried, &chosen)? {
