@@ -1,9 +1,10 @@
 -- Homes of lanes, and the vertices of groups that stay there.
 use Rattle.std.proofs.Common.{◌≡◌, ◌≢◌, ℕ, ◌+◌, ◌<◌, ◌⊎◌, inl, inr, Bool, List, [], ◌∷◌, ◌++◌, length, get_or, set, replicate, refl, sym, ap, subst, ◌∙◌, arith, get_or-set_same, get_or-set_other, length-append}
 use Rattle.std.specs.Prelude.{Option, Some, None, slice_index, slice_index_or}
+use Rattle.std.specs.List.{All}
 use Rattle.std.proofs.Math.ListN.{length-set, length-replicate}
 use Rattle.std.proofs.lemmas.Bool.{cases_eq, cases_lt}
-use Rattle.std.proofs.lemmas.List.{get_or-replicate, get_or_past, get_or_push, get_or_append_left}
+use Rattle.std.proofs.lemmas.List.{get_or-replicate, get_or_default, get_or_past, get_or_push, get_or_append_left}
 use Rattle.wq_groups.specs.Assignment.{Assignment, group_lane}
 use Rattle.wq_repair.specs.Marks.{IsMarked}
 use Rattle.wq_repair.specs.Settled.{IsHomeOf, AreHomes, AreVertices}
@@ -113,6 +114,9 @@ module _ (old : Assignment) (stays : List Bool) (homes : List (Option ℕ)) (at 
     | inl marked ↦ IsMarked-below stays (slice_index at g) (home_is g marked).0
     | inr not ↦ omega (arith, is, are.alone g is not)
   ]
+
+  pub vertices-within : All (λ (v : ℕ). v < length stays) at
+  vertices-within k e lt = subst (λ (x : ℕ). x < length stays) (get_or_default at k 0 e lt) (vertex_below k (omega (arith, lt, are.one_each)))
 
   -- two groups are at one vertex only if both stay on one lane
   pub apart : (g h : ℕ) → g < length stays → h < length stays → slice_index at g ≡ slice_index at h

@@ -29,7 +29,7 @@ use Rattle.wq_repair.proofs.Marks.{IsMarked-below, cases_marked}
 use Rattle.wq_repair.proofs.Homes.{home_is, vertex_below, apart, together}
 
 -- an arc leaves a vertex that is there
-arc-from : (graph : List (List WaitArc)) (v w : ℕ) → HasArc graph v w → v < length graph
+pub arc-from : (graph : List (List WaitArc)) (v w : ℕ) → HasArc graph v w → v < length graph
 arc-from graph v w arc = elim (cases_lt v (length graph)) [
   | inl lt ↦ lt
   | inr past ↦ absurd (omega (arith, arc.2, ap (λ (xs : List WaitArc). length xs) (get_or_past graph v [] past)))

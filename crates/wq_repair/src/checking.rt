@@ -5,7 +5,7 @@
 //! rank, and each group that could stay and doesn't reaches the home of its lane, or is reached by it (`near`): with it
 //! at the home that is a circle.
 
-ghost use Rattle.std.specs.Prelude.{◌≡◌, ◌<◌, ◌≤◌, ℕ, length, slice_index, IfOk, IsTrue};
+ghost use Rattle.std.specs.Prelude.{◌≡◌, ◌<◌, ◌≤◌, ℕ, Bool, List, length, slice_index, IfOk, IsTrue};
 ghost use Rattle.std.specs.List.{All, Any};
 ghost use Rattle.wq_groups.specs.Assignment.{group_lane};
 ghost use Rattle.wq_repair.specs.Marks.{IsMarked};
@@ -186,42 +186,63 @@ fn are_in_vain<A: Allocator + Copy>(
     Ok(are_among(groups, near.as_slice()))
 }
 
+/// Whether a choice is right, where `homes` has the home of each lane and `vertices` the vertex of each group.
+fn is_right<A: Allocator + Copy>(
+    alloc: A,
+    graph: &WaitGraph<A>,
+    assignment: &Assignment<A>,
+    tried: &[bool],
+    stays: &[bool],
+    ranks: &[u16],
+    homes: &[Option<u16>],
+    vertices: &[u16],
+) -> Result<bool, AllocError>
+    requires assigned { length assignment.now.lane_of_group ≡ length graph.now }
+    requires tried { length tried.now ≡ length graph.now }
+    requires stays { length stays.now ≡ length graph.now }
+    requires homes { AreHomes assignment.now stays.now homes.now }
+    requires vertices { AreVertices assignment.now stays.now homes.now vertices.now }
+    ensures { IfOk result (λ is. IsTrue is → (fixed : List Bool) → IsWithin fixed tried.now stays.now →
+        IsSettled graph.now assignment.now fixed tried.now (length graph.now)
+        (record { stays = stays.now; ranks = ranks.now })) }
+{
+    // There are at most 4,096 groups.
+    let _groups = graph.vertices();
+    if !have_ranks(graph, vertices, ranks) {
+        return Ok(false);
+    }
+    let vain = but_not(alloc, tried, stays)?;
+    are_in_vain(alloc, graph, assignment, homes, vertices, ranks, vain.as_slice())
+}
+
 /// Whether a choice is right: no group that may stay (`tried`) and doesn't could, and ranks fall along all waits.
 pub(crate) fn is_settled<A: Allocator + Copy>(
     alloc: A,
     graph: &WaitGraph<A>,
     assignment: &Assignment<A>,
-    fixed: &[bool],
     tried: &[bool],
-    settled: &Settled<A>,
+    stays: &[bool],
+    ranks: &[u16],
 ) -> Result<bool, AllocError>
     requires assigned { length assignment.now.lane_of_group ≡ length graph.now }
     requires tried { length tried.now ≡ length graph.now }
-    requires within { IsWithin fixed.now tried.now settled.now.stays }
-    requires stays { length settled.now.stays ≡ length graph.now }
-    ensures { IfOk result (λ is. IsTrue is →
-        IsSettled graph.now assignment.now fixed.now tried.now (length graph.now) settled.now) }
+    requires stays { length stays.now ≡ length graph.now }
+    ensures { IfOk result (λ is. IsTrue is → (fixed : List Bool) → IsWithin fixed tried.now stays.now →
+        IsSettled graph.now assignment.now fixed tried.now (length graph.now)
+        (record { stays = stays.now; ranks = ranks.now })) }
 {
     // There are at most 4,096 groups.
     let _groups = graph.vertices();
-    let homes = homes_of(alloc, assignment, settled.stays.as_slice())?;
-    let vertices = vertices_of(
-        alloc,
-        assignment,
-        settled.stays.as_slice(),
-        homes.as_slice(),
-    )?;
-    if !have_ranks(graph, vertices.as_slice(), settled.ranks.as_slice()) {
-        return Ok(false);
-    }
-    let vain = but_not(alloc, tried, settled.stays.as_slice())?;
-    are_in_vain(
+    let homes = homes_of(alloc, assignment, stays)?;
+    let vertices = vertices_of(alloc, assignment, stays, homes.as_slice())?;
+    is_right(
         alloc,
         graph,
         assignment,
+        tried,
+        stays,
+        ranks,
         homes.as_slice(),
         vertices.as_slice(),
-        settled.ranks.as_slice(),
-        vain.as_slice(),
     )
 }

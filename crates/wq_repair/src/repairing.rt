@@ -117,12 +117,16 @@ fn settled<A: Allocator + Copy, C: Chooser<A>>(
         tried,
     )?;
     let stays = with_chosen(alloc, fixed.as_slice(), tried, choice.stays.as_slice())?;
-    let chosen = Settled {
-        stays,
-        ranks: choice.ranks,
-    };
-    if is_settled(alloc, &graph, assignment, fixed.as_slice(), tried, &chosen)? {
-        Ok(chosen)
+    let ranks = choice.ranks;
+    if is_settled(
+        alloc,
+        &graph,
+        assignment,
+        tried,
+        stays.as_slice(),
+        ranks.as_slice(),
+    )? {
+        Ok(Settled { stays, ranks })
     } else {
         settle(alloc, start, old, scope, fixed.as_slice(), tried)
     }

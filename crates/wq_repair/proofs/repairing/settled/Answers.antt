@@ -1,9 +1,10 @@
 use Rattle.std.proofs.Common.{◌≡◌, ◌<◌, ℕ, Bool, List, length, sym, ap, subst, ◌∙◌, arith}
+use Rattle.std.proofs.lemmas.Result.{IfOk-weaker}
 use Rattle.wq_groups.specs.DeclaredGroups.{declared_waits}
 use Rattle.wq_groups.specs.Assignment.{Assignment}
 use Rattle.wq_repair.specs.Marks.{Marks}
-use Rattle.wq_repair.specs.Settled.{IsSettled, IsWithin}
-use Rattle.wq_repair.specs.Ready.{Scope, IsButNot, IsGraphOfNeeded}
+use Rattle.wq_repair.specs.Settled.{Settled, IsSettled, IsWithin}
+use Rattle.wq_repair.specs.Ready.{Scope, IsButNot, IsGraphOfNeeded, IsTried}
 use Rattle.wq_repair.proofs.RepairedBy.{Marks-but_not, graph-by, IsTrial-ready}
 use Rattle.wq_repair.proofs.repairing.settled.Goals as goal
 
@@ -26,31 +27,13 @@ with_chosen-requires g c =
 
 pub is_settled-requires-clause-assigned : goal.is_settled-requires-clause-assigned
 is_settled-requires-clause-assigned g c =
-    let d = declared_waits c.args.start.now.declared in
-    let s = c.args.scope.now in
-    let ready = c.requires.ready.1 in
-    let fixed = c.in_ok-fixed.fixed.items in
-    let are_fixed : Marks (IsButNot s.needed s.movable) d.groups fixed = Marks-but_not s.needed s.movable c.as_slice-2.result.now c.as_slice-3.result.now fixed d.groups
-    (c.as_slice-2.ensures.value ∙ ap (λ (x : Scope). x.needed) c.scope.view_is)
-    (c.as_slice-3.ensures.value ∙ ap (λ (x : Scope). x.movable) c.scope.view_is) ready.one_each c.in_ok-fixed.ensures in
-    let of : IsGraphOfNeeded d s.needed c.in_ok-graph.graph = graph-by c.workqueues_of-few.ensures.declaration ready.one_each c.scope.view_is c.as_slice.ensures.value c.in_ok-graph.ensures in
-    ap (λ (a : Assignment). length a.lane_of_group) c.assignment-assignment.ensures ∙ ready.assignment.one_each ∙ sym of.long
+    let of : IsGraphOfNeeded (declared_waits c.args.start.now.declared) c.args.scope.now.needed c.in_ok-graph.graph = graph-by c.workqueues_of-few.ensures.declaration c.requires.ready.1.one_each c.scope.view_is c.as_slice.ensures.value c.in_ok-graph.ensures in
+    ap (λ (a : Assignment). length a.lane_of_group) c.assignment-assignment.ensures ∙ c.requires.ready.1.assignment.one_each ∙ sym of.long
 
 pub is_settled-requires-clause-tried : goal.is_settled-requires-clause-tried
 is_settled-requires-clause-tried g c =
-    let d = declared_waits c.args.start.now.declared in
-    let s = c.args.scope.now in
-    let ready = c.requires.ready.1 in
-    let fixed = c.in_ok-fixed.fixed.items in
-    let are_fixed : Marks (IsButNot s.needed s.movable) d.groups fixed = Marks-but_not s.needed s.movable c.as_slice-2.result.now c.as_slice-3.result.now fixed d.groups
-    (c.as_slice-2.ensures.value ∙ ap (λ (x : Scope). x.needed) c.scope.view_is)
-    (c.as_slice-3.ensures.value ∙ ap (λ (x : Scope). x.movable) c.scope.view_is) ready.one_each c.in_ok-fixed.ensures in
-    let of : IsGraphOfNeeded d s.needed c.in_ok-graph.graph = graph-by c.workqueues_of-few.ensures.declaration ready.one_each c.scope.view_is c.as_slice.ensures.value c.in_ok-graph.ensures in
+    let of : IsGraphOfNeeded (declared_waits c.args.start.now.declared) c.args.scope.now.needed c.in_ok-graph.graph = graph-by c.workqueues_of-few.ensures.declaration c.requires.ready.1.one_each c.scope.view_is c.as_slice.ensures.value c.in_ok-graph.ensures in
     c.requires.tried.one_each ∙ sym of.long
-
-pub is_settled-requires-clause-within : goal.is_settled-requires-clause-within
-is_settled-requires-clause-within g c =
-    subst (λ (xs : List Bool). IsWithin xs c.args.tried.now c.in_ok-stays.stays.items) (c.as_slice-6.ensures.value ∙ sym c.as_slice-8.ensures.value) c.in_ok-stays.ensures.within
 
 pub is_settled-requires-clause-stays : goal.is_settled-requires-clause-stays
 is_settled-requires-clause-stays g c =
@@ -62,7 +45,7 @@ is_settled-requires-clause-stays g c =
     (c.as_slice-2.ensures.value ∙ ap (λ (x : Scope). x.needed) c.scope.view_is)
     (c.as_slice-3.ensures.value ∙ ap (λ (x : Scope). x.movable) c.scope.view_is) ready.one_each c.in_ok-fixed.ensures in
     let of : IsGraphOfNeeded d s.needed c.in_ok-graph.graph = graph-by c.workqueues_of-few.ensures.declaration ready.one_each c.scope.view_is c.as_slice.ensures.value c.in_ok-graph.ensures in
-    c.in_ok-stays.ensures.one_each ∙ ap length c.as_slice-6.ensures.value ∙ are_fixed.one_each ∙ sym of.long
+    ap length c.as_slice-8.ensures.value ∙ c.in_ok-stays.ensures.one_each ∙ ap length c.as_slice-6.ensures.value ∙ are_fixed.one_each ∙ sym of.long
 
 pub settle-requires-clause-fixed : goal.settle-requires-clause-fixed
 settle-requires-clause-fixed g c =
@@ -73,7 +56,7 @@ settle-requires-clause-fixed g c =
     let are_fixed : Marks (IsButNot s.needed s.movable) d.groups fixed = Marks-but_not s.needed s.movable c.as_slice-2.result.now c.as_slice-3.result.now fixed d.groups
     (c.as_slice-2.ensures.value ∙ ap (λ (x : Scope). x.needed) c.scope.view_is)
     (c.as_slice-3.ensures.value ∙ ap (λ (x : Scope). x.movable) c.scope.view_is) ready.one_each c.in_ok-fixed.ensures in
-    subst (Marks (IsButNot s.needed s.movable) d.groups) (sym c.as_slice-9.ensures.value) are_fixed
+    subst (Marks (IsButNot s.needed s.movable) d.groups) (sym c.as_slice-10.ensures.value) are_fixed
 
 pub settle-requires-clause-tried : goal.settle-requires-clause-tried
 settle-requires-clause-tried g c = c.requires.tried.one_each
@@ -88,11 +71,38 @@ returns-then-branch g c =
     (c.as_slice-2.ensures.value ∙ ap (λ (x : Scope). x.needed) c.scope.view_is)
     (c.as_slice-3.ensures.value ∙ ap (λ (x : Scope). x.movable) c.scope.view_is) ready.one_each c.in_ok-fixed.ensures in
     let of : IsGraphOfNeeded d s.needed c.in_ok-graph.graph = graph-by c.workqueues_of-few.ensures.declaration ready.one_each c.scope.view_is c.as_slice.ensures.value c.in_ok-graph.ensures in
+    let graph = c.in_ok-graph.graph in
+    let tried = c.args.tried.now in
+    let within : IsWithin fixed tried c.as_slice-8.result.now =
+    subst (IsWithin fixed tried) (sym c.as_slice-8.ensures.value)
+    (subst (λ (xs : List Bool). IsWithin xs tried c.in_ok-stays.stays.items) c.as_slice-6.ensures.value c.in_ok-stays.ensures.within) in
+    let settled = c.in_ok-is_settled.ensures c.if-branch.true fixed within in
     record {
-      graph = c.in_ok-graph.graph;
-      fixed = c.as_slice-8.result.now;
+      graph = graph;
+      fixed = fixed;
       of = of;
-      are_fixed = subst (Marks (IsButNot s.needed s.movable) d.groups) (sym c.as_slice-8.ensures.value) are_fixed;
-      settled = subst (λ (a : Assignment). IsSettled c.in_ok-graph.graph a c.as_slice-8.result.now c.args.tried.now (length c.in_ok-graph.graph) c.chosen.view) c.assignment-assignment.ensures
-          (c.in_ok-is_settled.ensures c.if-branch.true);
+      are_fixed = are_fixed;
+      settled =
+          subst (λ (xs : List Bool). IsSettled graph c.args.old.now.assignment fixed tried (length graph) (record { stays = xs; ranks = c.in_ok-choice.choice.ranks.items })) c.as_slice-8.ensures.value
+          (subst (λ (rs : List ℕ). IsSettled graph c.args.old.now.assignment fixed tried (length graph) (record { stays = c.as_slice-8.result.now; ranks = rs })) c.as_slice-9.ensures.value
+          (subst (λ (a : Assignment). IsSettled graph a fixed tried (length graph) (record { stays = c.as_slice-8.result.now; ranks = c.as_slice-9.result.now })) c.assignment-assignment.ensures settled));
     }
+
+pub returns-else-branch : goal.returns-else-branch
+returns-else-branch g c =
+    let d = declared_waits c.args.start.now.declared in
+    let s = c.args.scope.now in
+    let ready = c.requires.ready.1 in
+    let fixed = c.in_ok-fixed.fixed.items in
+    let are_fixed : Marks (IsButNot s.needed s.movable) d.groups fixed = Marks-but_not s.needed s.movable c.as_slice-2.result.now c.as_slice-3.result.now fixed d.groups
+    (c.as_slice-2.ensures.value ∙ ap (λ (x : Scope). x.needed) c.scope.view_is)
+    (c.as_slice-3.ensures.value ∙ ap (λ (x : Scope). x.movable) c.scope.view_is) ready.one_each c.in_ok-fixed.ensures in
+    let of : IsGraphOfNeeded d s.needed c.in_ok-graph.graph = graph-by c.workqueues_of-few.ensures.declaration ready.one_each c.scope.view_is c.as_slice.ensures.value c.in_ok-graph.ensures in
+    IfOk-weaker c.settle.result _ _ (λ settled all. record {
+      graph = c.in_ok-graph.graph;
+      fixed = c.as_slice-10.result.now;
+      of = of;
+      are_fixed = subst (Marks (IsButNot s.needed s.movable) d.groups) (sym c.as_slice-10.ensures.value) are_fixed;
+      settled = all c.in_ok-graph.graph (IsTrial-ready c.workqueues_of-few.ensures.declaration ready c.requires.tried of
+          (subst (Marks (IsButNot s.needed s.movable) d.groups) (sym c.as_slice-10.ensures.value) are_fixed));
+    }) c.settle.ensures
