@@ -1,6 +1,6 @@
 -- Homes of lanes, and the vertices of groups that stay there.
 use Rattle.std.proofs.Common.{◌≡◌, ◌≢◌, ℕ, ◌+◌, ◌<◌, ◌⊎◌, inl, inr, Bool, List, [], ◌∷◌, ◌++◌, length, get_or, set, replicate, refl, sym, ap, subst, ◌∙◌, arith, get_or-set_same, get_or-set_other, length-append}
-use Rattle.std.specs.Prelude.{Option, Some, None, slice_index, slice_index_or}
+use Rattle.std.specs.Prelude.{Option, Some, None, IfNone, slice_index, slice_index_or}
 use Rattle.std.specs.List.{All}
 use Rattle.std.proofs.Math.ListN.{length-set, length-replicate}
 use Rattle.std.proofs.lemmas.Bool.{cases_eq, cases_lt}
@@ -13,6 +13,10 @@ use Rattle.wq_repair.proofs.Marks.{IsMarked-below, cases_marked}
 some_same : (a b : ℕ) → Some a ≡ Some b → a ≡ b
 some_same a b e = cc
 
+pub IfNone_then : {A : Type 0} (o : Option A) {P Q : Type 0} → IfNone o P → (P → Q) → IfNone o Q
+IfNone_then None holds weaker = weaker holds
+IfNone_then (Some a) holds weaker = holds
+
 -- no lane is a home
 pub no_home : (n : ℕ) (homes : List (Option ℕ)) → homes ≡ replicate n None → (q v : ℕ) → ¬ IsHomeOf homes q v
 no_home n homes is q v home =
@@ -22,6 +26,20 @@ no_home n homes is q v home =
     ] in
     let bad : None ≡ Some v = sym none ∙ home in
     absurd cc
+
+-- one more is asked for
+pub asked-cases : (xs : List (Option ℕ)) (o : Option ℕ) (n : ℕ) → length xs ≡ n → (k v : ℕ) → slice_index_or (xs ++ o ∷ []) k None ≡ Some v
+    → (slice_index_or xs k None ≡ Some v) ⊎ ((k ≡ n) × (o ≡ Some v))
+asked-cases xs o n long k v is = elim (cases_lt k (n + 1)) [
+  | inr past ↦
+      let none : slice_index_or (xs ++ o ∷ []) k None ≡ None = get_or_past (xs ++ o ∷ []) k None (omega (arith, past, length-append xs (o ∷ []), long)) in
+      let bad : None ≡ Some v = sym none ∙ is in
+      absurd cc
+  | inl lt ↦ elim (cases_eq k n) [
+    | inl last ↦ inr (last, sym (get_or_push xs o None n long) ∙ ap (λ (x : ℕ). slice_index_or (xs ++ o ∷ []) x None) (sym last) ∙ is)
+    | inr other ↦ inl (sym (get_or_append_left xs (o ∷ []) None k (omega (arith, lt, other, long))) ∙ is)
+  ]
+]
 
 -- the homes that the first n groups give their lanes
 pub record AreHomesBelow (old : Assignment) (stays : List Bool) (n : ℕ) (homes : List (Option ℕ)) : Type 0 where

@@ -201,11 +201,12 @@ fn try_group<A: Allocator + Copy>(
     let _lanes = assignment.lanes();
     let homes = homes_of(alloc, assignment, settled.stays.as_slice())?;
     let lane = assignment.lane(GroupId::new(group)).get();
-    if homes[usize::from(lane)].is_none() {
-        settled.stays[usize::from(group)] = true;
-        Ok(())
-    } else {
-        try_beside(alloc, start, assignment, needed, settled, group)
+    match homes[usize::from(lane)] {
+        Some(_) => try_beside(alloc, start, assignment, needed, settled, group),
+        None => {
+            settled.stays[usize::from(group)] = true;
+            Ok(())
+        }
     }
 }
 

@@ -5,7 +5,8 @@
 //! `wq_choice` says, if it is right (`checking`), and else as many as a plain loop finds (`plain`). The others go to
 //! lanes of their rank.
 
-ghost use Rattle.std.specs.Prelude.{◌≡◌, ◌<◌, ◌≤◌, ℕ, List, length, map, not, slice_index, IfOk, OnErr, IfSome, IfNone};
+ghost use Rattle.std.specs.Prelude.{◌≡◌, ◌⊎◌, ◌<◌, ◌≤◌, ℕ, List, true, length, map, not, slice_index, IfOk, OnErr};
+ghost use Rattle.std.specs.Prelude.{IfSome, IfNone};
 ghost use Rattle.std.specs.List.{All};
 ghost use Rattle.wq_groups.specs.Declaration.{Declaration, IsDeclaration};
 ghost use Rattle.wq_groups.specs.DeclaredGroups.{declared_waits};
@@ -22,7 +23,6 @@ ghost use Rattle.wq_repair.specs.Repair.{IsAnswer, IsNeededCircle};
 use crate::answer::Answer;
 use crate::assigned::{graph_of_groups, judge_others, with_workqueues, workqueues_of};
 use crate::checking::{RANKS, Settled, is_settled};
-use crate::listing::either;
 use crate::named::{named_groups, named_lanes};
 use crate::needed::needed_groups;
 use crate::placing::place;
@@ -67,6 +67,22 @@ fn graph_of_needed<A: Allocator + Copy>(
     graph_of_groups(alloc, assigned)?.without(alloc, out.as_slice())
 }
 
+/// Whether a group is chosen.
+fn is_chosen(chosen: &[bool], group: usize) -> bool {
+    match chosen.get(group) {
+        Some(is_chosen) => *is_chosen,
+        None => false,
+    }
+}
+
+/// Whether a group stays: if it can't move, or may stay and is chosen.
+fn does_stay(is_fixed: bool, is_tried: bool, is_chosen: bool) -> bool
+    ensures kept { is_fixed ≡ true → result ≡ true }
+    ensures only { result ≡ true → (is_fixed ≡ true) ⊎ (is_tried ≡ true) }
+{
+    is_fixed || is_tried && is_chosen
+}
+
 /// The groups that stay: those that can't move, and of those that may stay the chosen ones.
 fn with_chosen<A: Allocator + Copy>(
     alloc: A,
@@ -80,11 +96,7 @@ fn with_chosen<A: Allocator + Copy>(
 {
     let mut stays = Vec::with_capacity(alloc, fixed.len())?;
     for (group, is_fixed) in fixed.iter().enumerate() {
-        let is_chosen = match chosen.get(group) {
-            Some(is_chosen) => *is_chosen,
-            None => false,
-        };
-        stays.push(either(*is_fixed, tried[group] && is_chosen))?;
+        stays.push(does_stay(*is_fixed, tried[group], is_chosen(chosen, group)))?;
     }
     Ok(stays)
 }
