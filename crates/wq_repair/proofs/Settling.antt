@@ -39,37 +39,37 @@ arc-from graph v w arc = elim (cases_lt v (length graph)) [
 module _ (graph : List (List WaitArc)) (sound : IsGraph graph) (old : Assignment) (stays : List Bool) (homes : List (Option ℕ)) (at : List ℕ)
     (long : length stays ≡ length graph) (are_homes : AreHomes old stays homes) (are : AreVertices old stays homes at)
     (g v : ℕ) (g_is : g < length stays) (out : ¬ IsMarked stays g) (home : IsHomeOf homes (group_lane old g) v) where
-  abbrev to : ℕ → ℕ
-  to x = become g v x
+  abbrev moved : ℕ → ℕ
+  moved x = become g v x
 
   abbrev new : List ℕ
-  new = map to at
+  new = map moved at
 
   v_is : IsMarked stays v × (group_lane old v ≡ group_lane old g)
   v_is = are_homes.on (group_lane old g) v home
 
-  to_g : to g ≡ v
+  to_g : moved g ≡ v
   to_g = ap (λ (b : Bool). if b then v else g) (eq-eqb g g refl)
 
-  to_other : (x : ℕ) → ¬ (x ≡ g) → to x ≡ x
+  to_other : (x : ℕ) → ¬ (x ≡ g) → moved x ≡ x
   to_other x other = elim (cases_Bool (x == g)) [
     | inl same ↦ absurd (other (eqb-true x g same))
     | inr not ↦ ap (λ (b : Bool). if b then v else x) not
   ]
 
-  to_v : to v ≡ v
+  to_v : moved v ≡ v
   to_v = to_other v (λ same. out (subst (IsMarked stays) same v_is.0))
 
-  new_of : (h : ℕ) → h < length stays → slice_index new h ≡ to (slice_index at h)
-  new_of h is = get_or-map to at h 0 0 (omega (arith, is, are.one_each))
+  new_of : (h : ℕ) → h < length stays → slice_index new h ≡ moved (slice_index at h)
+  new_of h is = get_or-map moved at h 0 0 (omega (arith, is, are.one_each))
 
-  keeps : (x y : ℕ) → ArcBetween graph at x y → ArcBetween graph new (to x) (to y)
+  keeps : (x y : ℕ) → ArcBetween graph at x y → ArcBetween graph new (moved x) (moved y)
   keeps x y between = record {
     from = between.from;
     to = between.to;
     arc = between.arc;
-    leaves = new_of between.from (omega (arith, arc-from graph between.from between.to between.arc, long)) ∙ ap to between.leaves;
-    leads = new_of between.to (omega (arith, HasArc-below graph sound between.from between.to between.arc, long)) ∙ ap to between.leads;
+    leaves = new_of between.from (omega (arith, arc-from graph between.from between.to between.arc, long)) ∙ ap moved between.leaves;
+    leads = new_of between.to (omega (arith, HasArc-below graph sound between.from between.to between.arc, long)) ∙ ap moved between.leads;
   }
 
   circle : LeadEitherWay graph at g v → Circle (ArcBetween graph new)
@@ -83,9 +83,6 @@ module _ (graph : List (List WaitArc)) (sound : IsGraph graph) (old : Assignment
     | inr not ↦ sym (are.alone h is not) ∙ same
   ]
 
-  at_g : (h : ℕ) → h ≡ g → slice_index at h ≡ g
-  at_g h same = ap (slice_index at) same ∙ are.alone g g_is out
-
   -- what is at the home stays on the lane
   at_home : (h : ℕ) → h < length stays → slice_index at h ≡ v → IsMarked stays h × (group_lane old h ≡ group_lane old g)
   at_home h is same = elim (cases_marked stays h) [
@@ -96,17 +93,17 @@ module _ (graph : List (List WaitArc)) (sound : IsGraph graph) (old : Assignment
   beside : (h k : ℕ) → h < length stays → k < length stays → slice_index new h ≡ slice_index new k
       → (h ≡ k) ⊎ (StaysOr stays g h × StaysOr stays g k × (group_lane old h ≡ group_lane old k))
   beside h k h_is k_is same =
-      let both : to (slice_index at h) ≡ to (slice_index at k) = sym (new_of h h_is) ∙ same ∙ new_of k k_is in
+      let both : moved (slice_index at h) ≡ moved (slice_index at k) = sym (new_of h h_is) ∙ same ∙ new_of k k_is in
       elim (cases_eq (slice_index at h) g) [
         | inl h_g ↦ elim (cases_eq (slice_index at k) g) [
           | inl k_g ↦ inl (only_g h h_is h_g ∙ sym (only_g k k_is k_g))
           | inr other ↦
-              let there = at_home k k_is (sym (to_other (slice_index at k) other) ∙ sym both ∙ ap to h_g ∙ to_g) in
+              let there = at_home k k_is (sym (to_other (slice_index at k) other) ∙ sym both ∙ ap moved h_g ∙ to_g) in
               inr (inl (only_g h h_is h_g), inr there.0, ap (group_lane old) (only_g h h_is h_g) ∙ sym there.1)
         ]
         | inr other ↦ elim (cases_eq (slice_index at k) g) [
           | inl k_g ↦
-              let there = at_home h h_is (sym (to_other (slice_index at h) other) ∙ both ∙ ap to k_g ∙ to_g) in
+              let there = at_home h h_is (sym (to_other (slice_index at h) other) ∙ both ∙ ap moved k_g ∙ to_g) in
               inr (inr there.0, inl (only_g k k_is k_g), there.1 ∙ sym (ap (group_lane old) (only_g k k_is k_g)))
           | inr also ↦ elim (apart old stays homes at are_homes are h k h_is k_is
               (sym (to_other (slice_index at h) other) ∙ both ∙ to_other (slice_index at k) also)) [
