@@ -238,7 +238,7 @@ module _ (d : Declaration) (old : Workqueues) (names : List ℕ) (s : Scope) (st
       held-leaving g lt leaving = elim (tried_or_not g lt (leaves_parts g lt leaving).0) [
         | inl of_tried ↦ (
             let found = is.held g (in_graph g lt) of_tried in
-            (found.group, marked_below settled.stays found.group stays_long found.stays, found.beside, apart-staying found.group found.stays)
+            (found.group, marked_below settled.stays found.group stays_long found.marked, found.beside, apart-staying found.group found.marked)
             )
         | inr not ↦ elim (all_or_one (λ (k : ℕ). (k < d.groups) → lane_in old k ≡ lane_in old g → IsMarked s.needed k)
             (λ (k : ℕ). (k < d.groups) × (lane_in old k ≡ lane_in old g) × (¬ IsMarked s.needed k)) (on_lane (lane_in old g)) d.groups) [

@@ -57,14 +57,14 @@ hosted-as {old = old} {new = new} {movable = movable} {zs = zs} one two hosted =
 -- of what is settled
 module _ {d : Declaration} {old : Workqueues} {s : Scope} {tried : List Bool} {settled : Settled} (is : IsSettledIn d old s tried settled) where
   pub stays_long-by : length settled.stays ≡ d.groups
-  stays_long-by = is.settled.one_each ∙ is.of.long
+  stays_long-by = is.is.one_each ∙ is.of.long
 
   pub ranks_long-by : length settled.ranks ≡ d.groups
-  ranks_long-by = is.settled.ranks ∙ is.of.long
+  ranks_long-by = is.is.ranks ∙ is.of.long
 
   pub below-as : {rs : List ℕ} → rs ≡ settled.ranks → (most : ℕ) → most ≡ 4096 → (g : ℕ) → g < length rs → slice_index rs g < most
   below-as {rs = rs} same most is_most g lt =
-      omega (arith, is.settled.low g (omega (arith, lt, ap length same, is.settled.ranks)), ap (λ (xs : List ℕ). slice_index xs g) same, is_most)
+      omega (arith, is.is.low g (omega (arith, lt, ap length same, is.is.ranks)), ap (λ (xs : List ℕ). slice_index xs g) same, is_most)
 
 module _ {d : Declaration} {old : Workqueues} {names : List ℕ} {s : Scope} {start : Workqueues} {tried : List Bool}
     (declaration : IsDeclaration d) (ready : IsReady d old names s start) (are_tried : Marks (IsTried old s) d.groups tried) where
@@ -83,15 +83,15 @@ module _ {d : Declaration} {old : Workqueues} {names : List ℕ} {s : Scope} {st
   module _ {settled : Settled} {leaves : List Bool} (is : IsSettledIn d old s tried settled)
       (are_leaving : Marks (IsButNot s.movable settled.stays) d.groups leaves) where
     pub fine-by : (g : ℕ) → IsMarked settled.stays g → IsRescued old (lane_in old g) ⊎ IsMarked s.given (lane_in old g)
-    fine-by = fine-staying d old names s start declaration ready is.graph is.of is.fixed tried leaves settled is.are_fixed are_tried is.settled are_leaving
+    fine-by = fine-staying d old names s start declaration ready is.graph is.of is.fixed tried leaves settled is.are_fixed are_tried is.is are_leaving
 
     pub apart-by : (g : ℕ) → IsMarked settled.stays g → ¬ IsMarked leaves g
-    apart-by = apart-staying d old names s start declaration ready is.graph is.of is.fixed tried leaves settled is.are_fixed are_tried is.settled are_leaving
+    apart-by = apart-staying d old names s start declaration ready is.graph is.of is.fixed tried leaves settled is.are_fixed are_tried is.is are_leaving
 
     pub held-by : (g : ℕ) → g < d.groups → IsMarked leaves g → (h : ℕ) × (h < d.groups) ×
         (lane_in old h ≡ lane_in old g) × (¬ IsMarked leaves h)
-    held-by = held-leaving d old names s start declaration ready is.graph is.of is.fixed tried leaves settled is.are_fixed are_tried is.settled are_leaving
+    held-by = held-leaving d old names s start declaration ready is.graph is.of is.fixed tried leaves settled is.are_fixed are_tried is.is are_leaving
 
     pub IsMinimal-by : (new : Workqueues) → ArePlacedBy old s.given settled.stays leaves settled.ranks new
         → AreHosted old s.movable leaves new → IsMinimal d old names s.needed new
-    IsMinimal-by = IsMinimal-placed d old names s start declaration ready is.graph is.of is.fixed tried leaves settled is.are_fixed are_tried is.settled are_leaving
+    IsMinimal-by = IsMinimal-placed d old names s start declaration ready is.graph is.of is.fixed tried leaves settled is.are_fixed are_tried is.is are_leaving

@@ -140,11 +140,11 @@ IsSettled-checked graph old fixed tried vain s homes at sound long within tried_
       let leads = in_vain g (all g lt marked out) in
       WasInVain-leads graph sound old s.stays homes at long are_homes are g leads.0 (omega (arith, lt, long)) out leads.1 leads.2;
   held = λ g lt marked. elim (cases_marked s.stays g) [
-    | inl stay ↦ record { group = g; stays = stay; beside = refl }
+    | inl stay ↦ record { group = g; marked = stay; beside = refl }
     | inr out ↦
         let leads = in_vain g (all g lt marked out) in
         let home = are_homes.on (group_lane old g) leads.0 leads.1 in
-        record { group = leads.0; stays = home.0; beside = home.1 }
+        record { group = leads.0; marked = home.0; beside = home.1 }
   ];
 }
 
@@ -244,7 +244,7 @@ module _ (graph : List (List WaitArc)) (old : Assignment) (fixed tried : List Bo
       (fall : (h k : ℕ) → HasArc graph h k → slice_index ranks k < slice_index ranks h)
       (same : (h k : ℕ) → IsMarked (set s.stays g true) h → IsMarked (set s.stays g true) k → group_lane old h ≡ group_lane old k → slice_index ranks h ≡ slice_index ranks k) where
     staying-more : (h : ℕ) → HasStaying old s.stays h → HasStaying old more h
-    staying-more h has = record { group = has.group; stays = kept-with s.stays g has.group has.stays; beside = has.beside }
+    staying-more h has = record { group = has.group; marked = kept-with s.stays g has.group has.marked; beside = has.beside }
 
     pub IsSettled-stays : IsSettled graph old fixed tried (g + 1) (record { stays = set s.stays g true; ranks = ranks })
     IsSettled-stays = record {
@@ -266,7 +266,7 @@ module _ (graph : List (List WaitArc)) (old : Assignment) (fixed tried : List Bo
             (is.vain h earlier marked (λ stay. out (kept-with s.stays g h stay)))
       ];
       held = λ h lt marked. elim (before h lt) [
-        | inl last ↦ record { group = g; stays = is-with s.stays g g_below; beside = ap (group_lane old) (sym last) }
+        | inl last ↦ record { group = g; marked = is-with s.stays g g_below; beside = ap (group_lane old) (sym last) }
         | inr earlier ↦ staying-more h (is.held h earlier marked)
       ];
     }

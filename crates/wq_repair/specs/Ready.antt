@@ -85,4 +85,4 @@ pub record IsSettledIn (d : Declaration) (old : Workqueues) (s : Scope) (tried :
   pub fixed : List Bool
   pub of : IsGraphOfNeeded d s.needed graph
   pub are_fixed : Marks (IsButNot s.needed s.movable) d.groups fixed
-  pub settled : IsSettled graph old.assignment fixed tried (length graph) settled
+  pub is : IsSettled graph old.assignment fixed tried (length graph) settled

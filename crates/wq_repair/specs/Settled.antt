@@ -63,7 +63,7 @@ pub record WasInVain (graph : List (List WaitArc)) (old : Assignment) (stays : L
 -- another group stays on the lane of group g
 pub record HasStaying (old : Assignment) (stays : List Bool) (g : ℕ) : Type 0 where
   pub group : ℕ
-  pub stays : IsMarked stays group
+  pub marked : IsMarked stays group
   pub beside : group_lane old group ≡ group_lane old g
 
 -- ranks fall along all arcs, and are the same for all that stay on a lane. Of the first `done` groups, each that may

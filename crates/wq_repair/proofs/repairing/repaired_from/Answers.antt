@@ -117,7 +117,7 @@ place-requires-clause-apart g c =
 pub place-requires-clause-same : goal.place-requires-clause-same
 place-requires-clause-same g c = λ v w v_stays w_stays lane.
     ap (λ (xs : List ℕ). slice_index xs v) (c.as_slice-7.ensures.value ∙ ap (λ (x : Settled). x.ranks) c.all.view_is)
-    ∙ c.in_ok-all.ensures.settled.same v w (marked-as (c.as_slice-5.ensures.value ∙ ap (λ (x : Settled). x.stays) c.all.view_is) v v_stays) (marked-as (c.as_slice-5.ensures.value ∙ ap (λ (x : Settled). x.stays) c.all.view_is) w w_stays) lane
+    ∙ c.in_ok-all.ensures.is.same v w (marked-as (c.as_slice-5.ensures.value ∙ ap (λ (x : Settled). x.stays) c.all.view_is) v v_stays) (marked-as (c.as_slice-5.ensures.value ∙ ap (λ (x : Settled). x.stays) c.all.view_is) w w_stays) lane
     ∙ sym (ap (λ (xs : List ℕ). slice_index xs w) (c.as_slice-7.ensures.value ∙ ap (λ (x : Settled). x.ranks) c.all.view_is))
 
 pub place-requires-clause-held : goal.place-requires-clause-held

@@ -82,7 +82,7 @@ returns-then-branch g c =
       fixed = fixed;
       of = of;
       are_fixed = are_fixed;
-      settled =
+      is =
           subst (λ (xs : List Bool). IsSettled graph c.args.old.now.assignment fixed tried (length graph) (record { stays = xs; ranks = c.in_ok-choice.choice.ranks.items })) c.as_slice-8.ensures.value
           (subst (λ (rs : List ℕ). IsSettled graph c.args.old.now.assignment fixed tried (length graph) (record { stays = c.as_slice-8.result.now; ranks = rs })) c.as_slice-9.ensures.value
           (subst (λ (a : Assignment). IsSettled graph a fixed tried (length graph) (record { stays = c.as_slice-8.result.now; ranks = c.as_slice-9.result.now })) c.assignment-assignment.ensures settled));
@@ -103,6 +103,6 @@ returns-else-branch g c =
       fixed = c.as_slice-10.result.now;
       of = of;
       are_fixed = subst (Marks (IsButNot s.needed s.movable) d.groups) (sym c.as_slice-10.ensures.value) are_fixed;
-      settled = all c.in_ok-graph.graph (IsTrial-ready c.workqueues_of-few.ensures.declaration ready c.requires.tried of
+      is = all c.in_ok-graph.graph (IsTrial-ready c.workqueues_of-few.ensures.declaration ready c.requires.tried of
           (subst (Marks (IsButNot s.needed s.movable) d.groups) (sym c.as_slice-10.ensures.value) are_fixed));
     }) c.settle.ensures
