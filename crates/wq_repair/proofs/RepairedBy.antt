@@ -33,8 +33,8 @@ graph-by {d = d} {s = s} {graph = graph} declaration long view same is =
     (IsGraphOfNeeded-without d declaration s.needed long)
 
 -- the same of lists that are known by other names
-pub IsTried-as : {old : Workqueues} {s : Scope} {xs ys : List Bool} {n m : ℕ} → xs ≡ ys → m ≡ n → Marks (IsTried old s) m ys → Marks (IsTried old s) n xs
-IsTried-as {old = old} {s = s} {ys = ys} {n = n} same long is = subst (Marks (IsTried old s) n) (sym same) (subst (λ (k : ℕ). Marks (IsTried old s) k ys) long is)
+pub IsTried-as : (old : Workqueues) (s : Scope) {xs ys : List Bool} {n m : ℕ} → xs ≡ ys → m ≡ n → Marks (IsTried old s) m ys → Marks (IsTried old s) n xs
+IsTried-as old s {ys = ys} {n = n} same long is = subst (Marks (IsTried old s) n) (sym same) (subst (λ (k : ℕ). Marks (IsTried old s) k ys) long is)
 
 pub marked-as : {xs ys : List Bool} → xs ≡ ys → (g : ℕ) → IsMarked xs g → IsMarked ys g
 marked-as same g marked = subst (λ (zs : List Bool). IsMarked zs g) same marked
@@ -50,8 +50,8 @@ placed-as {old = old} {new = new} {given = given} {stays = stays} {leaves = leav
     (subst (λ (k : List Bool). ArePlacedBy old given k zs rs new) two
     (subst (λ (k : List Bool). ArePlacedBy old k ys zs rs new) one placed)))
 
-pub hosted-as : {old new : Workqueues} {movable leaves xs zs : List Bool} → xs ≡ movable → zs ≡ leaves → AreHosted old xs zs new → AreHosted old movable leaves new
-hosted-as {old = old} {new = new} {movable = movable} {zs = zs} one two hosted =
+pub hosted-as : (old new : Workqueues) {movable leaves xs zs : List Bool} → xs ≡ movable → zs ≡ leaves → AreHosted old xs zs new → AreHosted old movable leaves new
+hosted-as old new {movable = movable} {zs = zs} one two hosted =
     subst (λ (k : List Bool). AreHosted old movable k new) two (subst (λ (k : List Bool). AreHosted old k zs new) one hosted)
 
 -- of what is settled

@@ -38,7 +38,7 @@ pub settled-requires-clause-ready : goal.settled-requires-clause-ready
 settled-requires-clause-ready g c = c.requires
 
 pub settled-requires-clause-tried : goal.settled-requires-clause-tried
-settled-requires-clause-tried g c = IsTried-as c.as_slice.ensures.value c.requires.1.are_movable.one_each c.in_ok-tried.ensures
+settled-requires-clause-tried g c = IsTried-as c.args.old.now c.args.scope.now c.as_slice.ensures.value c.requires.1.are_movable.one_each c.in_ok-tried.ensures
 
 pub but_not-requires : goal.but_not-requires
 but_not-requires g c =
@@ -64,7 +64,7 @@ place-requires-clause-leaves g c =
     let ready = c.requires.1 in
     let all = c.in_ok-all.all in
     let leaves = c.in_ok-leaves.leaves.items in
-    let are_tried = IsTried-as c.as_slice.ensures.value ready.are_movable.one_each c.in_ok-tried.ensures in
+    let are_tried = IsTried-as c.args.old.now c.args.scope.now c.as_slice.ensures.value ready.are_movable.one_each c.in_ok-tried.ensures in
     let are_leaving : Marks (IsButNot s.movable all.stays) d.groups leaves = Marks-but_not s.movable all.stays c.as_slice-2.result.now c.as_slice-3.result.now leaves d.groups
     (c.as_slice-2.ensures.value ∙ ap (λ (x : Scope). x.movable) c.scope.view_is)
     (c.as_slice-3.ensures.value ∙ ap (λ (x : Settled). x.stays) c.all.view_is) ready.are_movable.one_each c.in_ok-leaves.ensures in
@@ -83,7 +83,7 @@ place-requires-clause-few g c =
     let ready = c.requires.1 in
     let all = c.in_ok-all.all in
     let leaves = c.in_ok-leaves.leaves.items in
-    let are_tried = IsTried-as c.as_slice.ensures.value ready.are_movable.one_each c.in_ok-tried.ensures in
+    let are_tried = IsTried-as c.args.old.now c.args.scope.now c.as_slice.ensures.value ready.are_movable.one_each c.in_ok-tried.ensures in
     let are_leaving : Marks (IsButNot s.movable all.stays) d.groups leaves = Marks-but_not s.movable all.stays c.as_slice-2.result.now c.as_slice-3.result.now leaves d.groups
     (c.as_slice-2.ensures.value ∙ ap (λ (x : Scope). x.movable) c.scope.view_is)
     (c.as_slice-3.ensures.value ∙ ap (λ (x : Settled). x.stays) c.all.view_is) ready.are_movable.one_each c.in_ok-leaves.ensures in
@@ -107,7 +107,7 @@ place-requires-clause-apart g c =
     let ready = c.requires.1 in
     let all = c.in_ok-all.all in
     let leaves = c.in_ok-leaves.leaves.items in
-    let are_tried = IsTried-as c.as_slice.ensures.value ready.are_movable.one_each c.in_ok-tried.ensures in
+    let are_tried = IsTried-as c.args.old.now c.args.scope.now c.as_slice.ensures.value ready.are_movable.one_each c.in_ok-tried.ensures in
     let are_leaving : Marks (IsButNot s.movable all.stays) d.groups leaves = Marks-but_not s.movable all.stays c.as_slice-2.result.now c.as_slice-3.result.now leaves d.groups
     (c.as_slice-2.ensures.value ∙ ap (λ (x : Scope). x.movable) c.scope.view_is)
     (c.as_slice-3.ensures.value ∙ ap (λ (x : Settled). x.stays) c.all.view_is) ready.are_movable.one_each c.in_ok-leaves.ensures in
@@ -127,7 +127,7 @@ place-requires-clause-held g c =
     let ready = c.requires.1 in
     let all = c.in_ok-all.all in
     let leaves = c.in_ok-leaves.leaves.items in
-    let are_tried = IsTried-as c.as_slice.ensures.value ready.are_movable.one_each c.in_ok-tried.ensures in
+    let are_tried = IsTried-as c.args.old.now c.args.scope.now c.as_slice.ensures.value ready.are_movable.one_each c.in_ok-tried.ensures in
     let are_leaving : Marks (IsButNot s.movable all.stays) d.groups leaves = Marks-but_not s.movable all.stays c.as_slice-2.result.now c.as_slice-3.result.now leaves d.groups
     (c.as_slice-2.ensures.value ∙ ap (λ (x : Scope). x.movable) c.scope.view_is)
     (c.as_slice-3.ensures.value ∙ ap (λ (x : Settled). x.stays) c.all.view_is) ready.are_movable.one_each c.in_ok-leaves.ensures in
@@ -143,7 +143,7 @@ place-requires-clause-fine g c =
     let ready = c.requires.1 in
     let all = c.in_ok-all.all in
     let leaves = c.in_ok-leaves.leaves.items in
-    let are_tried = IsTried-as c.as_slice.ensures.value ready.are_movable.one_each c.in_ok-tried.ensures in
+    let are_tried = IsTried-as c.args.old.now c.args.scope.now c.as_slice.ensures.value ready.are_movable.one_each c.in_ok-tried.ensures in
     let are_leaving : Marks (IsButNot s.movable all.stays) d.groups leaves = Marks-but_not s.movable all.stays c.as_slice-2.result.now c.as_slice-3.result.now leaves d.groups
     (c.as_slice-2.ensures.value ∙ ap (λ (x : Scope). x.movable) c.scope.view_is)
     (c.as_slice-3.ensures.value ∙ ap (λ (x : Settled). x.stays) c.all.view_is) ready.are_movable.one_each c.in_ok-leaves.ensures in
@@ -158,10 +158,10 @@ returns g c =
       let ready = is in
       let all = c.in_ok-all.all in
       let leaves = c.in_ok-leaves.leaves.items in
-      let are_tried = IsTried-as c.as_slice.ensures.value ready.are_movable.one_each c.in_ok-tried.ensures in
+      let are_tried = IsTried-as c.args.old.now c.args.scope.now c.as_slice.ensures.value ready.are_movable.one_each c.in_ok-tried.ensures in
       let are_leaving : Marks (IsButNot s.movable all.stays) d.groups leaves = Marks-but_not s.movable all.stays c.as_slice-2.result.now c.as_slice-3.result.now leaves d.groups
     (c.as_slice-2.ensures.value ∙ ap (λ (x : Scope). x.movable) c.scope.view_is)
     (c.as_slice-3.ensures.value ∙ ap (λ (x : Settled). x.stays) c.all.view_is) ready.are_movable.one_each c.in_ok-leaves.ensures in
       IsMinimal-by c.workqueues_of-few.ensures.declaration is are_tried c.in_ok-all.ensures are_leaving new
       (placed-as (c.as_slice-4.ensures.value ∙ ap (λ (x : Scope). x.given) c.scope.view_is) (c.as_slice-5.ensures.value ∙ ap (λ (x : Settled). x.stays) c.all.view_is) c.as_slice-6.ensures.value (c.as_slice-7.ensures.value ∙ ap (λ (x : Settled). x.ranks) c.all.view_is) both.0)
-      (hosted-as (c.as_slice-8.ensures.value ∙ ap (λ (x : Scope). x.movable) c.scope.view_is) c.as_slice-6.ensures.value both.1)) c.place.ensures
+      (hosted-as c.args.old.now new (c.as_slice-8.ensures.value ∙ ap (λ (x : Scope). x.movable) c.scope.view_is) c.as_slice-6.ensures.value both.1)) c.place.ensures
