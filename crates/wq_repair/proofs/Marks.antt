@@ -20,6 +20,13 @@ IsMarked-below marks k marked = elim (cases_lt k (length marks)) [
 pub cases_marked : (marks : List Bool) (k : ℕ) → IsMarked marks k ⊎ (¬ IsMarked marks k)
 cases_marked marks k = elim (cases_Bool (get_or marks k false)) [ inl is ↦ inl is | inr not ↦ inr (λ is. false≢true (sym not ∙ is)) ]
 
+-- nothing is marked where all is false
+pub none-marked : (n k : ℕ) → ¬ IsMarked (replicate n false) k
+none-marked n k marked = elim (cases_lt k n) [
+  | inl lt ↦ false≢true (sym (get_or-replicate n k false false lt) ∙ marked)
+  | inr past ↦ false≢true (sym (get_or_past (replicate n false) k false (omega (arith, past, length-replicate n false))) ∙ marked)
+]
+
 -- a list with one mark more at its end
 module _ (xs : List Bool) (b : Bool) (n : ℕ) (long : length xs ≡ n) where
   pub marked-kept : (k : ℕ) → IsMarked xs k → IsMarked (xs ++ b ∷ []) k
