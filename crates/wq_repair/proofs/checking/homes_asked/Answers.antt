@@ -39,6 +39,6 @@ loop-group-preserved g c =
       one_each = ap length pushed ∙ length-append xs _ ∙ omega (arith, is.one_each);
       homes = λ k v asked. elim (asked-cases xs _ i is.one_each k v (subst (λ (ys : List (Option ℕ)). IsAsked ys k v) pushed asked)) [
         | inl was ↦ is.homes k v was
-        | inr last ↦ ?
+        | inr last ↦ ap (λ (q : ℕ). slice_index_or homes q None) (ap (group_lane a) last.0 ∙ sym at) ∙ last.1
       ];
     }

@@ -2,6 +2,7 @@ use Rattle.std.proofs.Common.{◌≡◌, ◌+◌, ◌∙◌, ◌<◌, ℕ, Bool,
 use Rattle.std.specs.Prelude.{None, Some, slice_index_or}
 use Rattle.std.proofs.Math.ListN.{length-set}
 use Rattle.std.proofs.lemmas.Option.{none-some}
+use Rattle.std.proofs.lemmas.Result.{IfOk-weaker}
 use Rattle.wq_groups.specs.Assignment.{group_lane}
 use Rattle.wq_repair.specs.Marks.{IsMarked}
 use Rattle.wq_repair.specs.Settled.{Settled, AreHomes, IsHomeOf, IsSettled}
@@ -39,4 +40,15 @@ returns-in-None-clause-settled g c =
     )))
 
 pub returns-in-Some-clause-settled : goal.returns-in-Some-clause-settled
-returns-in-Some-clause-settled g c = ?
+returns-in-Some-clause-settled g c =
+    let a = c.args.assignment.now in
+    let i = c.args.group in
+    let s = c.args.settled.now in
+    let homes = c.in_ok-homes.homes.items in
+    let are : AreHomes a s.stays homes = subst (λ (xs : List Bool). AreHomes a xs homes) (c.as_slice.ensures.value ∙ ap (λ (x : Settled). x.stays) c.settled.view_is) c.in_ok-homes.ensures in
+    let read : group_lane a i ≡ c.lane.result = lane-read a a i c.new.result c.lane.result refl c.new.ensures c.lane.ensures in
+    let lane : c.from.result ≡ group_lane a i = omega (arith, read, c.get-lane.ensures, c.from.ensures) in
+    let home : IsHomeOf homes (group_lane a i) c.in-Some.field-0 = subst (λ (q : ℕ). slice_index_or homes q None ≡ Some c.in-Some.field-0) lane c.in-Some.is in
+    let on = are.on (group_lane a i) c.in-Some.field-0 home in
+    IfOk-weaker c.try_beside.result _ _ (λ done all graph fixed tried trial marked is.
+    all graph fixed tried trial marked (record { group = c.in-Some.field-0; marked = on.0; beside = on.1 }) is) c.try_beside.ensures.settled
