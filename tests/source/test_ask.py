@@ -364,3 +364,140 @@ def test_bytes_that_are_no_utf_8(wqplan, drafted_files):
     command = [str(ROOT / "source" / "wqsource"), "ask", "r.wq", "r.assign"]
     ran = subprocess.run(command, cwd=drafted_files, env=env, stdin=subprocess.DEVNULL, capture_output=True)
     assert (ran.returncode, ran.stderr) == (DEPENDS, b"") and b"  r.wq:3: flush? a b  # \xff\n" in ran.stdout
+
+
+# r_send comes to r_sent by itself, and by r_again
+TWICE = SOURCE.replace("static void r_send(", """\
+static void r_again(struct r *r)
+{
+	r_sent(r);
+}
+
+static void r_send(""").replace("\tr_sent(r);\n}\n\nstatic void r_retry", "\tr_sent(r);\n\tr_again(r);\n}\n\nstatic void r_retry")
+
+
+@pytest.fixture
+def one_site(drafted_files):
+    """The draft without the flush of r_retry."""
+    text = (drafted_files / "r.wq").read_text().replace(RETRY, "# no wait: r.c r_retry flush_work(&r->send_work): a test")
+    (drafted_files / "r.wq").write_text(text)
+    return text
+
+
+@pytest.fixture
+def two_ways(drafted_files, wqsource):
+    """The same of the source in which two calls lead to the site."""
+    (drafted_files / "r.c").write_text(TWICE)
+    text = wqsource("draft", "--tree", drafted_files, "r.c").out
+    [retry] = [line for line in text.splitlines() if line.startswith("flush? r_retry r_send")]
+    text = text.replace(retry, "# no wait: r.c r_retry flush_work(&r->send_work): a test")
+    (drafted_files / "r.wq").write_text(text)
+    return text
+
+
+@pytest.mark.parametrize("word,comment", [
+    ("c", "# no wait: r.c r_send r_sent(r): nothing is sent"),
+    ("cf", "# not through: r.c r_sent: nothing is sent"),
+])
+def test_a_call_of_the_way_is_cut(ask, drafted_files, one_site, wqsource, word, comment):
+    """It is shown with its number, and how much it decides; all lines that lead only through it go."""
+    ran = ask("c", f"{word} 1", f"{word} 1 nothing  is sent")
+    assert "\n  c       a call of the way never leads there: shows these calls by number\n" in ran.out
+    assert "> " + "    1  r.c:17 r_send: r_sent(r);\n       leads to r.c r_sent\n" in ran.out
+    assert f"\ntake one: c N WHY\n> decides 2 unsure lines: say why, in a few words: {word} 1 WHY\n" in ran.out
+    assert "> 2 unsure lines led only through it, and are gone\n\nsafe\n" in ran.out and ran.status == 0
+    gone, new = changed(one_site, (drafted_files / "r.wq").read_text())
+    assert sorted(gone) == sorted([SEND, LOG]) and new == [comment]
+    # the line is a comment that `audit` reads, and nothing is left
+    assert wqsource("audit", "--decl", "r.wq", cwd=drafted_files).status == 0
+
+
+def test_a_site_with_another_way(ask, drafted_files, two_ways, wqsource):
+    """No line goes, and the other way is shown; with that one cut, too, the lines go."""
+    ran = ask("c", "c 1 not then", "q")
+    assert "> 0 unsure lines led only through it, and are gone\n" in ran.out and ran.status == DEPENDS
+    assert questions(ran.out) == ["flush? r_send r_retry"] * 2
+    gone, new = changed(two_ways, (drafted_files / "r.wq").read_text())
+    assert gone == [] and new == ["# no wait: r.c r_send r_sent(r): not then"]
+    ran = ask("c", "c 1 nor then")
+    assert "from r_send:\n      r.c:23 r_send: r_again(r);\n      r.c:15 r_again: r_sent(r);\n" in ran.out
+    assert "> 2 unsure lines led only through it, and are gone\n\nsafe\n" in ran.out
+    gone, new = changed(two_ways, (drafted_files / "r.wq").read_text())
+    assert len(gone) == 2 and new[1] == "# no wait: r.c r_send r_again(r): nor then"
+    assert wqsource("audit", "--decl", "r.wq", cwd=drafted_files).status == 0
+
+
+def test_a_function_that_two_ways_lead_to(ask, drafted_files, two_ways):
+    """One answer is enough."""
+    ran = ask("c", "cf 1 nothing is sent")
+    assert "> 2 unsure lines led only through it, and are gone\n\nsafe\n" in ran.out
+    assert changed(two_ways, (drafted_files / "r.wq").read_text())[1] == ["# not through: r.c r_sent: nothing is sent"]
+
+
+def test_other_items_behind_a_function(ask, drafted_files, wqsource):
+    """The call of one item is cut, and the lines of the other stay; with its function theirs go, too."""
+    (drafted_files / "r.c").write_text(SOURCE.replace("\tflush_work(&r->send_work);\n", "\tr_sent(r);\n"))
+    before = wqsource("draft", "--tree", drafted_files, "r.c").out
+    for word, lines in ("c", 2), ("cf", 4):
+        (drafted_files / "r.wq").write_text(before)
+        ran = ask("c", f"{word} 1 never", "q")
+        gone, _ = changed(before, (drafted_files / "r.wq").read_text())
+        asked = questions(ran.out)[0].split()[1]
+        assert len(gone) == lines and (word == "cf" or all(line.split()[1] == asked for line in gone))
+
+
+@pytest.mark.parametrize("answers,said", [
+    (["c 1 never"], "take one: c N WHY"),
+    (["c", "c 0 never"], "a number of 1 to 1, and why: c N WHY"),
+    (["c", "cf 2 never"], "a number of 1 to 1, and why: cf N WHY"),
+    (["c", "c never"], "a number of 1 to 1, and why: c N WHY"),
+])
+def test_what_is_no_call_of_the_way(ask, drafted_files, one_site, answers, said):
+    """Nothing is written: a number counts only once the calls were shown."""
+    ran = ask(*answers)
+    assert f"{said}\n> " in ran.out and ran.status == DEPENDS
+    assert (drafted_files / "r.wq").read_text() == one_site
+
+
+def test_a_wait_that_no_call_leads_to(ask, drafted_files):
+    (drafted_files / "r.wq").write_text((drafted_files / "r.wq").read_text().replace(SEND, ""))
+    before = (drafted_files / "r.wq").read_bytes()
+    ran = ask("c")
+    assert questions(ran.out) == [] or "  c       a call" not in ran.out
+    assert (drafted_files / "r.wq").read_bytes() == before
+
+
+def test_a_call_behind_which_an_item_waits_for_sure(ask, drafted_files, one_site):
+    """Then it can't be cut: that would contradict the line."""
+    text = one_site.replace(LOG, LOG.replace("?", ""))
+    (drafted_files / "r.wq").write_text(text)
+    number = text.splitlines().index(LOG.replace("?", "")) + 1
+    ran = ask("c", "c 1 never")
+    assert f"line {number} says for sure that an item waits behind it: take that away first\n" in ran.out
+    assert ran.status == DEPENDS and (drafted_files / "r.wq").read_text() == text
+
+
+def test_an_interrupt_behind_a_cut(wqplan, drafted_files, two_ways):
+    """What was cut is in the declaration, and every line is."""
+    talking = Talk(("ask", "r.wq", "r.assign"), drafted_files)
+    for answer in ("c", "c 1 not then"):
+        assert talking.wait().endswith("\n> ")
+        talking.answer(answer)
+    assert talking.wait().endswith("\n> ")
+    os.killpg(talking.process.pid, signal.SIGINT)
+    assert talking.end().status == -signal.SIGINT
+    assert changed(two_ways, (drafted_files / "r.wq").read_text()) == ([], ["# no wait: r.c r_send r_sent(r): not then"])
+    assert not (drafted_files / "r.wq.new").exists()
+
+
+def test_a_cut_of_what_somebody_changes_meanwhile(wqplan, drafted_files, one_site):
+    """Both changes are kept."""
+    talking = Talk(("ask", "r.wq", "r.assign"), drafted_files)
+    talking.wait()
+    talking.answer("c")
+    talking.wait()
+    (drafted_files / "r.wq").write_text("# by another hand\n" + one_site)
+    talking.answer("c 1 never")
+    assert "2 unsure lines led only through it" in talking.wait() and talking.end().status == 0
+    gone, new = changed(one_site, (drafted_files / "r.wq").read_text())
+    assert len(gone) == 2 and new == ["# by another hand", "# no wait: r.c r_send r_sent(r): never"]
