@@ -236,8 +236,9 @@ def cut(printer: Printer, word: str, rest: str) -> Optional[str]:
     if not why:
         lines = says.counted(len(asking.gone_by(comment)), "unsure line")
         return f"decides {lines}: say why, in a few words: {word} {number} WHY"
-    lines = says.counted(asking.cut(comment), "unsure line")
-    printer.say(f"{lines} led only through it, and {'is' if lines.startswith('1 ') else 'are'} gone")
+    gone = asking.cut(comment)
+    lines = f"{says.counted(gone, 'unsure line')} led only through it, and {'is' if gone == 1 else 'are'} gone"
+    printer.say(lines if gone else "no unsure line led only through it: there is another way")
     return None
 
 

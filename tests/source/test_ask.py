@@ -415,7 +415,7 @@ def test_a_call_of_the_way_is_cut(ask, drafted_files, one_site, wqsource, word, 
 def test_a_site_with_another_way(ask, drafted_files, two_ways, wqsource):
     """No line goes, and the other way is shown; with that one cut, too, the lines go."""
     ran = ask("c", "c 1 not then", "q")
-    assert "> 0 unsure lines led only through it, and are gone\n" in ran.out and ran.status == DEPENDS
+    assert "> no unsure line led only through it: there is another way\n" in ran.out and ran.status == DEPENDS
     assert questions(ran.out) == ["flush? r_send r_retry"] * 2
     gone, new = changed(two_ways, (drafted_files / "r.wq").read_text())
     assert gone == [] and new == ["# no wait: r.c r_send r_sent(r): not then"]
@@ -463,7 +463,8 @@ def test_a_wait_that_no_call_leads_to(ask, drafted_files):
     (drafted_files / "r.wq").write_text((drafted_files / "r.wq").read_text().replace(SEND, ""))
     before = (drafted_files / "r.wq").read_bytes()
     ran = ask("c")
-    assert questions(ran.out) == [] or "  c       a call" not in ran.out
+    assert questions(ran.out) == ["flush? r_retry r_send"] and "  c   " not in ran.out
+    assert "> no call leads there: n WHY\n> " in ran.out
     assert (drafted_files / "r.wq").read_bytes() == before
 
 
