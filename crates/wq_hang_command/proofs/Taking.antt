@@ -30,17 +30,8 @@ module _ {A : Type 0} (s : Declared) where
   answered ws answer.Safe end out is (good, text) =
       subst (λ (e : End). HangsAssigned s ws e out) (sym good) (is.0, is.1, text)
   answered ws (answer.Hang hops steps) end out is (bad, text) =
-      subst (λ (e : End). HangsAssigned s ws e out) (sym bad) (record {
-        steps = steps.items;
-        assignment = is.assignment;
-        shortest = is.shortest;
-        hops = hops.items;
-        beside = is.beside;
-        walk = is.walk;
-        first = is.first;
-        run = is.run;
-        text = text;
-      })
+      subst (λ (e : End). HangsAssigned s ws e out) (sym bad)
+      (record { steps = steps.items; hops = hops.items; hang = is; text = text })
 
   pub HangsText-declared : (text : List ℕ) (found : Found (Hanging A)) (end : End) (out : List ℕ)
       → HangsText s text found end out → HangsDeclared s text end out
