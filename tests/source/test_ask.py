@@ -1,5 +1,6 @@
 """`ask`: which line it asks about, what it shows, and what becomes of the declaration by each answer."""
 
+import contextlib
 import os
 import pty
 import re
@@ -7,10 +8,13 @@ import signal
 import stat
 import subprocess
 
+import programs
 import pytest
 
 from conftest import ROOT, Ran
 
+# How long a whole dialogue may take.
+SECONDS = 120
 SOURCE = """\
 static void r_log(struct work_struct *work)
 {
@@ -74,9 +78,9 @@ class Talk:
     def __init__(self, words, folder, env=None):
         self.master, slave = pty.openpty()
         command = [str(ROOT / "source" / "wqsource"), *map(str, words)]
-        self.process = subprocess.Popen(
-            command, cwd=folder, env=env, stdin=slave, stdout=subprocess.PIPE, stderr=subprocess.PIPE, start_new_session=True
-        )
+        self.running = contextlib.ExitStack()
+        pipes = {"stdin": slave, "stdout": subprocess.PIPE, "stderr": subprocess.PIPE}
+        self.process = self.running.enter_context(programs.started(command, timeout=SECONDS, cwd=folder, env=env, **pipes))
         os.close(slave)
 
     def wait(self):
@@ -91,7 +95,8 @@ class Talk:
 
     def end(self):
         """The end of the input, if it still asks; the status and what was written last."""
-        out, err = self.process.communicate(timeout=120)
+        out, err = self.process.communicate(timeout=SECONDS)
+        self.running.close()
         os.close(self.master)
         return Ran(self.process.returncode, out.decode(), err.decode())
 
@@ -362,5 +367,5 @@ def test_bytes_that_are_no_utf_8(wqplan, drafted_files):
     (drafted_files / "r.assign").write_text("wq 0 a b\n")
     env = {**os.environ, "PYTHONIOENCODING": "utf-8:strict"}
     command = [str(ROOT / "source" / "wqsource"), "ask", "r.wq", "r.assign"]
-    ran = subprocess.run(command, cwd=drafted_files, env=env, stdin=subprocess.DEVNULL, capture_output=True)
+    ran = programs.run(command, cwd=drafted_files, env=env, capture_output=True)
     assert (ran.returncode, ran.stderr) == (DEPENDS, b"") and b"  r.wq:3: flush? a b  # \xff\n" in ran.stdout

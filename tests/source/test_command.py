@@ -246,7 +246,7 @@ def test_bytes_that_are_no_utf_8(tmp_path):
     """What a declaration has of them is printed as it is, in a locale that is strict about them as well."""
     declared = (RDISK / "rdisk.wq").read_bytes() + b"flush no\xff log  # rdisk.c:18 rdisk_log\n"
     (tmp_path / "rdisk.wq").write_bytes(declared)
-    ran = subprocess.run(
+    ran = programs.run(
         [ROOT / "source" / "wqsource", "audit", "--decl", tmp_path / "rdisk.wq", "--tree", RDISK, "rdisk.c"],
         env={**os.environ, "PYTHONIOENCODING": "utf-8:strict"},
         capture_output=True,
