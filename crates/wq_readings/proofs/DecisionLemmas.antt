@@ -1,41 +1,29 @@
 -- What one decision changes.
-use Rattle.std.proofs.Common.{◌≡◌, ◌↔◌, ℕ, zero, suc, ◌+◌, ◌<◌, ◌≤◌, Bool, true, false, cond, List, [], ◌∷◌, ◌++◌}
+use Rattle.std.proofs.Common.{◌≡◌, ℕ, zero, suc, ◌+◌, ◌<◌, ◌≤◌, Bool, true, false, cond, List, [], ◌∷◌}
 use Rattle.std.proofs.Common.{length, map, refl, sym, ap, subst, ◌∙◌, arith, inl, inr}
 use Rattle.std.specs.Prelude.{◌==◌, ◌&&◌, ◌||◌, not, filter}
 use Rattle.std.specs.List.{Any}
 use Rattle.std.proofs.lemmas.Bool.{cases_lt, eq-eqb, eqb-true, or_right}
-use Rattle.std.proofs.lemmas.List.{length-map}
 use Rattle.std.proofs.lemmas.Simd.{map-map}
 use Rattle.wq_items.specs.declared.target.Target.{Target}
 use Rattle.wq_items.specs.Table.{targets_of}
 use Rattle.wq_items.specs.Readings.{is_among, is_kept, kept_of}
 use Rattle.wq_core.specs.declared.step.Step.{Step}
 use Rattle.wq_core.specs.State.{State}
-use Rattle.wq_core.specs.Wiring.{Wiring, with_helpers, max_helpers}
-use Rattle.wq_core.specs.Runs.{IsRun, end_of}
+use Rattle.wq_core.specs.Wiring.{Wiring, with_helpers}
+use Rattle.wq_core.specs.Runs.{end_of}
 use Rattle.wq_core.specs.Deadlock.{IsStuck, IsSafe}
 use Rattle.wq_core.specs.Readings.{reading, IsSafeAnyway, HangsForSure, DeclaresMore}
 use Rattle.wq_core.proofs.MoreFlushes.{DeclaresMore-helpers, IsRun-more, IsSafe-fewer, end_of-more, stuck-more}
 use Rattle.wq_hang.specs.Shortest.{EndsStuck, IsFewest}
 use Rattle.wq_readings.specs.Decided.{is_unsure_at, denied, sure_at, confirmed}
+use Rattle.wq_readings.proofs.Picking.{alike, later}
 
 -- ---- flushes that are picked, and of which only what a run doesn't see is changed
 
 -- a flush of this kind
 abbrev Goes : ℕ → Bool → Target → Type 0
 Goes j whole t = (t.item ≡ j) × (t.whole ≡ whole)
-
-later : {X : Type 0} (P : X → Type 0) (x : X) (xs : List X) → Any P xs → Any P (x ∷ xs)
-later P x xs (k, y, within, is, h) = (suc k, y, omega arith, is, h)
-
-alike : {X : Type 0} (P : X → Type 0) (x y : X) (xs ys : List X) → (P x → P y) → (Any P xs → Any P ys)
-    → Any P (x ∷ xs) → Any P (y ∷ ys)
-alike P x y xs ys one rest (zero, z, within, is, h) = (0, y, omega arith, refl, one (subst P (sym is) h))
-alike P x y xs ys one rest (suc k, z, within, is, h) = later P y ys (rest (k, z, omega arith, is, h))
-
-left_out : {X : Type 0} (P : X → Type 0) (x : X) (xs : List X) → (P x → ⊥) → Any P (x ∷ xs) → Any P xs
-left_out P x xs not_here (zero, z, within, is, h) = absurd (not_here (subst P (sym is) h))
-left_out P x xs not_here (suc k, z, within, is, h) = (k, z, omega arith, is, h)
 
 -- the second picks what the first picks, and changes it as little
 module _ (c d : Target → Target) (k m : Target → Bool) (wider : (t : Target) → k t ≡ true → m t ≡ true)
@@ -49,8 +37,8 @@ module _ (c d : Target → Target) (k m : Target → Bool) (wider : (t : Target)
           → (Any (Goes j whole) (map c (filter k ts)) → Any (Goes j whole) (map d (filter m ts)))
           → Any (Goes j whole) (map c (cond a (t ∷ filter k ts) (filter k ts)))
           → Any (Goes j whole) (map d (cond b (t ∷ filter m ts) (filter m ts)))
-      by true is true are rest h = alike (Goes j whole) (c t) (d t) (map c (filter k ts)) (map d (filter m ts))
-          (kinds j whole t) rest h
+      by true is true are rest h = alike (Goes j whole) (Goes j whole) (c t) (d t) (map c (filter k ts))
+          (map d (filter m ts)) (kinds j whole t) rest h
       by true is false are rest h = absurd (let yes = wider t is in cc)
       by false is true are rest h = later (Goes j whole) (d t) (map d (filter m ts)) (rest h)
       by false is false are rest h = rest h

@@ -1,3 +1,4 @@
 pub mod DecisionLemmas
 pub mod NeededFlushes
+pub mod Picking
 pub mod ReadingPlans

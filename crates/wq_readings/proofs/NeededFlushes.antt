@@ -1,8 +1,8 @@
 -- Which unsure flushes a reading needs, so that it needs as many workqueues as all flushes.
-use Rattle.std.proofs.Common.{◌≡◌, ℕ, zero, suc, ◌+◌, ◌-◌, ◌<◌, ◌≤◌, ◌⊎◌, inl, inr, Bool, true, false, cond, List, []}
+use Rattle.std.proofs.Common.{◌≡◌, ℕ, zero, suc, ◌+◌, ◌<◌, ◌≤◌, ◌⊎◌, inl, inr, Bool, true, false, cond, List, []}
 use Rattle.std.proofs.Common.{◌∷◌, ◌++◌, length, map, slice_index, refl, sym, ap, subst, ◌∙◌, arith}
 use Rattle.std.specs.Prelude.{Contains, filter, not, ◌||◌}
-use Rattle.std.specs.List.{All, AllByRecursion, Any}
+use Rattle.std.specs.List.{AllByRecursion}
 use Rattle.std.proofs.lemmas.Bool.{cases_lt}
 use Rattle.std.proofs.lemmas.List.{length-map, get_or_past, nil_from_length}
 use Rattle.std.proofs.lemmas.List.Elements.{All-contains, All-from_recursion, recursion_from_All}
@@ -10,7 +10,7 @@ use Rattle.std.proofs.lemmas.Option.{get_or_from_slice_get, slice_get-get_or}
 use Rattle.wq_items.specs.Chain.{BeginsChain, IsChain}
 use Rattle.wq_items.specs.declared.target.Target.{Target}
 use Rattle.wq_items.specs.Readings.{is_among, is_kept, unsure_places}
-use Rattle.wq_items.specs.Table.{TargetsBelow, flush_count, places, targets_of}
+use Rattle.wq_items.specs.Table.{flush_count, places, targets_of}
 use Rattle.wq_items.proofs.Chains.{BeginsChain-at, BeginsChain-more, BeginsChain-one}
 use Rattle.wq_items.proofs.Lists.{Contains-filtered, Contains-later}
 use Rattle.wq_items.proofs.Ranks.{Differ-numbered}
@@ -26,9 +26,9 @@ use Rattle.wq_plan.specs.Plan.{IsPlan, chain_of_plan}
 use Rattle.wq_plan.proofs.LongestChain.{chain_of-longest}
 use Rattle.wq_plan.proofs.Paths.{Follows, Follows-begins, Follows-from_joined, Follows-joined}
 use Rattle.wq_plan.proofs.Plans.{IsPlan-falls}
-use Rattle.wq_plan.proofs.Relations.{BeginsChain-implied, IsChain-implied}
+use Rattle.wq_plan.proofs.Relations.{IsChain-implied}
 use Rattle.wq_readings.specs.Needed.{chain_doubts}
-use Rattle.wq_readings.proofs.ReadingPlans.{GroupWaits-all, ItemWaits-in, ItemWaits-out, KeptOf, lane-below, lane-chain}
+use Rattle.wq_readings.proofs.ReadingPlans.{GroupWaits-all, ItemWaits-in, ItemWaits-out, lane-below, lane-chain}
 use Rattle.wq_readings.proofs.ReadingPlans.{lanes-all, last_group}
 
 -- ---- one flush at each place

@@ -1,11 +1,11 @@
 -- Plans of readings.
 use Rattle.std.proofs.Common.{◌≡◌, ℕ, zero, suc, ◌+◌, ◌<◌, ◌≤◌, inl, inr, Bool, true, false, cond, List, [], ◌∷◌}
-use Rattle.std.proofs.Common.{length, map, slice_index, get_or, refl, sym, ap, subst, ◌∙◌, arith}
-use Rattle.std.specs.Prelude.{Contains, filter, not, ◌||◌}
+use Rattle.std.proofs.Common.{length, map, slice_index, refl, sym, ap, subst, ◌∙◌, arith}
+use Rattle.std.specs.Prelude.{not, ◌||◌}
 use Rattle.std.specs.List.{Any}
 use Rattle.std.proofs.lemmas.Bool.{cases_lt}
 use Rattle.std.proofs.lemmas.List.{nil_from_length}
-use Rattle.wq_items.specs.Chain.{BeginsChain, HasCircle, IsRank}
+use Rattle.wq_items.specs.Chain.{BeginsChain}
 use Rattle.wq_items.specs.declared.target.Target.{Target}
 use Rattle.wq_items.specs.Readings.{compact, is_among, is_kept, kept_of, renumbered}
 use Rattle.wq_items.specs.Table.{ItemWaits, places, targets_of}
@@ -18,24 +18,13 @@ use Rattle.wq_plan.proofs.Existence.{IsPlan-or_circle}
 use Rattle.wq_plan.proofs.Lanes.{lanes_of-above, lanes_of-some}
 use Rattle.wq_plan.proofs.Plans.{IsPlan-no_circle}
 use Rattle.wq_plan.proofs.Relations.{BeginsChain-implied, HasCircle-implied}
+use Rattle.wq_readings.proofs.Picking.{alike, later, left_out}
 
 -- ---- the flushes of an item in a reading
 
 -- one of these flushes that is kept is of the item
 abbrev pub KeptOf : List ℕ → ℕ → Target → Type 0
 KeptOf kept j t = (t.item ≡ j) × (is_kept kept t ≡ true)
-
-later : {X : Type 0} (P : X → Type 0) (x : X) (xs : List X) → Any P xs → Any P (x ∷ xs)
-later P x xs (k, y, within, is, h) = (suc k, y, omega arith, is, h)
-
-alike : {X Y : Type 0} (P : X → Type 0) (Q : Y → Type 0) (x : X) (y : Y) (xs : List X) (ys : List Y) → (P x → Q y)
-    → (Any P xs → Any Q ys) → Any P (x ∷ xs) → Any Q (y ∷ ys)
-alike P Q x y xs ys one rest (zero, z, within, is, h) = (0, y, omega arith, refl, one (subst P (sym is) h))
-alike P Q x y xs ys one rest (suc k, z, within, is, h) = later Q y ys (rest (k, z, omega arith, is, h))
-
-left_out : {X : Type 0} (P : X → Type 0) (x : X) (xs : List X) → (P x → ⊥) → Any P (x ∷ xs) → Any P xs
-left_out P x xs not_here (zero, z, within, is, h) = absurd (not_here (subst P (sym is) h))
-left_out P x xs not_here (suc k, z, within, is, h) = (k, z, omega arith, is, h)
 
 module _ (kept others : List ℕ) (j : ℕ) where
   abbrev moved : List Target → List Target

@@ -17,7 +17,7 @@ pub fn a_verdict_for_sure_outlives_each_decision()
 {}
 
 /// If a flush is denied, a hang needs no fewer unsure flushes than before.
-pub fn a_flush_that_is_denied_makes_no_hang_likelier()
+pub fn a_flush_that_is_denied_leaves_no_fewer_to_decide()
     ensures { (w : Wiring) (p : ℕ) (kept others : List ℕ) (steps more : List Step) → IsFewest w kept steps →
         IsFewest (denied p w) others more → length kept ≤ length others }
 {}
