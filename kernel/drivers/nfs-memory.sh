@@ -11,32 +11,13 @@ serve $files
 open_mounts $files
 return_at_close
 
-# It has all that it needs: what it writes comes by /go.other.
-$busybox mkfifo /go.other
-(
-    exec 8>/other/new
-    exec $busybox dd if=/go.other bs=1 count=1 conv=fsync >&8 2>/dev/null
-) &
-fsync=$!
+begin_fsync_of_other
 
 exec 9</mnt/0
 wait_for 2
-network=/sys/class/net/lo/flags
-echo 0x8 >$network
+network_down
 exec 9<&-
 $busybox umount /mnt
 echo "umount: returned"
 short
-echo 0x9 >$network
-wait_for 10
-exec 7>/go.other
-echo >&7
-exec 7>&-
-wait_for 30
-tell_pressure "forty seconds later"
-tasks
-plenty
-wait_for 20
-tell_pressure "with memory again"
-echo "with memory again:"
-must_end "fsync of another mount" $fsync
+end_with_network

@@ -32,3 +32,37 @@ open_mounts() {
 return_at_close() {
     echo 0 >/sys/module/nfsv4/parameters/delegation_watermark
 }
+
+# begin_fsync_of_other: a process that writes a byte to the other mount, and syncs it, once end_with_network lets it go. It has
+# all that it needs, since memory will be short then: what it writes comes by /go.other.
+begin_fsync_of_other() {
+    $busybox mkfifo /go.other
+    (
+        exec 8>/other/new
+        exec $busybox dd if=/go.other bs=1 count=1 conv=fsync >&8 2>/dev/null
+    ) &
+    fsync=$!
+}
+
+# network_down: from here on the server isn't reached.
+network_down() {
+    echo 0x8 >/sys/class/net/lo/flags
+}
+
+# end_with_network: the network is back, while memory is short, and then memory is. Tells the state forty seconds after the one,
+# and twenty after the other, when that process must have ended.
+end_with_network() {
+    echo 0x9 >/sys/class/net/lo/flags
+    wait_for 10
+    exec 7>/go.other
+    echo >&7
+    exec 7>&-
+    wait_for 30
+    tell_pressure "forty seconds later"
+    tasks
+    plenty
+    wait_for 20
+    tell_pressure "with memory again"
+    echo "with memory again:"
+    must_end "fsync of another mount" $fsync
+}

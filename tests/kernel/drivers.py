@@ -1,7 +1,7 @@
 #!/usr/bin/env python3
 """Do real drivers hang in a real kernel as the pages of examples/ say? By kernel/driver and its scripts.
 
-    drivers.py [--patched]
+    drivers.py [--patched] [SCRIPT ..]
 
 On Linux 6.1, unchanged: an NFS mount that ends while a delegation is on its way back (examples/nfs.md), md on md
 (examples/md.md), NVMe whose connection is lost while a partition table is read (examples/nvme-multipath.md), and a thin
@@ -13,6 +13,8 @@ It takes two minutes of processor time.
 
 With --patched also what the pages say of patched drivers, and of each script on the other kernel: that takes some ten
 minutes more the first time, and downloads the sources of two kernels, some 290 MB. It is run before a release.
+
+With names, as nvme.sh, only what these scripts do is tried.
 
 A later kernel that doesn't hang fails this test: then the pages have to say so. The thin pool hangs only if memory is
 asked back within the second in which its write fails. A guest that is slow, on a busy host, can miss it, and so it has
@@ -99,6 +101,8 @@ PATCHED = [
     Run(*THIN, "--kernel", "6.12", hung=1, rescuer="kworker/R-dm-thin", frames=("__flush_work", *ABORTS[1:]), tries=3),
     Run(*EXT4, "--kernel", "6.12", hung=2, rescuer="kworker/R-nvmet-buffered-io-wq", frames=("__flush_work", *FULL)),
     Run(*BY_FCLOOP, hung=1, rescuer="nvmet-wq", frames=ENDS_AN_ASSOCIATION),
+    Run(*BY_FCLOOP, "--patch", SCRIPTS / "nvmet-fc.patch"),
+    Run(*BY_FCLOOP, "--kernel", "6.12", hung=1, rescuer="kworker/R-nvmet-wq", frames=ENDS_AN_ASSOCIATION),
     Run(*TARGET, "--kernel", "6.12", hung=2, rescuer="target_submission", frames=("__flush_work", *PREEMPTS), stays=True),
     Run(*TARGET, "--patch", SCRIPTS / "target.patch"),
     Run(*TARGET, "--patch", SCRIPTS / "target.patch", "--kernel", "6.12"),
@@ -162,7 +166,9 @@ def run_until_it_hangs(asked):
 
 
 def main(arguments):
-    for asked in UNCHANGED + (PATCHED if arguments == ["--patched"] else []):
+    named = [word for word in arguments if word != "--patched"]
+    tried = UNCHANGED + (PATCHED if "--patched" in arguments else [])
+    for asked in [one for one in tried if not named or one.script in named]:
         ended = run_until_it_hangs(asked)
         if ended.returncode == MISSING and not ended.stdout:
             print(f"skipped drivers, {asked.script}: {ended.stderr.decode().strip()}")

@@ -1,19 +1,23 @@
 #!/usr/bin/env python3
 """What takes too long for the gate, and is run before a release.
 
-    longer.py
+    longer.py [PART ..] [--seeds FIRST-LAST]
 
-- kernel/drivers/nfs-reclaim.sh on both kernels: kswapd must wait for the server that doesn't answer (examples/nfs.md).
-- What is attached to the mail of docs/GUIDE.md, section 14 (kernel/nfs-report), on both kernels: the module is built in
-  a folder that has nothing else, and the script, with it alone, must say that the fsync hangs, and then returns.
-- kernel/drivers/md-memory.sh and nfs-memory.sh: memory alone is short, in TRIES guests with other seeds. Each must come
-  into that state and to its end. How many hang is counted, and told; in one that does, the rescuer must sleep where the
-  pages say.
+Without a PART it does all of these:
+
+reclaim    kernel/drivers/nfs-reclaim.sh on both kernels: kswapd must wait for the server that doesn't answer
+           (examples/nfs.md)
+attached   what is attached to the mail of docs/GUIDE.md, section 14 (kernel/nfs-report), on both kernels: the module is
+           built in a folder that has nothing else, and the script, with it alone, must say what hangs
+md, nfs    kernel/drivers/md-memory.sh, and nfs-memory.sh on both kernels: memory alone is short, in guests with other
+           seeds (1 to 20). Each must come into that state and to its end. How many hang is counted, and told; in one
+           that does, the rescuer must sleep where the pages say
 
 Each guest takes some minutes of processor time. Where QEMU or a kernel can't be had, it says so, and skips what needs
 it: that is no failure.
 """
 
+import argparse
 import pathlib
 import re
 import shutil
@@ -30,9 +34,16 @@ import packages  # noqa: E402  (in kernel/lib)
 REPORT = drivers.ROOT / "kernel/nfs-report"
 ENDS_BY_ANSWER = "nfs4_delegreturn_release", "rpc_async_schedule"
 # What a machine has and the guest hasn't: programs by their names, and a shell.
-AS_A_MACHINE = "$busybox --install -s /bin\nexport PATH=/bin\nmkdir -p /run\nsh /nfs-hang.sh\n"
+AS_A_MACHINE = "$busybox --install -s /bin\nexport PATH=/bin\nmkdir -p /run\nsh /nfs-hang.sh {how}\n"
+# How the script is called; the memory of its guest; and what it says of kthreadd, of rpciod's rescuer and of fsync, while
+# no worker can be created and later.
+BY_THREADS = "", "1024M", ["goes on", "HANGS", "HANGS", "returned"]
+BY_MEMORY = "memory", "192M", ["HANGS", "HANGS", "HANGS", "returned"]
+# (in 6.12 the server, which is in the guest, doesn't answer then)
+BY_MEMORY_6_12 = "memory", "192M", ["HANGS", "goes on", "HANGS", "returned"]
 RECLAIM = "nfs-reclaim.sh"
-TRIES = 20
+SEEDS = "1-20"
+PARTS = "reclaim", "attached", "md", "nfs"
 
 
 def console_of(flags, script):
@@ -54,25 +65,27 @@ def reclaim(series):
         drivers.tell(passed, f"{RECLAIM} on {series}: kswapd waits for the server", console[-1500:])
 
 
-def attached(series):
+def attached(series, how, memory, wanted):
     """Does what is attached to the mail run without this repository?"""
+    name = f"nfs-hang.sh {how} on {series}"
     why = packages.missing(series)
     if why:
-        print(f"skipped longer, nfs-hang.sh on {series}: {why}")
+        print(f"skipped longer, {name}: {why}")
         return
     kernel = packages.kernels(series)[0]
-    with tempfile.TemporaryDirectory() as name:
-        folder = pathlib.Path(name)
+    with tempfile.TemporaryDirectory() as temporary:
+        folder = pathlib.Path(temporary)
         shutil.copy(REPORT / "noworker.c", folder)
         (folder / "Makefile").write_text("obj-m := noworker.o\n")
-        (folder / "script").write_text(AS_A_MACHINE)
+        (folder / "script").write_text(AS_A_MACHINE.format(how=how))
         made = ["make", "-C", kernel.headers(), f"M={folder}", *kernel.compiler(), "modules"]
         subprocess.run(made, check=True, capture_output=True, timeout=drivers.SECONDS)
         files = ["--file", REPORT / "nfs-hang.sh", "--file", folder / "noworker.ko"]
-        words = [drivers.ROOT / "kernel/driver", "--kernel", series, *files, folder / "script", "nfsv4", "nfsd"]
+        words = [drivers.ROOT / "kernel/driver", "--kernel", series, "--memory", memory, *files, folder / "script"]
+        words += ["nfsv4", "nfsd"]
         console = drivers.run(words, timeout=drivers.SECONDS, capture_output=True).stdout.decode("latin-1")
-    said = re.findall(r"^fsync of another mount: (\w+)$", console, re.MULTILINE)
-    drivers.tell(said == ["HANGS", "returned"], f"nfs-hang.sh on {series}", console[-1500:])
+    said = re.findall(r"^(?:kthreadd, which|the rescuer of rpciod, which|fsync of) .*: (.*)$", console, re.MULTILINE)
+    drivers.tell(said == wanted, name, console[-6000:])
 
 
 def listed_stack(console, thread):
@@ -82,10 +95,10 @@ def listed_stack(console, thread):
     return re.findall(r"^\[ *[\d.]+\]  (\w+)\S*\+", found[0], re.MULTILINE) if found else []
 
 
-def of_memory(series, script, rescuer, frames, where):
+def of_memory(seeds, series, script, rescuer, frames, where):
     """How often this hangs if memory alone is short. `where` finds the rescuer's stack, which tells whether it does."""
     hung = 0
-    for seed in range(1, TRIES + 1):
+    for seed in seeds:
         name = f"{script} on {series}, seed {seed}"
         console = console_of(("--kernel", series, "--pressure", "8", "--seed", str(seed)), script)
         if console is None:
@@ -94,18 +107,29 @@ def of_memory(series, script, rescuer, frames, where):
         drivers.tell(re.search(r"wqjudge: \d+ short$", console, re.MULTILINE), f"{name}: no worker can be created", console[-1500:])
         drivers.tell(re.search(r"wqjudge: \d+ bye$", console, re.MULTILINE), f"{name}: its end", console[-1500:])
         hung += drivers.is_part_of(frames, stack)
-    print(f"        {script} on {series}: of {TRIES} tries {hung} hang", flush=True)
+    print(f"        {script} on {series}: of {len(seeds)} tries {hung} hang", flush=True)
 
 
-def main():
+def main(arguments):
+    parser = argparse.ArgumentParser(description=__doc__, formatter_class=argparse.RawDescriptionHelpFormatter)
+    parser.add_argument("part", nargs="*", default=PARTS, help=", ".join(PARTS))
+    parser.add_argument("--seeds", default=SEEDS, help=f"as {SEEDS}, which is the default")
+    options = parser.parse_args(arguments)
+    first, last = map(int, options.seeds.split("-"))
+    seeds = range(first, last + 1)
     for series in packages.SERIES:
-        reclaim(series)
-        attached(series)
-    of_memory("6.1", "md-memory.sh", "md", drivers.ON_MD, drivers.stack_of)
-    of_memory("6.1", "nfs-memory.sh", "rpciod", ENDS_BY_ANSWER, listed_stack)
-    of_memory("6.12", "nfs-memory.sh", "kworker/R-rpciod", ENDS_BY_ANSWER, listed_stack)
+        if "reclaim" in options.part:
+            reclaim(series)
+        if "attached" in options.part:
+            attached(series, *BY_THREADS)
+            attached(series, *(BY_MEMORY if series == "6.1" else BY_MEMORY_6_12))
+    if "md" in options.part:
+        of_memory(seeds, "6.1", "md-memory.sh", "md", drivers.ON_MD, drivers.stack_of)
+    if "nfs" in options.part:
+        of_memory(seeds, "6.1", "nfs-memory.sh", "rpciod", ENDS_BY_ANSWER, listed_stack)
+        of_memory(seeds, "6.12", "nfs-memory.sh", "kworker/R-rpciod", ENDS_BY_ANSWER, listed_stack)
     return drivers.counts_of("longer", drivers.counts[True], drivers.counts[False])
 
 
 if __name__ == "__main__":
-    sys.exit(main())
+    sys.exit(main(sys.argv[1:]))

@@ -54,9 +54,9 @@ def test_unread_counts(name, survey):
 
 
 def test_read_again(survey):
-    """No second reading is the first reader's."""
+    """What is real was read by another one, who says what he found; and no second reading is the first reader's."""
     real = [verdict.why for verdict in survey.verdicts.values() if verdict.word == REAL]
-    assert [why for why in real if "read again" in why] == []
+    assert [why for why in real if "second reader" not in why or "read again" in why] == []
 
 
 def test_kinds(survey):
