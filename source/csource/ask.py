@@ -5,6 +5,7 @@ beside it, which then takes its place.
 """
 
 import collections
+import functools
 import pathlib
 import re
 import subprocess
@@ -13,14 +14,16 @@ from dataclasses import dataclass, field
 from typing import Iterator, Optional
 
 from . import outputs, says
-from .cited import FLUSHES, UNSURE, Cited
+from .calls import Edge
+from .cited import FLUSHES, UNSURE, Cited, Located
 from .declaration import Declaration
 from .draft import Draft
 from .faults import Fault
-from .places import FunctionId
+from .places import FunctionId, Place
 from .program import Program
 from .question import SECONDS, NoWqplan, find_wqplan
-from .sites import Key, Site
+from .reach import Reached, reached_from
+from .sites import Key, Site, key_of
 
 SAFE, HANGS, REFUSED = 0, 1, 2
 # What stands before the `?` of an unsure line.
@@ -110,40 +113,80 @@ class Read:
     program: Program
     cited: Cited
     draft: Draft
-    # the shortest way of each item to each site
-    ways: dict[FunctionId, dict[Key, list]] = field(default_factory=dict)
+    # the shortest way of each item to each site, along calls that no line cuts
+    ways: dict[FunctionId, dict[Key, list[Edge]]] = field(default_factory=dict)
 
     @staticmethod
     def of(declaration: Declaration, program: Program) -> "Read":
         return Read(program, Cited(declaration, program), Draft(program, []))
 
     def beside(self, declaration: Declaration) -> "Read":
-        """The same files beside another declaration: their ways stay."""
-        return Read(self.program, Cited(declaration, self.program), self.draft, self.ways)
+        """The same files beside another declaration: their ways stay, if the same calls are cut."""
+        other = Read(self.program, Cited(declaration, self.program), self.draft)
+        if (other.closed, other.cut) == (self.closed, self.cut):
+            other.ways = self.ways
+        return other
+
+    @functools.cached_property
+    def closed(self) -> set[FunctionId]:
+        """The functions that `# not through:` lines name."""
+        return set(self.cited.closed())
+
+    @functools.cached_property
+    def cut(self) -> set[Key]:
+        """The calls of functions of these files that `# no wait:` lines dismiss: they aren't followed."""
+        dismissed = self.cited.declaration.dismissals
+        if not dismissed:
+            return set()
+        called = [edges for functions in self.program.graph.edges.values() for edges in functions.values()]
+        calls = [edge.call for edges in called for edge in edges if self.cited.may_dismiss(edge.call.name)]
+        return {key for key in map(key_of, calls) if self.cited.dismissal_of(key)}
+
+    def reached(self, function: FunctionId) -> Reached:
+        """What a work function reaches along calls that no line cuts."""
+        if not self.closed and not self.cut:
+            return self.program.sleeps[function]
+        return reached_from(self.program.graph, function, self.follows, self.closed)
+
+    def follows(self, edge: Edge) -> bool:
+        return self.program.may_sleep(edge) and key_of(edge.call) not in self.cut
 
     def sites_of(self, number: int) -> list[Site]:
         """The sites that a line of the declaration cites, but for the calls that lead to them."""
         line = self.cited.declaration.lines[number - 1]
         before, _, _ = line.partition(WAY)
         found: dict[Key, Site] = {}
-        for one in self.cited.located:
+        for one in self.located.get(number, ()):
             citation = one.citation
-            if citation.number == number and citation.decides and one.file and citation.column < len(before):
-                for site in self.sites_in(one.file):
+            if citation.decides and citation.column < len(before):
+                for site in self.sites_in.get(one.file, ()):
                     if any(citation.line <= line <= citation.last for line in site.lines):
                         found.setdefault(site.key, site)
         return list(found.values())
 
-    def sites_in(self, file: str) -> list[Site]:
-        return [site for site in self.program.sites.by_key.values() if site.key.file == file]
+    @functools.cached_property
+    def located(self) -> dict[int, list[Located]]:
+        """The citations of each line: all lines are looked at for a question, and they are thousands."""
+        found: dict[int, list[Located]] = {}
+        for one in self.cited.located:
+            found.setdefault(one.citation.number, []).append(one)
+        return found
 
-    def way(self, item: str, site: Site) -> Optional[list]:
+    @functools.cached_property
+    def sites_in(self) -> dict[str, list[Site]]:
+        """The sites of each file."""
+        found: dict[str, list[Site]] = {}
+        for site in self.program.sites.by_key.values():
+            found.setdefault(site.key.file, []).append(site)
+        return found
+
+    def way(self, item: str, site: Site) -> Optional[list[Edge]]:
         """The calls that lead from an item to a site; None where it isn't known that any do."""
         for function in self.cited.starts(item):
             if function not in self.program.items.items:
                 continue
             if function not in self.ways:
-                waits = self.draft.waits_of(function, {function})
+                waits = self.draft.waits_of(function, {function}, self.reached)
                 self.ways[function] = {}
                 for one, path, _ in waits:
                     known = self.ways[function].setdefault(one.key, path)
@@ -152,6 +195,13 @@ class Read:
             if site.key in self.ways[function]:
                 return self.ways[function][site.key]
         return None
+
+    def is_cancel(self, edge: Edge) -> bool:
+        """Whether this stands for a cancel that waits while its item runs, and is no call."""
+        return not edge.call.arguments and any(
+            site.id == edge.place.id and edge.place.line in site.lines and site.key.call == edge.call.name
+            for site in self.draft.cancels.values()
+        )
 
     def reaching(self, site: Site) -> set[str]:
         """The declared items that come to a site."""
@@ -198,6 +248,23 @@ def made_sure(line: str) -> str:
     return line[: found.end()] + line[found.end() + 1 :]
 
 
+@dataclass
+class CallOfWay:
+    """A call that leads to the wait of a question: what it is kept by, and the file and the name of what it calls."""
+
+    edge: Edge
+    key: Key
+    function: str
+
+    def is_named(self) -> bool:
+        """Whether a `# no wait` line can name it: a call by an expression has no name."""
+        return bool(Declaration.of("", f"# no wait: {self.key}: why\n").dismissals)
+
+    def comment(self, of_function: bool, why: str) -> str:
+        """The line that says that the call isn't made, or that what it calls never leads to a wait."""
+        return f"# not through: {self.function}: {why}" if of_function else f"# no wait: {self.key}: {why}"
+
+
 class Asking:
     """The questions about a declaration and an assignment, as they are by the answers up to now."""
 
@@ -206,6 +273,8 @@ class Asking:
         # lines that were put off, by what stands in them
         self.later: collections.Counter[str] = collections.Counter()
         self.read: Optional[Read] = None
+        # a comment, the text that it was tried with, and the flush lines whose sites nobody reaches with it
+        self.lost: tuple[str, str, set[int]] = "", "", set()
         self.read_again()
 
     def read_again(self) -> None:
@@ -287,6 +356,89 @@ class Asking:
         keys = [self.read.short(site.key) for site in self.sites()]
         changes[self.number] = [f"# no wait: {key}: {why}" for key in keys]
         self.write(changes)
+
+    def keep_targets(self, names: list[str], why: str) -> int:
+        """Only these targets end a wait at the sites of the question: the unsure lines there for others go, whoever waits.
+        How many went."""
+        assert self.number
+        there = self.lines_there()
+        gone = {number for number in self.unsure_there() if self.target(number) not in names}
+        line = self.text.lines[self.number - 1]
+        comments = [comment for site in self.sites() for comment in self.not_for(site, gone, there, why)]
+        changes: dict[int, Optional[list[str]]] = {number: None for number in gone}
+        changes[self.number] = comments if self.number in gone else [*comments, line]
+        self.write(changes)
+        return len(gone)
+
+    def not_for(self, site: Site, gone: set[int], there: dict[int, set[Key]], why: str) -> Iterator[str]:
+        """The comments for one site without these lines: who waits there for others, and who doesn't wait there then."""
+        assert self.read
+        mine = [number for number, keys in there.items() if site.key in keys]
+        left = {self.text.words(number)[1] for number in mine if number not in gone}
+        items = list(dict.fromkeys(self.text.words(number)[1] for number in mine if number in gone))
+        targets = list(dict.fromkeys(self.target(number) for number in mine if number in gone))
+        key = self.read.short(site.key)
+        some = [item for item in items if item in left]
+        none = [item for item in items if item not in left]
+        if some:
+            yield f"# no wait of {' '.join(some)} for {' '.join(targets)}: {key}: {why}"
+        if none:
+            of = "" if self.read.reaching(site) <= set(none) else f" of {' '.join(none)}"
+            yield f"# no wait{of}: {key}: {why}"
+
+    def targets_there(self) -> list[str]:
+        """For whom the unsure lines at the sites of the question are."""
+        return list(dict.fromkeys(self.target(number) for number in self.unsure_there()))
+
+    def target(self, number: int) -> str:
+        return self.text.words(number)[2]
+
+    def cut(self, comment: str) -> int:
+        """A call isn't made on the way, or leads to no wait, whoever comes there: all unsure lines that lead only through
+        it go, and the comment that says so is written. How many went."""
+        assert self.number
+        gone = self.gone_by(comment)
+        line = self.text.lines[self.number - 1]
+        changes: dict[int, Optional[list[str]]] = {number: None for number in gone}
+        changes[self.number] = [comment] if self.number in gone else [comment, line]
+        self.write(changes)
+        return len(gone)
+
+    def gone_by(self, comment: str) -> set[int]:
+        """The unsure lines of which each site was reached by the item, and isn't with this comment."""
+        return self.lost_by(comment) & set(self.text.unsure())
+
+    def sure_by(self, comment: str) -> list[int]:
+        """The lines that say for sure that an item waits where none comes with this comment."""
+        return sorted(self.lost_by(comment) - set(self.text.unsure()))
+
+    def lost_by(self, comment: str) -> set[int]:
+        """The flush lines of which each site was reached by the item, and isn't with this comment."""
+        assert self.read
+        if (comment, self.text.text) != self.lost[:2]:
+            cut = self.read.beside(Declaration.of(str(self.path), f"{self.text.text}\n{comment}\n"))
+            found = {number for number in self.text.numbers(*FLUSHES) if self.is_lost(number, cut)}
+            self.lost = comment, self.text.text, found
+        return self.lost[2]
+
+    def is_lost(self, number: int, cut: Read) -> bool:
+        assert self.read
+        item, sites = self.text.words(number)[1], self.read.sites_of(number)
+        return bool(sites) and all(
+            cut.way(item, site) is None and self.read.way(item, site) is not None for site in sites
+        )
+
+    def calls(self, most: int) -> list["CallOfWay"]:
+        """The calls that lead to the first sites of the question, in their order, each once."""
+        found: dict[tuple[Key, Place, FunctionId], CallOfWay] = {}
+        for site in self.sites()[:most]:
+            assert self.read
+            way = self.read.way(self.item(), site) or []
+            for edge, called in zip(way, [edge.place.id for edge in way[1:]] + [site.id]):
+                if not self.read.is_cancel(edge):
+                    key, file = self.read.short(key_of(edge.call)), self.read.draft.short(called.file)
+                    found.setdefault((key, edge.place, called), CallOfWay(edge, key, f"{file} {called.name}"))
+        return list(found.values())
 
     def item(self) -> str:
         """The item of the question."""

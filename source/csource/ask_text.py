@@ -5,7 +5,7 @@ import sys
 from typing import Optional, TextIO
 
 from . import says
-from .ask import Asking, Changed, Hang
+from .ask import Asking, CallOfWay, Changed, Hang
 from .calls import DIRECT, Edge
 from .places import Place
 from .program import Ended
@@ -18,6 +18,10 @@ MOST_ENDS = 4
 MOST_SITES = 3
 
 SURE, NOT_SO, NOT_THERE, NOWHERE, LATER, QUIT = "y", "n", "ni", "na", "s", "q"
+# Only these targets.
+ONLY = "o"
+# A call of the way, or the function that it calls.
+CUT, CUT_FUNCTION = "c", "cf"
 NO_ANSWER = "y, n WHY, s or q: see above"
 NO_PLACE = "the line cites no place that may wait: n WHY"
 
@@ -29,6 +33,8 @@ class Printer:
         self.asking = asking
         self.to = to
         self.asked = 0
+        # the calls that `c` has shown of this question
+        self.calls: list[CallOfWay] = []
 
     def say(self, text: str = "") -> None:
         print(text, file=self.to)
@@ -41,6 +47,7 @@ class Printer:
         number = asking.number
         assert number and asking.asked
         self.asked += 1
+        self.calls = []
         words = " ".join(asking.text.words(number))
         self.say()
         self.say(f"Question {self.asked}: is this so?  {words}")
@@ -77,7 +84,24 @@ class Printer:
             self.say(f"  ni WHY  {item} doesn't wait {there}: decides {says.counted(own - 1, 'unsure line')} more")
         if all_there > own and not asking.sure_there():
             self.say(f"  na WHY  no item waits {there}: decides {says.counted(all_there - 1, 'unsure line')} more")
+        if asking.calls(MOST_SITES):
+            self.say("  c       a call of the way never leads there: shows these calls by number")
+        if len(asking.targets_there()) > 1:
+            self.say("  o TARGET..: WHY  whoever waits there, only these may end it: the unsure lines for others go")
         self.say("  s       later          q       no more questions")
+
+    def show_calls(self) -> None:
+        """The calls that lead to the sites that are shown, by number."""
+        self.calls = self.asking.calls(MOST_SITES)
+        if not self.calls:
+            return
+        for number, call in enumerate(self.calls, 1):
+            place = call.edge.place
+            self.say(f"  {number:3}  {self.place(place)}: {self.source_line(place.file, place.line)}")
+            self.say(f"       leads to {call.function}")
+        self.say()
+        self.say("  c N WHY   call N isn't made here: nobody waits for what only it leads to")
+        self.say("  cf N WHY  the function that it leads to waits for nothing, whoever calls it")
 
     def site(self, site: Site) -> None:
         read = self.asking.read
@@ -190,10 +214,57 @@ def answered(printer: Printer, answer: str) -> Optional[str]:
         if not asking.sites():
             return NO_PLACE
         asking.deny_item(why) if word == NOT_THERE else asking.deny_all(why)
+    elif word == ONLY:
+        return only(printer, why)
+    elif word in (CUT, CUT_FUNCTION):
+        return cut(printer, word, why)
     elif word in (NOT_SO, NOT_THERE, NOWHERE):
         return f"say why, in a few words: {word} WHY"
     else:
         return NO_ANSWER
+    return None
+
+
+def only(printer: Printer, rest: str) -> Optional[str]:
+    """Keeps some targets of the unsure lines. What is wrong with the answer, if something is."""
+    asking = printer.asking
+    before, _, why = rest.partition(":")
+    names, why, known = before.split(), why.strip(), asking.targets_there()
+    if not names or not why:
+        return f"say which ones, and why: {ONLY} TARGET..: WHY, of {' '.join(known)}" if known else NO_PLACE
+    unknown = [name for name in names if name not in known]
+    if unknown:
+        return f"no unsure line there is for {unknown[0]}: they are for {' '.join(known)}"
+    sure = [number for number in asking.sure_there() if set(asking.text.words(number)[2:]) - set(names)]
+    if sure:
+        return f"line {sure[0]} says for sure that an item waits there for another one: take that away first"
+    gone = asking.keep_targets(names, why)
+    printer.say(f"{says.counted(gone, 'unsure line')} {'was' if gone == 1 else 'were'} for others, and {'is' if gone == 1 else 'are'} gone")
+    return None
+
+
+def cut(printer: Printer, word: str, rest: str) -> Optional[str]:
+    """Shows the calls of the way, or cuts one of them. What is wrong with the answer, if something is."""
+    asking = printer.asking
+    number, _, why = rest.partition(" ")
+    if not printer.calls or not number:
+        printer.show_calls()
+        return f"take one: {CUT} N WHY" if printer.calls else "no call leads there: n WHY"
+    if not number.isdecimal() or not 1 <= int(number) <= len(printer.calls):
+        return f"a number of 1 to {len(printer.calls)}, and why: {word} N WHY"
+    call = printer.calls[int(number) - 1]
+    if word == CUT and not call.is_named():
+        return f"this call has no name by which a line could keep it: {CUT_FUNCTION} {number} WHY"
+    comment = call.comment(word == CUT_FUNCTION, why or "why")
+    sure = asking.sure_by(comment)
+    if sure:
+        return f"line {sure[0]} says for sure that an item waits behind it: take that away first"
+    if not why:
+        lines = says.counted(len(asking.gone_by(comment)), "unsure line")
+        return f"decides {lines}: say why, in a few words: {word} {number} WHY"
+    gone = asking.cut(comment)
+    lines = f"{says.counted(gone, 'unsure line')} led only through it, and {'is' if gone == 1 else 'are'} gone"
+    printer.say(lines if gone else "no unsure line led only through it: there is another way")
     return None
 
 

@@ -192,10 +192,13 @@ class Audit:
         for function in self.reached_functions:
             for edges in self.program.graph.edges.get(function, {}).values():
                 for edge in filter(self.program.may_sleep, edges):
-                    self.dismisses(key_of(edge.call))
+                    self.dismisses_call(edge.call)
 
     def follows(self, edge: Edge) -> bool:
-        return self.program.may_sleep(edge) and not self.dismisses(key_of(edge.call))
+        return self.program.may_sleep(edge) and not self.dismisses_call(edge.call)
+
+    def dismisses_call(self, call: Call) -> bool:
+        return self.cited.may_dismiss(call.name) and self.dismisses(key_of(call))
 
     def dismisses(self, key: Key) -> bool:
         """Whether a line dismisses this call. The line is noted as one that is needed."""

@@ -247,8 +247,16 @@ class Printer:
             f"{says.counted(len(audit.declaration.items), 'item')}. {says.counted(len(audit.sites), 'site')} in "
             f"reach: {len(audit.cited_sites)} cited, {len(audit.dismissed)} dismissed, {settled}{len(audit.left)} left. "
             f"{self.for_items_text()}"
-            f"{says.counted(len(waiting), 'item')} that may wait, not declared, on their workqueues.",
+            f"{says.counted(len(waiting), 'item')} that may wait, not declared, on their workqueues.{self.unsure_text()}",
         )
+
+    def unsure_text(self) -> str:
+        """That unsure lines alone are why the status isn't 0, if they are."""
+        unsure = len(self.audit.cited.unsure())
+        if not unsure or not self.audit.is_decided:
+            return ""
+        are = "1 line is unsure" if unsure == 1 else f"{unsure} lines are unsure"
+        return f" {are}: the status is 1 until each is decided. Nothing else is left."
 
     def for_items_text(self) -> str:
         """With --each-item, how many cited sites are left for other items."""

@@ -72,6 +72,8 @@ class Cited:
         self.threads = self.find_threads()
         # (the same call is asked about once for each item that reaches it)
         self.dismissal_of = functools.cache(self.find_dismissal)
+        # (of most calls the name alone says that no line dismisses them)
+        self.may_dismiss = functools.cache(self.find_name)
 
     def given(self, name: str) -> list[str]:
         """The given files that a name may mean: it is the end of their path."""
@@ -174,6 +176,10 @@ class Cited:
         """What an item waits for by its lines."""
         lines = [self.words(number) for number in range(1, len(self.declaration.lines) + 1)]
         return {target for words in lines if words[:1] in FLUSHES and words[1:2] == [name] for target in words[2:]}
+
+    def find_name(self, name: str) -> bool:
+        """Whether a line may dismiss calls of this name."""
+        return any(fits(dismissal.key.call, name) for dismissal in self.declaration.dismissals)
 
     def find_dismissal(self, key: Key) -> Optional[Dismissal]:
         return next((dismissal for dismissal in self.declaration.dismissals if self.matches(dismissal.key, key)), None)

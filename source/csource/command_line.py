@@ -243,11 +243,15 @@ def run_draft(words: argparse.Namespace, extractor: program.ReadsFacts) -> int:
     extractor.progress.end()
     if found.missing:
         raise Fault(f"{found.missing[0]} is no work function of these files")
-    draft_text.Printer(found, sys.stdout, words.unknown).print()
+    declaration = io.StringIO()
+    draft_text.Printer(found, declaration, words.unknown).print()
+    sys.stdout.write(declaration.getvalue())
     if out:
         text = io.StringIO()
         draft_text.print_assignment(found, text, words.unknown)
         outputs.replace(out, outputs.with_sum(text.getvalue()))
+    if draft_text.is_too_long(declaration.getvalue()):
+        print(f"wqsource: {draft_text.TOO_LONG}", file=sys.stderr)
     return DONE
 
 

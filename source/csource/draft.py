@@ -3,7 +3,7 @@
 import collections
 import functools
 from dataclasses import dataclass, field
-from typing import Iterator
+from typing import Callable, Iterator, Optional
 
 from .backstop import Missed, missed_calls
 from .calls import DIRECT, Edge
@@ -11,7 +11,7 @@ from .doubts import CONSTANT, Doubts
 from .items import Item
 from .places import FunctionId, Place
 from .program import Ends, Program
-from .reach import path_to, reached_from
+from .reach import Reached, all_behind, edges_that, path_to
 from .records import Call
 from .sites import TARGETED, Key, Site
 
@@ -131,10 +131,12 @@ class Draft:
             line.path = ways[0] or []
         return found
 
-    def waits_of(self, function: FunctionId, seen: set[FunctionId]) -> Iterator[tuple[Site, list[Edge], list[Stage]]]:
+    def waits_of(
+        self, function: FunctionId, seen: set[FunctionId], reach: Optional[Callable[[FunctionId], Reached]] = None
+    ) -> Iterator[tuple[Site, list[Edge], list[Stage]]]:
         """The sites in reach of an item, each with the way there. A cancel of an item stands for the sites of that:
         then the way has several stages, from the item to the cancel, and from what it cancels to the site."""
-        reached = self.program.sleeps[function]
+        reached = reach(function) if reach else self.program.sleeps[function]
         for site in sorted(self.program.sites_of(reached), key=lambda site: (site.key.file, site.lines)):
             path = path_to(reached, site.id)
             if site.kind != "cancel" or not site.targets or function in site.targets:
@@ -146,7 +148,7 @@ class Draft:
             edge = Edge(place, how, Call(place, site.key.call, []))
             for target in sorted(site.targets - seen):
                 seen.add(target)
-                for inner, way, stages in self.waits_of(target, seen):
+                for inner, way, stages in self.waits_of(target, seen, reach):
                     yield inner, [*path, edge, *way], [(function, site), *stages]
 
     def line(self, function: FunctionId, site: Site, path: list[Edge]) -> "Line | None":
@@ -210,15 +212,19 @@ class Draft:
     def uncalled(self) -> list[Uncalled]:
         """Items of other files may call them: these files don't say."""
         program, found = self.program, {}
+        may_sleep = edges_that(program.graph, program.may_sleep)
         for one in program.facts.initialisers:
             for function in program.facts.resolve(one.place.file, one.name):
                 if function in program.reached_by or function in found:
                     continue
-                reached = reached_from(program.graph, function, program.may_sleep)
-                sites = program.sites_of(reached)
+                # (the nearest first)
+                sites = [
+                    site
+                    for called in all_behind(may_sleep, function)
+                    for site in program.sites.in_function.get(called, ())
+                ]
                 if sites:
-                    nearest = min(sites, key=lambda site: len(path_to(reached, site.id)))
-                    found[function] = Uncalled(function, f"{one.struct}.{one.member}", nearest, len(sites) - 1)
+                    found[function] = Uncalled(function, f"{one.struct}.{one.member}", sites[0], len(sites) - 1)
         return list(found.values())
 
     @functools.cached_property

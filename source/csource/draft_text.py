@@ -34,6 +34,11 @@ UNKNOWN_LINES = (
 UNKNOWN = "unknown"
 # A line of a declaration has so many bytes at most.
 MOST_LINE = 4000
+# And so many a declaration.
+MOST_BYTES = 1_048_576
+TOO_LONG = (
+    f"the draft has more than the {MOST_BYTES:,} bytes that wqplan reads: name the work functions that matter, by --only"
+)
 
 
 def some(names: Iterable[str]) -> str:
@@ -58,6 +63,11 @@ def kernel_version(tree: pathlib.Path) -> str:
     makefile = tree / "Makefile"
     text = makefile.read_text(errors="replace") if makefile.is_file() else ""
     return ".".join(re.findall(r"^(?:VERSION|PATCHLEVEL|SUBLEVEL) *= *(\d+)$", text, re.M)[:3])
+
+
+def is_too_long(text: str) -> bool:
+    """Whether `wqplan` refuses this declaration for its length."""
+    return len(text.encode("utf-8", "surrogateescape")) > MOST_BYTES
 
 
 class Printer:
@@ -115,6 +125,8 @@ class Printer:
                 says.note(self.to, text)
         self.print_sources()
         self.write(says.wrapped(" ".join(files), "# files: ", "# files: "))
+        if self.program.graph.stacked:
+            self.write("# stacked: it was drafted with --stacked")
         self.write()
         for item in self.draft.all_items():
             self.print_item(item)

@@ -16,6 +16,7 @@ class Step(NamedTuple):
 
 Reached = dict[FunctionId, Optional[Step]]
 Follows = Callable[[Edge], bool]
+Called = dict[FunctionId, list[FunctionId]]
 NONE: dict[FunctionId, list[Edge]] = {}
 
 
@@ -43,6 +44,26 @@ def reached_from(
                     waiting.append(function)
                     break
     return reached
+
+
+def edges_that(graph: CallGraph, follows: Follows) -> Called:
+    """Of each function those that it calls by a call that `follows` admits."""
+    return {
+        caller: [function for function, edges in called.items() if any(map(follows, edges))]
+        for caller, called in graph.edges.items()
+    }
+
+
+def all_behind(called: Called, start: FunctionId) -> list[FunctionId]:
+    """As reached_from, without the ways: many ask for the same edges."""
+    found = {start: None}
+    waiting = [start]
+    for caller in waiting:
+        for function in called.get(caller, ()):
+            if function not in found:
+                found[function] = None
+                waiting.append(function)
+    return waiting
 
 
 def path_to(reached: Reached, function: FunctionId) -> list[Edge]:

@@ -72,11 +72,12 @@ class TreeIndex:
         makers, with_items = {}, {}
         for line in grep(tree, "-HE", LOOKED_FOR, jobs=jobs):
             file, _, text = line.partition(":")
-            if match := EXPORTED.search(text):
+            # (nearly all lines are of the first kind, and to look for a word is many times as fast as for a pattern)
+            if "EXPORT" in text and (match := EXPORTED.search(text)):
                 found.exports.setdefault(match[1], file)
-            if MAKES.search(text):
+            if "queue" in text and MAKES.search(text):
                 makers[file] = None
-            if ITEM.search(text):
+            if "_WORK" in text and ITEM.search(text):
                 with_items[file] = None
         found.makers, found.with_items = list(makers), list(with_items)
         return found

@@ -161,7 +161,7 @@ def test_what_a_question_shows(ask, drafted_files):
     assert "    >    10     wait_for_completion(&r->logged);\n         11 }\n" in said
     assert "      r_retry, at r.c:26 r_retry: complete(&r->logged);\n      r_log, at r.c:5 r_log: complete" in said
     assert "\n  n WHY   it isn't so: not for r_retry\n" in said
-    assert "\n  ni WHY  r_send doesn't wait there: decides 1 unsure line more\n  s " in said
+    assert "\n  ni WHY  r_send doesn't wait there: decides 1 unsure line more\n  c       a call " in said
 
 
 def test_sure(ask, drafted_files):
@@ -242,6 +242,73 @@ def test_an_item_that_does_not_wait_where_others_do(ask, drafted_files, wqsource
     assert len(gone) == (2 if word == "ni" else 4) and all(word == "na" or line.split()[1] == asked for line in gone)
     audited = wqsource("audit", "--decl", "r.wq", cwd=drafted_files).out
     assert "left:" not in audited and "says it waits at" not in audited
+
+
+# Of each site, who waits there and who may end it: r_send and r_retry, and r_log and r_retry.
+SHARED = SOURCE.replace("\tflush_work(&r->send_work);\n", "\tr_sent(r);\n")
+
+
+@pytest.fixture
+def shared(drafted_files, wqsource):
+    """The draft of the source in which two items come to one site."""
+    (drafted_files / "r.c").write_text(SHARED)
+    text = wqsource("draft", "--tree", drafted_files, "r.c").out
+    (drafted_files / "r.wq").write_text(text)
+    return text
+
+
+def test_who_alone_may_end_it(ask, drafted_files, shared, wqsource):
+    """The unsure lines for others go, whoever waits; those for the ones that are named stay unsure."""
+    ran = ask("o r_log: r_retry  never signals it")
+    assert "\n  o TARGET..: WHY  whoever waits there, only these may end it: the unsure lines for others go\n" in ran.out
+    assert "> 2 unsure lines were for others, and are gone\n\nsafe whatever the 2 unsure lines left turn out to be\n" in ran.out
+    gone, new = changed(shared, (drafted_files / "r.wq").read_text())
+    assert sorted(line.partition("  #")[0] for line in gone) == ["flush? r_retry r_retry", "flush? r_send r_retry"]
+    assert [sorted(re.search("of (.*) for", line)[1].split()) for line in new] == [["r_retry", "r_send"]]
+    assert new[0].endswith(f" for r_retry: {SITE}: r_retry never signals it")
+    ran = wqsource("audit", "--decl", "r.wq", cwd=drafted_files)
+    assert ran.status == 1 and "1 site in reach: 1 cited, 0 dismissed, 0 left." in ran.out
+    assert "look at" not in ran.out and "unsure: 2 lines" in ran.out
+
+
+def test_an_item_that_waits_for_others_alone(ask, drafted_files, shared):
+    """An item that has no line left there doesn't wait there at all."""
+    [line] = [line for line in shared.splitlines(True) if line.startswith("flush? r_retry r_log")]
+    (drafted_files / "r.wq").write_text(shared.replace(line, ""))
+    ask("o r_log: never")
+    _, new = changed(shared, (drafted_files / "r.wq").read_text())
+    assert new == [f"# no wait of r_send for r_retry: {SITE}: never", f"# no wait of r_retry: {SITE}: never"]
+
+
+def test_the_line_of_the_question_stays_if_its_target_may_end_it(ask, drafted_files, shared):
+    ran = ask("o r_retry: r_log is for somebody else", "q")
+    before, after = (line for line in questions(ran.out))
+    gone, new = changed(shared, (drafted_files / "r.wq").read_text())
+    assert before == after and all(line.startswith(("flush? r_send r_log", "flush? r_retry r_log")) for line in gone) and len(new) == 1
+    lines = (drafted_files / "r.wq").read_text().splitlines()
+    assert lines[lines.index(new[0]) + 1].startswith(before)
+
+
+@pytest.mark.parametrize("answer,said", [
+    ("o", "say which ones, and why: o TARGET..: WHY, of "),
+    ("o r_log", "say which ones, and why: o TARGET..: WHY, of "),
+    ("o : never", "say which ones, and why: o TARGET..: WHY, of "),
+    ("o r_log:  ", "say which ones, and why: o TARGET..: WHY, of "),
+    ("o r_send: never", "no unsure line there is for r_send: they are for "),
+])
+def test_who_is_none_that_may_end_it(ask, drafted_files, shared, answer, said):
+    ran = ask(answer)
+    assert f"\n> {said}" in ran.out and ran.status == DEPENDS
+    assert (drafted_files / "r.wq").read_text() == shared
+
+
+def test_a_sure_wait_for_another_one(ask, drafted_files, shared):
+    [line] = [line for line in shared.splitlines() if line.startswith("flush? r_send r_log")]
+    text = shared.replace(line, line.replace("flush?", "flush"))
+    (drafted_files / "r.wq").write_text(text)
+    ran = ask("o r_retry: never", "q")
+    assert re.search(r"^> line \d+ says for sure that an item waits there for another one: take that away first", ran.out, re.M)
+    assert (drafted_files / "r.wq").read_text() == text
 
 
 def test_a_site_at_which_an_item_waits_for_sure(ask, drafted_files):
@@ -369,3 +436,141 @@ def test_bytes_that_are_no_utf_8(wqplan, drafted_files):
     command = [str(ROOT / "source" / "wqsource"), "ask", "r.wq", "r.assign"]
     ran = programs.run(command, cwd=drafted_files, env=env, capture_output=True)
     assert (ran.returncode, ran.stderr) == (DEPENDS, b"") and b"  r.wq:3: flush? a b  # \xff\n" in ran.stdout
+
+
+# r_send comes to r_sent by itself, and by r_again
+TWICE = SOURCE.replace("static void r_send(", """\
+static void r_again(struct r *r)
+{
+	r_sent(r);
+}
+
+static void r_send(""").replace("\tr_sent(r);\n}\n\nstatic void r_retry", "\tr_sent(r);\n\tr_again(r);\n}\n\nstatic void r_retry")
+
+
+@pytest.fixture
+def one_site(drafted_files):
+    """The draft without the flush of r_retry."""
+    text = (drafted_files / "r.wq").read_text().replace(RETRY, "# no wait: r.c r_retry flush_work(&r->send_work): a test")
+    (drafted_files / "r.wq").write_text(text)
+    return text
+
+
+@pytest.fixture
+def two_ways(drafted_files, wqsource):
+    """The same of the source in which two calls lead to the site."""
+    (drafted_files / "r.c").write_text(TWICE)
+    text = wqsource("draft", "--tree", drafted_files, "r.c").out
+    [retry] = [line for line in text.splitlines() if line.startswith("flush? r_retry r_send")]
+    text = text.replace(retry, "# no wait: r.c r_retry flush_work(&r->send_work): a test")
+    (drafted_files / "r.wq").write_text(text)
+    return text
+
+
+@pytest.mark.parametrize("word,comment", [
+    ("c", "# no wait: r.c r_send r_sent(r): nothing is sent"),
+    ("cf", "# not through: r.c r_sent: nothing is sent"),
+])
+def test_a_call_of_the_way_is_cut(ask, drafted_files, one_site, wqsource, word, comment):
+    """It is shown with its number, and how much it decides; all lines that lead only through it go."""
+    ran = ask("c", f"{word} 1", f"{word} 1 nothing  is sent")
+    assert "\n  c       a call of the way never leads there: shows these calls by number\n" in ran.out
+    assert "> " + "    1  r.c:17 r_send: r_sent(r);\n       leads to r.c r_sent\n" in ran.out
+    assert f"\ntake one: c N WHY\n> decides 2 unsure lines: say why, in a few words: {word} 1 WHY\n" in ran.out
+    assert "> 2 unsure lines led only through it, and are gone\n\nsafe\n" in ran.out and ran.status == 0
+    gone, new = changed(one_site, (drafted_files / "r.wq").read_text())
+    assert sorted(gone) == sorted([SEND, LOG]) and new == [comment]
+    # the line is a comment that `audit` reads, and nothing is left
+    assert wqsource("audit", "--decl", "r.wq", cwd=drafted_files).status == 0
+
+
+def test_a_site_with_another_way(ask, drafted_files, two_ways, wqsource):
+    """No line goes, and the other way is shown; with that one cut, too, the lines go."""
+    ran = ask("c", "c 1 not then", "q")
+    assert "> no unsure line led only through it: there is another way\n" in ran.out and ran.status == DEPENDS
+    assert questions(ran.out) == ["flush? r_send r_retry"] * 2
+    gone, new = changed(two_ways, (drafted_files / "r.wq").read_text())
+    assert gone == [] and new == ["# no wait: r.c r_send r_sent(r): not then"]
+    ran = ask("c", "c 1 nor then")
+    assert "from r_send:\n      r.c:23 r_send: r_again(r);\n      r.c:15 r_again: r_sent(r);\n" in ran.out
+    assert "> 2 unsure lines led only through it, and are gone\n\nsafe\n" in ran.out
+    gone, new = changed(two_ways, (drafted_files / "r.wq").read_text())
+    assert len(gone) == 2 and new[1] == "# no wait: r.c r_send r_again(r): nor then"
+    assert wqsource("audit", "--decl", "r.wq", cwd=drafted_files).status == 0
+
+
+def test_a_function_that_two_ways_lead_to(ask, drafted_files, two_ways):
+    """One answer is enough."""
+    ran = ask("c", "cf 1 nothing is sent")
+    assert "> 2 unsure lines led only through it, and are gone\n\nsafe\n" in ran.out
+    assert changed(two_ways, (drafted_files / "r.wq").read_text())[1] == ["# not through: r.c r_sent: nothing is sent"]
+
+
+def test_other_items_behind_a_function(ask, drafted_files, wqsource):
+    """The call of one item is cut, and the lines of the other stay; with its function theirs go, too."""
+    (drafted_files / "r.c").write_text(SOURCE.replace("\tflush_work(&r->send_work);\n", "\tr_sent(r);\n"))
+    before = wqsource("draft", "--tree", drafted_files, "r.c").out
+    for word, lines in ("c", 2), ("cf", 4):
+        (drafted_files / "r.wq").write_text(before)
+        ran = ask("c", f"{word} 1 never", "q")
+        gone, _ = changed(before, (drafted_files / "r.wq").read_text())
+        asked = questions(ran.out)[0].split()[1]
+        assert len(gone) == lines and (word == "cf" or all(line.split()[1] == asked for line in gone))
+
+
+@pytest.mark.parametrize("answers,said", [
+    (["c 1 never"], "take one: c N WHY"),
+    (["c", "c 0 never"], "a number of 1 to 1, and why: c N WHY"),
+    (["c", "cf 2 never"], "a number of 1 to 1, and why: cf N WHY"),
+    (["c", "c never"], "a number of 1 to 1, and why: c N WHY"),
+])
+def test_what_is_no_call_of_the_way(ask, drafted_files, one_site, answers, said):
+    """Nothing is written: a number counts only once the calls were shown."""
+    ran = ask(*answers)
+    assert f"{said}\n> " in ran.out and ran.status == DEPENDS
+    assert (drafted_files / "r.wq").read_text() == one_site
+
+
+def test_a_wait_that_no_call_leads_to(ask, drafted_files):
+    (drafted_files / "r.wq").write_text((drafted_files / "r.wq").read_text().replace(SEND, ""))
+    before = (drafted_files / "r.wq").read_bytes()
+    ran = ask("c")
+    assert questions(ran.out) == ["flush? r_retry r_send"] and "  c   " not in ran.out
+    assert "> no call leads there: n WHY\n> " in ran.out
+    assert (drafted_files / "r.wq").read_bytes() == before
+
+
+def test_a_call_behind_which_an_item_waits_for_sure(ask, drafted_files, one_site):
+    """Then it can't be cut: that would contradict the line."""
+    text = one_site.replace(LOG, LOG.replace("?", ""))
+    (drafted_files / "r.wq").write_text(text)
+    number = text.splitlines().index(LOG.replace("?", "")) + 1
+    ran = ask("c", "c 1 never")
+    assert f"line {number} says for sure that an item waits behind it: take that away first\n" in ran.out
+    assert ran.status == DEPENDS and (drafted_files / "r.wq").read_text() == text
+
+
+def test_an_interrupt_behind_a_cut(wqplan, drafted_files, two_ways):
+    """What was cut is in the declaration, and every line is."""
+    talking = Talk(("ask", "r.wq", "r.assign"), drafted_files)
+    for answer in ("c", "c 1 not then"):
+        assert talking.wait().endswith("\n> ")
+        talking.answer(answer)
+    assert talking.wait().endswith("\n> ")
+    os.killpg(talking.process.pid, signal.SIGINT)
+    assert talking.end().status == -signal.SIGINT
+    assert changed(two_ways, (drafted_files / "r.wq").read_text()) == ([], ["# no wait: r.c r_send r_sent(r): not then"])
+    assert not (drafted_files / "r.wq.new").exists()
+
+
+def test_a_cut_of_what_somebody_changes_meanwhile(wqplan, drafted_files, one_site):
+    """Both changes are kept."""
+    talking = Talk(("ask", "r.wq", "r.assign"), drafted_files)
+    talking.wait()
+    talking.answer("c")
+    talking.wait()
+    (drafted_files / "r.wq").write_text("# by another hand\n" + one_site)
+    talking.answer("c 1 never")
+    assert "2 unsure lines led only through it" in talking.wait() and talking.end().status == 0
+    gone, new = changed(one_site, (drafted_files / "r.wq").read_text())
+    assert len(gone) == 2 and new == ["# by another hand", "# no wait: r.c r_send r_sent(r): never"]

@@ -11,6 +11,7 @@ from conftest import C_FILES, ROOT
 sys.path.append(str(ROOT / "tests" / "docs"))
 
 import citations  # noqa: E402
+from csource import draft_text  # noqa: E402
 
 MAKEFILE = "# SPDX-License-Identifier: GPL-2.0\nVERSION = 6\nPATCHLEVEL = 1\nSUBLEVEL = 192\nEXTRAVERSION =\n"
 
@@ -119,7 +120,11 @@ def test_what_is_not_known_as_an_item(wqsource, tmp_path):
     kept.write_text(said)
     ran = wqsource("audit", "--decl", kept, "--tree", C_FILES)
     assert "left:" not in ran.out and ran.status == 1
-    assert f"unsure: {len(unsure_lines(said))} lines are, from {kept}:" in " ".join(ran.out.split())
+    words = " ".join(ran.out.replace("\n# ", "\n").split())
+    assert f"unsure: {len(unsure_lines(said))} lines are, from {kept}:" in words
+    assert words.endswith(
+        f" {len(unsure_lines(said))} lines are unsure: the status is 1 until each is decided. Nothing else is left."
+    )
 
 
 def test_an_item_that_is_called_unknown(wqsource, tmp_path):
@@ -163,6 +168,25 @@ def test_a_workqueue_without_a_rescuer(wqsource, tmp_path):
         "norescuer 1 nr_plain  # nr-plain, no_rescuer.c:17 nr_init, NO WQ_MEM_RECLAIM: no rescuer, WQ_UNBOUND",
         "norescuer 2 nr_system  # system_wq, no rescuer",
     ]
+
+
+def test_a_draft_of_stacked_drivers_says_so(wqsource, tmp_path):
+    """Then `audit` follows the same calls, though its command line doesn't say it."""
+    said = "# stacked: it was drafted with --stacked"
+    assert said not in wqsource("draft", "--tree", C_FILES, "stacked.c").out
+    text = wqsource("draft", "--stacked", "--tree", C_FILES, "stacked.c").out
+    assert text.splitlines().count(said) == 1
+    head, _, _ = text.partition("\nitem ")
+    (tmp_path / "stacked.wq").write_text(f"{head}\nitem st_work\n")
+    ran = wqsource("audit", "--decl", tmp_path / "stacked.wq", "--tree", C_FILES)
+    assert "left: stacked.c:6 st_submit_bio: wait_event(s->idle)" in ran.out
+
+
+def test_a_draft_that_is_too_long():
+    """What `wqplan` refuses for its length has one byte more than docs/FORMAT.md, "Limits" allows."""
+    assert not draft_text.is_too_long("#" * 1_048_575 + "\n")
+    assert draft_text.is_too_long("#" * 1_048_576 + "\n")
+    assert draft_text.is_too_long("\udcff" * 1_048_577) and not draft_text.is_too_long("\udcff" * 1_048_576)
 
 
 def test_items_without_a_rescuer_are_a_question(wqsource):

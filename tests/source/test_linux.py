@@ -127,9 +127,5 @@ def test_the_places_of_the_declared_waits_are_shown(audit):
 
 
 def test_the_places_of_the_unsure_waits_are_shown(audit):
-    """Dismissals don't count here: xfs.wq dismisses the call that leads to six of these (xfs_trans_alloc,
-    xfs_blockgc_flush_all), so that the other items which make it need no lines."""
-    text = "\n".join(line for line in audit.declaration.lines if not line.startswith("# no wait"))
-    undismissed = Audit(Declaration.of(audit.declaration.path, text), audit.program)
-    assert len(list(flush_lines(undismissed, UNSURE))) == len(audit.cited.unsure())
-    assert hidden_lines(undismissed, UNSURE) == []
+    assert len(list(flush_lines(audit, UNSURE))) == len(audit.cited.unsure())
+    assert hidden_lines(audit, UNSURE) == []
