@@ -35,3 +35,25 @@ pub(crate) const GROUPED: &str =
 
 /// A chain of three items, and an item beside it.
 pub(crate) const CHAIN_OF_FOUR: &str = "item a\nitem b\nitem c\nitem d\nflush a b\nflush b c\n";
+
+/// One item that may flush another, and its run on one workqueue.
+pub(crate) const UNSURE: &str = "item a\nitem b\nflush? a b\n";
+
+pub(crate) const UNSURE_HANGS: &str =
+    "unsure 1\nflush? a b\nrun 4\nqueue a\nqueue b\nstart 0 a\nwait 0 b\n";
+
+/// The chain of three items, of which the first may flush the second; and its run.
+pub(crate) const UNSURE_CHAIN: &str = "item a\nitem b\nitem c\nflush? a b\nflush b c\n";
+
+pub(crate) const UNSURE_CHAIN_HANGS: &str = "unsure 1\nflush? a b\n\
+    run 7\nqueue a\nqueue b\nqueue c\nstart 0 a\nwait 0 b\nstart 1 b\nwait 1 c\n";
+
+/// One item that flushes another, which may flush itself; and its run on one workqueue.
+pub(crate) const UNSURE_BESIDE: &str = "item a\nitem b\nflush a b\nflush? b b\n";
+
+pub(crate) const SURE_HANGS: &str = "unsure 0\nrun 4\nqueue a\nqueue b\nstart 0 a\nwait 0 b\n";
+
+/// Two items that may flush a third, and workqueues on which the first of these flushes alone makes a difference.
+pub(crate) const UNSURE_TWO: &str = "item a\nitem b\nitem c\nflush? a b\nflush? c b\n";
+
+pub(crate) const UNSURE_LANES: &str = "wq 0 a b\nwq 1 c\n";

@@ -165,7 +165,6 @@ flush xlog_cil_push_work xlog_ioend_work             # done xfs_log.c:890 xlog_w
 # fs/iomap/direct-io.c:122 iomap_dio_complete. Whoever writes pages takes an ioend of a pool, at \
     fs/iomap/buffered-io.c:1488 iomap_alloc_ioend:
 # xfs_end_io gives it back when it says that the pages are written, else an interrupt does; the lines have that wait.
-# no wait: xfs_trans.c xfs_trans_alloc xfs_blockgc_flush_all(mp): where no free block is left: the unsure lines have it
 # no wait: xfs_trans.c xfs_trans_alloc_inode xfs_blockgc_free_quota(ip): a forced reservation meets no limit, \
     and what comes here forces it (xfs_iomap.c:582 xfs_iomap_write_unwritten)
 # no wait: fs-writeback.c inode_sleep_on_writeback prepare_to_wait(wqh): whoever writes the inode has started

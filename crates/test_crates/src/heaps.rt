@@ -69,7 +69,7 @@ fn assert_sizes(rt: &impl Abort, alloc: Global, case: &Case) -> Result<(), Alloc
     let name = case.name;
     let mut refused = false;
     let mut last = Reached::Nothing;
-    for size in (0..16384usize).step_by(16) {
+    for size in (0..32768usize).step_by(16) {
         let ran = run_in(alloc, size, case)?;
         let reached = judged(&ran, case).expect(rt, "a run ends as it may");
         let is_refused = reached == Reached::Nothing;

@@ -118,7 +118,7 @@ module _ (s : Declared) (sound : IsSound s) (ws : Workqueues)
   safe_alone : (some : Bool) (out : List ℕ) → IsSafe (wiring_of (declared_waits s) ws) → PrintsRun some s ws out → ⊥
   safe_alone false out safely (steps, hang, is) =
       not_safe-by (wiring_of (declared_waits s) ws) steps hang.deadlocks safely
-  safe_alone true out safely (hops, soonest, hang, steps, own, is) = not_safe-all s ws hops soonest hang safely
+  safe_alone true out safely (hops, (soonest, hang, steps, own, is)) = not_safe-all s ws hops soonest hang safely
 
   ends_as_judged : (end other : End) (out printed : List ℕ) → CirclesAssigned s ws end out
       → JudgesAssigned s ws other printed → end ≡ other

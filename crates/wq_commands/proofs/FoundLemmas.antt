@@ -1,8 +1,11 @@
 -- From what a command finds to what it answers, and from the bytes that are kept to the texts.
-use Rattle.std.proofs.Common.{◌≡◌, ℕ, ◌+◌, false, List, Option, Result, Ok, Err, ap, subst, sym, ◌∙◌}
+use Rattle.std.proofs.Common.{◌≡◌, ℕ, ◌+◌, Bool, false, List, Option, Some, None, Result, Ok, Err, ap, subst, sym, ◌∙◌}
 use Rattle.std.specs.Prelude.{MatchResult, take}
 use Rattle.wq_text.specs.Refusal.{Refusal}
 use Rattle.wq_core.specs.declared.step.Step.{Step}
+use Rattle.wq_core.specs.Workqueues.{Workqueues}
+use Rattle.wq_hang.specs.declared.hop.Hop.{Hop}
+use Rattle.wq_hang.specs.Answer.{IsHangOf}
 use Rattle.wq_meter.specs.Shell.{Given, kept}
 use Rattle.wq_cert.specs.declared.fault.CertError.{CertError}
 use Rattle.wq_cert.specs.Part.{has_unsure, made_of}
@@ -11,6 +14,7 @@ use Rattle.wq_checker.specs.declared.answer.No.{No}
 use Rattle.wq_checker.specs.declared.answer.Yes.{Yes}
 use Rattle.wq_commands.specs.declared.deadlocking.Verdict.{Verdict}
 use Rattle.wq_commands.specs.declared.end.End.{End}
+use Rattle.wq_commands.specs.declared.end.End.TheVariants.{Good, Bad, Refused}
 use Rattle.wq_commands.specs.declared.found.Found.{Found}
 use Rattle.wq_commands.specs.declared.found.Which.{Which}
 use Rattle.wq_commands.specs.declared.found.Which.TheVariants.{Certificate as SecondText, Run}
@@ -28,12 +32,12 @@ use Rattle.wq_commands.specs.Commands.{
   ReplaysTexts,
 }
 use Rattle.wq_commands.specs.Commands.{one_text, three_texts, two_texts}
-use Rattle.wq_commands.specs.Deadlocking.{JudgesAssigned, JudgesDeclared, Judges}
-use Rattle.wq_groups.specs.DeclaredGroups.{Declared}
+use Rattle.wq_commands.specs.Deadlocking.{JudgesAssigned, JudgesBy, JudgesDeclared, Judges, PrintsRun}
+use Rattle.wq_groups.specs.DeclaredGroups.{declared_waits, Declared}
 use Rattle.wq_commands.specs.Declaration.{DeclaresNoUnsure, declaration, max_declaration}
 use Rattle.wq_commands.specs.Found.{AnswersIn}
 use Rattle.wq_commands.specs.Replaying.{AnswersReplay, ReplaysAssigned, ReplaysDeclared, ReplaysRun}
-use Rattle.wq_commands.specs.Shell.{AnswersTexts, HasOneAnswer}
+use Rattle.wq_commands.specs.Shell.{AnswersTexts, HasOneAnswer, HasOneAnswerTo}
 use Rattle.wq_commands.proofs.AnswerLemmas.{Answers-same, declaration-take}
 use Rattle.wq_commands.proofs.CheckAnswers.{Checks-unique}
 use Rattle.wq_commands.proofs.InputLemmas.{Checks-take, Judges-take, ReplaysRun-take}
@@ -58,11 +62,29 @@ ChecksText-declared s text found end out =
     AnswersIn-match SecondText (answer_of s.table.names s.partition text) (FindsCheck s) (AnswersCheck s) found end out
     (λ c h. (h.0, h.2, h.3))
 
+-- beside a walk, or beside none, it is the verdict that is printed
+pub JudgesBy-assigned : (s : Declared) (ws : Workqueues) (walk : Option (List Hop)) (end : End) (out : List ℕ)
+    → JudgesBy s ws walk end out → JudgesAssigned s ws end out
+JudgesBy-assigned s ws (Some hops) Bad out h =
+    subst (λ (b : Bool). PrintsRun b s ws out) (sym h.0) (hops, h.1)
+JudgesBy-assigned s ws None Bad out h = subst (λ (b : Bool). PrintsRun b s ws out) (sym h.0) h.1
+JudgesBy-assigned s ws None Good out h = h
+JudgesBy-assigned s ws (Some hops) Good out h = absurd h
+JudgesBy-assigned s ws (Some hops) Refused out h = absurd h
+JudgesBy-assigned s ws None Refused out h = absurd h
+
+-- by a walk that is found they hang
+pub JudgesBy-walk : (s : Declared) (ws : Workqueues) (hops : List Hop) (end : End) (out : List ℕ)
+    → JudgesBy s ws (Some hops) end out → (steps : List Step) × IsHangOf (declared_waits s) ws hops steps
+JudgesBy-walk s ws hops Bad out h = (h.1.0, h.1.1)
+JudgesBy-walk s ws hops Good out h = absurd h
+JudgesBy-walk s ws hops Refused out h = absurd h
+
 pub JudgesText-declared : {A : Type 0} (s : Declared) (text : List ℕ) (found : Found (Verdict A)) (end : End)
     (out : List ℕ) → JudgesText s text found end out → JudgesDeclared s text end out
 JudgesText-declared s text found end out =
-    AnswersIn-match SecondText (workqueues_of_text s.table.names s.partition text) (FindsVerdict s) (JudgesAssigned s)
-    found end out (λ ws h. h.1)
+    AnswersIn-match SecondText (workqueues_of_text s.table.names s.partition text) (λ ws. FindsVerdict s ws)
+    (JudgesAssigned s) found end out (λ ws h. JudgesBy-assigned s ws _ end out h.judged)
 
 pub ReplaysTexts-declared : {A : Type 0} (s : Declared) (assigned text : List ℕ) (found : Found (Replayed A))
     (end : End)
@@ -159,17 +181,17 @@ check-unique s texts found again end other out printed is one two =
     (declaration texts.first) s is (ChecksText-declared s texts.second again other printed two))
 
 pub deadlock-unique : {A : Type 0}
-    → HasOneAnswer (λ s texts (found : Found (Verdict A)) end out. (has_unsure s.table.waits ≡ false)
-    × JudgesText s texts.second found end out)
-deadlock-unique s texts found again end other out printed is one two =
+    → (s : Declared) → has_unsure s.table.waits ≡ false
+    → HasOneAnswerTo s (λ s texts (found : Found (Verdict A)) end out. JudgesText s texts.second found end out)
+deadlock-unique s none texts found again end other out printed is one two =
     let one_is = of_declared (λ s. JudgesDeclared s texts.second end out) (λ r. PrintsRefusal r end out)
-    (declaration texts.first) s is (JudgesText-declared s texts.second found end out one.1) in
+    (declaration texts.first) s is (JudgesText-declared s texts.second found end out one) in
     let two_is = of_declared (λ s. JudgesDeclared s texts.second other printed) (λ r. PrintsRefusal r other printed)
-    (declaration texts.first) s is (JudgesText-declared s texts.second again other printed two.1) in
+    (declaration texts.first) s is (JudgesText-declared s texts.second again other printed two) in
     let sure : DeclaresNoUnsure texts.first = λ t declares.
     (let both : Ok s ≡ Ok t = sym is ∙ declares in
     let same : s ≡ t = cc in
-    ap (λ (d : Declared). has_unsure d.table.waits) (sym same) ∙ one.0) in (
+    ap (λ (d : Declared). has_unsure d.table.waits) (sym same) ∙ none) in (
       Judges-same_end texts.first texts.second end other out printed one_is two_is,
       Judges-same_out texts.first texts.second end other out printed sure one_is two_is,
     )

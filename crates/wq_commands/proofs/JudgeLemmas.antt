@@ -97,7 +97,7 @@ module _ (s : Declared) (sound : IsSound s) (a : Workqueues) (assigned : IsAssig
         ReplaysAssigned-read out None steps
         (ap (made_of s.table.names s.table.waits) is ∙ made_of-deadlock s sound a assigned steps hang.deadlocks)
         hang.deadlocks
-    ReplaysAssigned-by true out some (hops, soonest, hang, steps, own, is) =
+    ReplaysAssigned-by true out some (hops, (soonest, hang, steps, own, is)) =
         let kept : List ℕ = needs hops in
         let are = AreKeptPlaces-needs s a hops soonest hang in
         ReplaysAssigned-read out (Some kept) steps
@@ -120,7 +120,7 @@ module _ (s : Declared) (sound : IsSound s) (a : Workqueues) (assigned : IsAssig
         by : (b : Bool) → has_unsure s.table.waits ≡ b → PrintsRun b s a out → KeepsLimits out
         by false sure (steps, hang, is) = read None steps
             (ap (made_of s.table.names s.table.waits) is ∙ made_of-deadlock s sound a assigned steps hang.deadlocks)
-        by true some (hops, soonest, hang, steps, own, is) =
+        by true some (hops, (soonest, hang, steps, own, is)) =
             read (Some (needs hops)) steps (ap (made_of s.table.names s.table.waits) is
             ∙ made_of-reading s sound a assigned steps (needs hops) (AreKeptPlaces-needs s a hops soonest hang)
             own.deadlocks some)
@@ -146,7 +146,7 @@ module _ (s : Declared) (sound : IsSound s) (a : Workqueues) (assigned : IsAssig
     not_both : (b : Bool) (out : List ℕ) → IsSafe (wiring_of (declared_waits s) a) → PrintsRun b s a out → ⊥
     not_both false out safe (steps, hang, is) =
         not_safe-by (wiring_of (declared_waits s) a) steps hang.deadlocks safe
-    not_both true out safe (hops, soonest, hang, steps, own, is) = not_safe-all s a hops soonest hang safe
+    not_both true out safe (hops, (soonest, hang, steps, own, is)) = not_safe-all s a hops soonest hang safe
 
     JudgesAssigned-same_end : (end other : End) (out printed : List ℕ) → JudgesAssigned s a end out → JudgesAssigned s a
         other printed → end ≡ other
@@ -227,7 +227,7 @@ module _ (s : Declared) (sound : IsSound s) (a : Workqueues) (assigned : IsAssig
         let kept : List ℕ = needs found.0 in
         let own = IsHang-unsafe (reading_with_names s kept) (IsSound-reading s kept sound) a assigned
         (λ safe. not_safe-reading s a found.0 found.1 found.2 (IsSafe-reading s a kept safe)) in
-        (reading_text s.table.names s.table.waits kept own.0, (found.0, found.1, found.2, own.0, own.1, refl))
+        (reading_text s.table.names s.table.waits kept own.0, (found.0, (found.1, found.2, own.0, own.1, refl)))
 
     pub JudgesAssigned-exist : (end : End) × (out : List ℕ) × JudgesAssigned s a end out
     JudgesAssigned-exist = elim (verdict_exists s sound a assigned) [

@@ -10,7 +10,7 @@ use Rattle.wq_commands.specs.declared.end.End.{End}
 use Rattle.wq_commands.specs.Answer.{PrintsRefusal}
 use Rattle.wq_groups.specs.DeclaredGroups.{Declared}
 use Rattle.wq_commands.specs.Declaration.{declaration}
-use Rattle.wq_commands.specs.Shell.{AnswersTexts, Call, FindsTexts, HasOneAnswer, IsTextIf}
+use Rattle.wq_commands.specs.Shell.{AnswersTexts, Call, FindsTexts, HasOneAnswerTo, IsTextIf}
 use Rattle.wq_commands.proofs.Refusals.{PrintsRefusal-unique}
 
 -- ---- the texts of a call
@@ -49,20 +49,21 @@ known_texts first_known second_known third_known limits call wanted texts finds 
 -- ---- their answer
 
 -- a command that has one answer to what is declared has one to the texts
-pub one_answer : {F : Type 0} (Answers : Declared → Given → F → End → List ℕ → Type 0) → HasOneAnswer Answers
-    → (texts : Given) (found again : Result F Refusal) (end other : End) (out printed : List ℕ)
+pub one_answer : {F : Type 0} (Answers : Declared → Given → F → End → List ℕ → Type 0) (texts : Given)
+    → ((s : Declared) → declaration texts.first ≡ Ok s → HasOneAnswerTo s Answers)
+    → (found again : Result F Refusal) (end other : End) (out printed : List ℕ)
     → AnswersTexts Answers texts found end out → AnswersTexts Answers texts again other printed
     → (end ≡ other) × (out ≡ printed)
-one_answer Answers has texts (Ok f) (Ok g) end other out printed one two =
+one_answer Answers texts has (Ok f) (Ok g) end other out printed one two =
     let both : Ok one.0 ≡ Ok two.0 = sym one.1 ∙ two.1 in
     let same : one.0 ≡ two.0 = cc in
-    has two.0 texts f g end other out printed two.1 (subst (λ (s : Declared). Answers s texts f end out) same one.2)
-    two.2
-one_answer Answers has texts (Ok f) (Err r) end other out printed one two =
+    has two.0 two.1 texts f g end other out printed two.1
+    (subst (λ (s : Declared). Answers s texts f end out) same one.2) two.2
+one_answer Answers texts has (Ok f) (Err r) end other out printed one two =
     absurd (let never : Ok one.0 ≡ Err r = sym one.1 ∙ two.0 in cc)
-one_answer Answers has texts (Err r) (Ok g) end other out printed one two =
+one_answer Answers texts has (Err r) (Ok g) end other out printed one two =
     absurd (let never : Err r ≡ Ok two.0 = sym one.0 ∙ two.1 in cc)
-one_answer Answers has texts (Err r) (Err q) end other out printed one two =
+one_answer Answers texts has (Err r) (Err q) end other out printed one two =
     let both : Err r ≡ Err q = sym one.0 ∙ two.0 in
     let same : r ≡ q = cc in
     PrintsRefusal-unique r end other out printed one.1

@@ -95,7 +95,7 @@ module _ (declared lanes : List ℕ) (s : Declared) (is : declaration declared �
           (sym (reading-sure (wiring_of (declared_waits s) ws) [] sure)) hang.deadlocks;
       fewest = λ others fewer. absurd (omega (arith, fewer));
     }
-    prints_fewest true out some (hops, soonest, hang, steps, own, text) = record {
+    prints_fewest true out some (hops, (soonest, hang, steps, own, text)) = record {
       s = named_of s;
       ws = ws;
       says = say_both;

@@ -21,7 +21,7 @@ use Rattle.wq_commands.specs.declared.replaying.Replayed.{Replayed}
 use Rattle.wq_groups.specs.DeclaredGroups.{declared_waits, Declared}
 use Rattle.wq_commands.specs.Answer.{AnswersDeclared}
 use Rattle.wq_commands.specs.Checking.{PrintsCheck}
-use Rattle.wq_commands.specs.Deadlocking.{JudgesAssigned}
+use Rattle.wq_commands.specs.Deadlocking.{JudgesBy}
 use Rattle.wq_commands.specs.Declaration.{max_declaration}
 use Rattle.wq_commands.specs.Found.{AnswersIn}
 use Rattle.wq_commands.specs.Replaying.{replay_end, replay_words, wiring_read}
@@ -61,10 +61,15 @@ FindsCheck s c found end out =
 abbrev pub ChecksText : Declared → List ℕ → Found (Result Yes No) → End → List ℕ → Type 0
 ChecksText s text = AnswersIn SecondText (answer_of s.table.names s.partition text) (λ c. FindsCheck s c)
 
--- these workqueues are found, and the verdict on them, which is printed
-abbrev pub FindsVerdict : {A : Type 0} → Declared → Workqueues → Found (Verdict A) → End → List ℕ → Type 0
-FindsVerdict s ws found end out =
-    (found ≡ Read (record { workqueues = ws; end = end })) × JudgesAssigned s ws end out
+-- these workqueues are found, and the verdict on them, which is printed: by the walk that is found, if it has unsure
+-- flushes
+pub record FindsVerdict {A : Type 0} (s : Declared) (ws : Workqueues) (found : Found (Verdict A)) (end : End)
+    (out : List ℕ) : Type 0 where
+  pub verdict : Verdict A
+  pub is : found ≡ Read verdict
+  pub workqueues : verdict.workqueues ≡ ws
+  pub status : verdict.end ≡ end
+  pub judged : JudgesBy s ws (option_map (λ hops. hops.items) verdict.hops) end out
 
 -- `deadlock`: the verdict on the workqueues with this text
 abbrev pub JudgesText : {A : Type 0} → Declared → List ℕ → Found (Verdict A) → End → List ℕ → Type 0

@@ -67,9 +67,13 @@ FindsTexts first_known second_known third_known limits call texts =
     × IsTextIf limits.second (second_known call.second.device) texts.second
     × IsTextIf limits.third (third_known call.third.device) texts.third
 
--- a command has one answer to its texts at most: one end, and one text that is written, whatever it finds
-abbrev pub HasOneAnswer : {F : Type 0} → (Declared → Given → F → End → List ℕ → Type 0) → Type 0
-HasOneAnswer {F} Answers =
-    (s : Declared) (texts : Given) (found again : F) (end other : End) (out printed : List ℕ)
+-- a command has one answer at most to texts that declare this: one end, and one text that is written, whatever it finds
+abbrev pub HasOneAnswerTo : {F : Type 0} → Declared → (Declared → Given → F → End → List ℕ → Type 0) → Type 0
+HasOneAnswerTo {F} s Answers =
+    (texts : Given) (found again : F) (end other : End) (out printed : List ℕ)
     → declaration texts.first ≡ Ok s
     → Answers s texts found end out → Answers s texts again other printed → (end ≡ other) × (out ≡ printed)
+
+-- a command has one answer to its texts at most, whatever they declare
+abbrev pub HasOneAnswer : {F : Type 0} → (Declared → Given → F → End → List ℕ → Type 0) → Type 0
+HasOneAnswer Answers = (s : Declared) → HasOneAnswerTo s Answers

@@ -4,7 +4,7 @@
 //! reading the two texts and of the verdict, whose run has 45,056 steps at most; and if a flush is unsure, of the
 //! search for the fewest that are enough.
 
-ghost use Rattle.std.specs.Prelude.{◌≡◌, true, false, length, IfOk};
+ghost use Rattle.std.specs.Prelude.{◌≡◌, true, false, length, IfOk, option_map};
 ghost use Rattle.wq_cert.specs.Part.{has_unsure};
 ghost use Rattle.wq_cert.specs.RunText.{run_text};
 ghost use Rattle.wq_core.specs.Deadlock.{IsSafe};
@@ -13,7 +13,7 @@ ghost use Rattle.wq_core.specs.Workqueues.{wiring_of};
 ghost use Rattle.wq_deadlock.specs.Judging.{IsHang, IsJudged};
 ghost use Rattle.wq_groups.specs.DeclaredGroups.{declared_waits, reading_with_names};
 ghost use Rattle.wq_commands.specs.Commands.{FindsVerdict, JudgesText};
-ghost use Rattle.wq_commands.specs.Deadlocking.{safe_text, JudgesAssigned};
+ghost use Rattle.wq_commands.specs.Deadlocking.{safe_text, JudgesBy};
 
 use crate::assigned::workqueues_of;
 use crate::end::End;
@@ -24,7 +24,7 @@ use wq_cert::{has_unsure, reading_text, run_text};
 use wq_core::{Assigned, Step, Workqueues};
 use wq_deadlock::{Judged, judge as judge_workqueues};
 use wq_groups::Declaration;
-use wq_hang::{Answer, hang, needed_places};
+use wq_hang::{Answer, Hop, hang, needed_places};
 use wq_text::{put, put_end};
 
 /// Workqueues, and the verdict on them: good if they are safe, and bad if they can hang.
@@ -32,6 +32,8 @@ use wq_text::{put, put_end};
 pub struct Verdict<A: Allocator> {
     pub workqueues: Workqueues<A>,
     pub end: End,
+    /// The waits of the walk whose unsure flushes are printed; nothing if they are safe, or if no flush is unsure.
+    pub hops: Option<Vec<Hop, A>>,
 }
 
 /// `safe`.
@@ -76,59 +78,76 @@ fn deadlock_of_reading<A: Allocator + Copy>(
 }
 
 /// What is printed of workqueues of groups that declare an unsure flush: the fewest that are enough, and the
-/// deadlocking run of the reading that keeps these.
+/// deadlocking run of the reading that keeps these. What is found is the walk that needs them.
 fn judge_unsure<A: Allocator + Copy>(
     alloc: A,
     assigned: &Assigned<'_, '_, A>,
-) -> Result<(End, Vec<u8, A>), AllocError>
+) -> Result<Answered<A, Option<Vec<Hop, A>>>, AllocError>
     requires { has_unsure assigned.now.declared.table.waits ≡ true }
-    ensures { IfOk result (λ printed.
-        JudgesAssigned assigned.now.declared assigned.now.workqueues printed.0 printed.1.items) }
+    ensures { IfOk result (λ a. JudgesBy assigned.now.declared assigned.now.workqueues
+        (option_map (λ hops. hops.items) a.found) a.end a.text.items) }
 {
     match hang(alloc, assigned)? {
         Answer::Safe => {
             let text = safe_text(alloc)?;
-            Ok((End::Good, text))
+            Ok(Answered {
+                found: None,
+                end: End::Good,
+                text,
+            })
         }
         Answer::Hang(hops, _) => {
             let kept = needed_places(alloc, hops.as_slice())?;
             let steps = deadlock_of_reading(alloc, assigned, kept.as_slice())?;
             let text = reading_text(alloc, assigned.table(), kept.as_slice(), steps.as_slice())?;
-            Ok((End::Bad, text))
+            Ok(Answered {
+                found: Some(hops),
+                end: End::Bad,
+                text,
+            })
         }
     }
 }
 
-/// What is printed of this verdict on workqueues.
+/// What is printed of this verdict on workqueues. No walk is looked for.
 fn print_verdict<A: Allocator + Copy>(
     alloc: A,
     assigned: &Assigned<'_, '_, A>,
     judged: &Judged<A>,
-) -> Result<(End, Vec<u8, A>), AllocError>
+) -> Result<Answered<A, Option<Vec<Hop, A>>>, AllocError>
     requires judged { IsJudged (declared_waits assigned.now.declared) assigned.now.workqueues judged.now }
     requires sure { has_unsure assigned.now.declared.table.waits ≡ false }
-    ensures { IfOk result (λ printed.
-        JudgesAssigned assigned.now.declared assigned.now.workqueues printed.0 printed.1.items) }
+    ensures { IfOk result (λ a. JudgesBy assigned.now.declared assigned.now.workqueues
+        (option_map (λ hops. hops.items) a.found) a.end a.text.items) }
 {
     match judged {
         Judged::Safe => {
             let text = safe_text(alloc)?;
-            Ok((End::Good, text))
+            Ok(Answered {
+                found: None,
+                end: End::Good,
+                text,
+            })
         }
         Judged::Deadlock(steps) => {
             let text = deadlock_text(alloc, assigned, steps)?;
-            Ok((End::Bad, text))
+            Ok(Answered {
+                found: None,
+                end: End::Bad,
+                text,
+            })
         }
     }
 }
 
-/// The verdict on workqueues of the declared groups, and what is printed of it.
+/// The verdict on workqueues of the declared groups: what is printed of it, and the walk whose unsure flushes are
+/// printed, if there is one.
 fn judge_assigned<A: Allocator + Copy>(
     alloc: A,
     assigned: &Assigned<'_, '_, A>,
-) -> Result<(End, Vec<u8, A>), AllocError>
-    ensures { IfOk result (λ printed.
-        JudgesAssigned assigned.now.declared assigned.now.workqueues printed.0 printed.1.items) }
+) -> Result<Answered<A, Option<Vec<Hop, A>>>, AllocError>
+    ensures { IfOk result (λ a. JudgesBy assigned.now.declared assigned.now.workqueues
+        (option_map (λ hops. hops.items) a.found) a.end a.text.items) }
 {
     if has_unsure(assigned.table()) {
         return judge_unsure(alloc, assigned);
@@ -146,9 +165,14 @@ fn find_verdict<A: Allocator + Copy>(
     requires { length workqueues.assignment.lane_of_group ≡ declared.now.partition.groups }
     ensures { IfOk result (λ a. FindsVerdict declared.now workqueues a.found a.end a.text.items) }
 {
-    let (end, text) = judge_assigned(alloc, &Assigned::new(declared, &workqueues))?;
+    let assigned = Assigned::new(declared, &workqueues);
+    let Answered { found, end, text } = judge_assigned(alloc, &assigned)?;
     Ok(Answered {
-        found: Found::Read(Verdict { workqueues, end }),
+        found: Found::Read(Verdict {
+            workqueues,
+            end,
+            hops: found,
+        }),
         end,
         text,
     })

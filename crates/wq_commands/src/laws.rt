@@ -43,11 +43,12 @@ ghost use Rattle.wq_commands.specs.Deadlocking.{Judges, safe_text};
 ghost use Rattle.wq_commands.specs.AllRescued.{JudgesAllRescued, ReplaysAllRescued};
 ghost use Rattle.wq_commands.specs.Commands.{ChecksText, FindsPlan, JudgesText, ReplaysTexts};
 ghost use Rattle.wq_commands.specs.Shell.{AnswersTexts, Call, FindsTexts, HasOneAnswer, IsAnswered, SaysOfTexts};
+ghost use Rattle.wq_commands.specs.Shell.{HasOneAnswerTo};
 ghost use Rattle.wq_commands.specs.declared.deadlocking.Verdict.{Verdict};
 ghost use Rattle.wq_commands.specs.declared.found.Found.{Found};
 ghost use Rattle.wq_commands.specs.declared.replaying.Replayed.{Replayed};
 ghost use Rattle.wq_meter.specs.Meter.{WritesWhole};
-ghost use Rattle.wq_meter.specs.Shell.{AreFrom, Given, GivesIf, Tells};
+ghost use Rattle.wq_meter.specs.Shell.{AreFrom, Given, GivesIf, Tells, kept};
 ghost use Rattle.wq_commands.specs.HangPromise.{KeepsVerdict};
 ghost use Rattle.wq_commands.specs.Declaration.{DeclaresNoUnsure, declaration, max_declaration};
 ghost use Rattle.wq_cert.specs.Part.{has_unsure};
@@ -248,13 +249,13 @@ pub fn a_replay_has_an_answer()
 {}
 
 /// Each of `plan`, `check`, `deadlock` and `replay` has at most one answer to its texts: one end, and one text that is
-/// printed; `deadlock` where no flush is unsure. So `what_is_said_changes_no_answer` holds of it.
+/// printed; `deadlock` to texts that declare no unsure flush. So `what_is_said_changes_no_answer` can be used of each,
+/// and of `deadlock` with such texts.
 pub fn each_command_has_one_answer<A: Allocator>()
     ensures plan { HasOneAnswer (λ s _ found end out. FindsPlan s found end out) }
     ensures check { HasOneAnswer (λ s texts found end out. ChecksText s texts.second found end out) }
-    ensures deadlock { HasOneAnswer
-        (λ s texts (found : Found (Verdict A)) end out. (has_unsure s.table.waits ≡ false)
-        × JudgesText s texts.second found end out) }
+    ensures deadlock { (s : Declared) → has_unsure s.table.waits ≡ false → HasOneAnswerTo s
+        (λ s texts (found : Found (Verdict A)) end out. JudgesText s texts.second found end out) }
     ensures replay { HasOneAnswer
         (λ s texts (found : Found (Replayed A)) end out. ReplaysTexts s texts.second texts.third found end out) }
 {}
@@ -263,7 +264,7 @@ pub fn each_command_has_one_answer<A: Allocator>()
 /// how it ended. If both carry out the same command, whose readers have the same texts, then they end in the same way
 /// and write the same bytes, whatever the two voices say, and whatever the two second writers do.
 ///
-/// The command is one that has one answer at most.
+/// The command is one that has one answer at most to texts that declare what these do.
 pub fn what_is_said_changes_no_answer<
     C: Command<A>,
     V: Voice<C, A>,
@@ -278,7 +279,8 @@ pub fn what_is_said_changes_no_answer<
 >()
     ensures { (command : C) (voice : V) (other_voice : U) (end other_end : End) (texts : Given) (one : Call D S T W E)
         (other : Call D S T W F) →
-        HasOneAnswer (C.answers command) →
+        ((s : Declared) → declaration (kept (C.limits command) texts).first ≡ Ok s →
+        HasOneAnswerTo s (C.answers command)) →
         FindsTexts D.remaining S.remaining T.remaining (C.limits command) one texts →
         FindsTexts D.remaining S.remaining T.remaining (C.limits command) other texts →
         (answered : IsAnswered (C.limits command)

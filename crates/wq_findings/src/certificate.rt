@@ -232,6 +232,11 @@ fn is_of_plan(word: &[u8]) -> bool {
     word == b"plan".as_slice() || word == b"chain".as_slice() || word == b"arc".as_slice()
 }
 
+/// Whether a word begins lines of flushes that are sure: in an unsure part, such a line was decided since.
+fn is_sure_flush(word: &[u8]) -> bool {
+    word == b"flush".as_slice() || word == b"flushwq".as_slice()
+}
+
 /// Which text a line that should be another one belongs to.
 fn text_hint(word: &[u8], stage: Stage) -> Hint<'static> {
     let is_bare = word == b"norescuer".as_slice();
@@ -240,6 +245,7 @@ fn text_hint(word: &[u8], stage: Stage) -> Hint<'static> {
         Stage::Workqueue { .. } | Stage::Chain | Stage::ChainArc { .. } if is_bare => {
             return Hint::ALL_RESCUED;
         }
+        Stage::Unsure { .. } if is_sure_flush(word) => return Hint::ASK_AGAIN,
         _ => {}
     }
     match text_with(word) {

@@ -186,7 +186,7 @@ fn extra_word<'a>(line: &Line<'a>) -> Finding<'a> {
     let hint = if begins_comment(bytes_at(line, at)) {
         Hint::COMMENT
     } else {
-        Hint::Said(hint)
+        misplaced_mark(line, bytes_at(line, 1)).unwrap_or(Hint::Said(hint))
     };
     Finding::at_word(line, at, What::Said(what), hint)
 }

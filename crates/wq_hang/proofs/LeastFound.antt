@@ -14,8 +14,8 @@ use Rattle.wq_hang.specs.declared.hop.Hop.{Hop}
 use Rattle.wq_hang.specs.Walk.{IsHop, IsPath, IsRound, IsWalk, IsLeastWalk, IsRoundOrFirst, IsFirstToBare, ComesNoLater}
 use Rattle.wq_hang.specs.Walk.{BeginsUnsure, AreAlike, AreFirstAlike, target_beside, unsure_part, walk_cost}
 use Rattle.wq_hang.specs.Search.{hops_cost, Reach, IsSearched, IsBetter, IsNoBetter, IsLeastRound, ArePassed, AreMarked}
-use Rattle.wq_hang.specs.Search.{least_hop}
-use Rattle.wq_hang.proofs.Declared.{declared-item, least_hop-enough, unsure_part-most}
+use Rattle.wq_hang.specs.Search.{AreBounds}
+use Rattle.wq_hang.proofs.Declared.{declared-item, unsure_part-most}
 use Rattle.wq_hang.proofs.Rotations.{round_turned}
 use Rattle.wq_hang.proofs.StuckRounds.{walk_cost-hops}
 use Rattle.wq_hang.proofs.LeastWalks.{no_round}
@@ -77,11 +77,10 @@ IsNoBetter-still w first least none (h ∷ hops) some path =
     subst (λ (k : ℕ). Contains (declared_by w k) h.flush) path.0 path.1.declared in
     absurd (omega (arith, there.1, none))
 
--- no round costs less than the item's cheapest hop
-pub IsNoBetter-low : (w : Wiring) (first least : ℕ) → least ≤ least_hop w first → IsNoBetter w first least
-IsNoBetter-low w first least low [] some path = absurd (omega arith)
-IsNoBetter-low w first least low (h ∷ hops) some path =
-    omega (arith, low, least_hop-enough w h path.1.declared, ap (least_hop w) path.0)
+-- no round costs less than the item's bound
+pub IsNoBetter-bound : (w : Wiring) (bounds : List ℕ) (first least : ℕ) → AreBounds w bounds first
+    → least ≤ slice_index bounds first → IsNoBetter w first least
+IsNoBetter-bound w bounds first least are low hops some path = omega (arith, low, are first hops some path)
 
 pub IsNoBetter-searched : (w : Wiring) (first least : ℕ) (s : Reach) → IsSearched w first least s → least ≤ slice_index s.costs first → IsNoBetter w first least
 IsNoBetter-searched w first least s searched enough hops some path = omega (arith, searched.least hops some path, enough)

@@ -12,6 +12,7 @@ pub mod Fewest
 pub mod Sizes
 pub mod Reaching
 pub mod Searching
+pub mod Bounding
 pub mod LaneItems
 pub mod RoundsFound
 pub mod Rotations

@@ -36,8 +36,8 @@ use Rattle.wq_core.proofs.Wirings.{lane_of-within}
 use Rattle.wq_hang.specs.declared.hop.Hop.{Hop}
 use Rattle.wq_hang.specs.Walk.{IsHop, IsPath, unsure_part}
 use Rattle.wq_hang.specs.Search.{hop_cost, hops_cost, Reach, IsTodo, lane_step, expand, AreItemsOn, IsReachedBy}
-use Rattle.wq_hang.specs.Search.{IsReach, IsFollowed, least_hop, IsDone, IsGoing, IsTaken, IsSearched}
-use Rattle.wq_hang.proofs.Declared.{declared-item, least_hop-enough}
+use Rattle.wq_hang.specs.Search.{IsReach, IsFollowed, AreBounds, IsDone, IsGoing, IsTaken, IsSearched}
+use Rattle.wq_hang.proofs.Declared.{declared-item}
 use Rattle.wq_hang.proofs.Reaching.{queues, work, Later, Grown, Grown-expand}
 
 -- ---- the beginning
@@ -92,10 +92,11 @@ IsFollowed-later w s r i cost later is t there rescuer =
     let before = is t there rescuer in
     (omega (arith, before.0, later.less t.item), omega (arith, before.1, later.lanes_less (lane_of w t.item)))
 
-module _ (w : Wiring) (first limit : ℕ) (wiring : IsWiring w) (on : List (List ℕ)) (are : AreItemsOn w on) where
+module _ (w : Wiring) (bounds : List ℕ) (first limit : ℕ) (wiring : IsWiring w) (on : List (List ℕ))
+    (are : AreItemsOn w on) where
   pub IsGoing-first : (s r : Reach) → IsNew w limit s → HasRescuer w (lane_of w first) → r ≡ expand w on first 0 s →
-      IsGoing w first limit r
-  IsGoing-first s r new rescuer is = subst (IsGoing w first limit) (sym is)
+      IsGoing w bounds first limit r
+  IsGoing-first s r new rescuer is = subst (IsGoing w bounds first limit) (sym is)
       (record { reach = grown.0.reach; begun = grown.1; followed = followed })
     where
       reach : IsReach w first limit s
@@ -104,7 +105,8 @@ module _ (w : Wiring) (first limit : ℕ) (wiring : IsWiring w) (on : List (List
       grown : Grown w first limit s (expand w on first 0 s) × IsFollowed w (expand w on first 0 s) first 0
       grown = Grown-expand w first limit wiring on are first 0 s reach rescuer (λ other. absurd (other refl))
 
-      followed : (i : ℕ) → i < items w → IsTodo (expand w on first 0 s) i ⊎ IsDone w first (expand w on first 0 s) i
+      followed : (i : ℕ) → i < items w → IsTodo (expand w on first 0 s) i ⊎ IsDone w bounds first
+          (expand w on first 0 s) i
       followed i below = elim (grown.0.later.noted i) [
         | inr todo ↦ inl todo
         | inl same ↦ inr (inl (λ t there other.
@@ -241,13 +243,14 @@ module _ (w : Wiring) (first limit : ℕ) (wiring : IsWiring w) (on : List (List
   same_cost : (s r : Reach) (i : ℕ) → IsTaken s i r → (j : ℕ) → slice_index r.costs j ≡ slice_index s.costs j
   same_cost s r i taken j = ap (λ (l : List ℕ). slice_index l j) taken.costs
 
-  pub IsGoing-next : (s r end : Reach) (i cost : ℕ) → IsGoing w first limit s → IsTaken s i r → cost ≡ slice_index
-      r.costs i → end ≡ expand w on i cost r → IsGoing w first limit end
+  pub IsGoing-next : (s r end : Reach) (i cost : ℕ) → IsGoing w bounds first limit s → IsTaken s i r
+      → cost ≡ slice_index
+      r.costs i → end ≡ expand w on i cost r → IsGoing w bounds first limit end
   IsGoing-next s r end i cost going taken costs is =
       let todo = going.reach.todo i (taken_was s r i taken) in
       let grown = Grown-expand w first limit wiring on are i cost r (IsReach-taken s r i taken going.reach) todo.1
       (λ other. omega (arith, costs)) in
-      subst (IsGoing w first limit) (sym is) (record {
+      subst (IsGoing w bounds first limit) (sym is) (record {
         reach = grown.0.reach;
         begun = IsFollowed-later w r (expand w on i cost r) first 0 grown.0.later
             (followed_taken s r i taken first 0 going.begun);
@@ -256,9 +259,9 @@ module _ (w : Wiring) (first limit : ℕ) (wiring : IsWiring w) (on : List (List
       })
     where
       followed : Later r (expand w on i cost r) → IsFollowed w (expand w on i cost r) i cost → (j : ℕ) → j < items w →
-          (j ≡ i) ⊎ (j ≢ i) → IsTodo s j ⊎ IsDone w first s j
+          (j ≡ i) ⊎ (j ≢ i) → IsTodo s j ⊎ IsDone w bounds first s j
           → (slice_index (expand w on i cost r).costs j ≡ slice_index r.costs j) ⊎ IsTodo (expand w on i cost r) j
-          → IsTodo (expand w on i cost r) j ⊎ IsDone w first (expand w on i cost r) j
+          → IsTodo (expand w on i cost r) j ⊎ IsDone w bounds first (expand w on i cost r) j
       followed later led j below which before (inr todo) = inl todo
       followed later led j below (inl it) before (inl kept) =
           let now : slice_index (expand w on i cost r).costs j ≡ cost = kept ∙ ap (slice_index r.costs) it ∙ sym costs
@@ -279,16 +282,19 @@ module _ (w : Wiring) (first limit : ℕ) (wiring : IsWiring w) (on : List (List
           (followed_taken s r i taken j (slice_index s.costs j) done))))
 
   -- an item by way of which no round costs less than the cheapest so far
-  pub IsGoing-skipped : (s r : Reach) (i : ℕ) → IsGoing w first limit s → IsTaken s i r → slice_index r.costs first ≤
-      slice_index r.costs i + least_hop w i → IsGoing w first limit r
+  pub IsGoing-skipped : (s r : Reach) (i : ℕ) → IsGoing w bounds first limit s → IsTaken s i r
+      → slice_index r.costs first ≤
+      slice_index r.costs i + slice_index bounds i → IsGoing w bounds first limit r
   IsGoing-skipped s r i going taken enough = record {
     reach = IsReach-taken s r i taken going.reach;
     begun = followed_taken s r i taken first 0 going.begun;
     followed = λ j below. followed j (cases_eq j i) (going.followed j below);
   }
     where
-      followed : (j : ℕ) → (j ≡ i) ⊎ (j ≢ i) → IsTodo s j ⊎ IsDone w first s j → IsTodo r j ⊎ IsDone w first r j
-      followed j (inl it) before = inr (inr (omega (arith, enough, ap (slice_index r.costs) it, ap (least_hop w) it)))
+      followed : (j : ℕ) → (j ≡ i) ⊎ (j ≢ i) → IsTodo s j ⊎ IsDone w bounds first s j
+          → IsTodo r j ⊎ IsDone w bounds first r j
+      followed j (inl it) before = inr
+          (inr (omega (arith, enough, ap (slice_index r.costs) it, ap (slice_index bounds) it)))
       followed j (inr other) (inl todo) = elim (taken_todo s r i taken j todo)
           [ inl it ↦ absurd (other it) | inr stays ↦ inl stays ]
       followed j (inr other) (inr (inr past)) = inr (inr (omega
@@ -305,7 +311,8 @@ module _ (w : Wiring) (first limit : ℕ) (wiring : IsWiring w) (on : List (List
   pub work-skipped : (s r : Reach) (i : ℕ) → IsTaken s i r → work r < work s
   work-skipped s r i taken = omega (arith, work-taken s r i taken)
 
-  pub work-less : (s r end : Reach) (i cost : ℕ) → IsGoing w first limit s → IsTaken s i r → cost ≡ slice_index r.costs
+  pub work-less : (s r end : Reach) (i cost : ℕ) → IsGoing w bounds first limit s → IsTaken s i r
+      → cost ≡ slice_index r.costs
       i → end ≡ expand w on i cost r → work end < work s
   work-less s r end i cost going taken costs is =
       let todo = going.reach.todo i (taken_was s r i taken) in
@@ -315,14 +322,15 @@ module _ (w : Wiring) (first limit : ℕ) (wiring : IsWiring w) (on : List (List
 
   -- ---- the end
 
-  module _ (s : Reach) (going : IsGoing w first limit s) (none : queues s ≡ 0) where
+  module _ (s : Reach) (going : IsGoing w bounds first limit s) (none : queues s ≡ 0)
+      (bounded : AreBounds w bounds first) where
     none_left : (i : ℕ) → ¬ IsTodo s i
     none_left i (inl there) = omega (arith, there.1, none)
     none_left i (inr (inl there)) = omega (arith, there.1, none)
     none_left i (inr (inr (inl there))) = omega (arith, there.1, none)
     none_left i (inr (inr (inr there))) = omega (arith, there.1, none)
 
-    all_done : (i : ℕ) → i < items w → IsDone w first s i
+    all_done : (i : ℕ) → i < items w → IsDone w bounds first s i
     all_done i below = elim (going.followed i below) [ inl todo ↦ absurd (none_left i todo) | inr done ↦ done ]
 
     -- a hop from an item costs enough
@@ -371,13 +379,7 @@ module _ (w : Wiring) (first limit : ℕ) (wiring : IsWiring w) (on : List (List
             path_enough h.next (g ∷ hops) (slice_index s.costs h.next) below rescuer
                 further (omega arith) path.3,
           )
-          | inr past ↦ omega (
-            arith,
-            one,
-            past,
-            least_hop-enough w g path.3.1.declared,
-            ap (least_hop w) path.3.0,
-          )
+          | inr past ↦ omega (arith, one, past, bounded h.next (g ∷ hops) (omega arith) path.3)
         ]
 
     pub IsSearched-all : first < items w → HasRescuer w (lane_of w first) → IsSearched w first limit s

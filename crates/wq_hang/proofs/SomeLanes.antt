@@ -1,5 +1,33 @@
 -- Rounds on some lanes are those of the wiring in which all other lanes are bare.
-use Rattle.std.proofs.Common.{◌≡◌, ℕ, zero, suc, ◌+◌, ◌*◌, ◌<◌, ◌≤◌, ◌⊎◌, inl, inr, Bool, true, false, List, [], ◌∷◌, length, get_or, set, replicate, refl, sym, ap, subst, ◌∙◌, arith}
+use Rattle.std.proofs.Common.{
+  ◌≡◌,
+  ℕ,
+  zero,
+  suc,
+  ◌+◌,
+  ◌*◌,
+  ◌<◌,
+  ◌≤◌,
+  ◌⊎◌,
+  inl,
+  inr,
+  Bool,
+  true,
+  false,
+  List,
+  [],
+  ◌∷◌,
+  length,
+  get_or,
+  set,
+  replicate,
+  refl,
+  sym,
+  ap,
+  subst,
+  ◌∙◌,
+  arith,
+}
 use Rattle.std.specs.Prelude.{Contains, slice_index_or, ◌↔◌, IsTrue, not}
 use Rattle.std.specs.List.{All, range_with_len}
 use Rattle.std.proofs.lemmas.Bool.{cases_eq, not-false, false≢true}
@@ -19,6 +47,7 @@ use Rattle.wq_core.proofs.Wirings.{lane_of-within, IsWiring-wiring, IsWiring-wit
 use Rattle.wq_hang.specs.declared.hop.Hop.{Hop}
 use Rattle.wq_hang.specs.Walk.{IsPath, IsRound, IsRoundOn, IsLeastRoundOn, ArePlacesApart}
 use Rattle.wq_hang.specs.Search.{hops_cost, AreItemsOn, ArePassed, IsLeastRound, AreMarked, AreMarkedOf, AreMade}
+use Rattle.wq_hang.specs.Search.{AreBounds}
 use Rattle.wq_hang.proofs.Declared.{declared-item}
 use Rattle.wq_hang.proofs.StuckRounds.{walk_cost-hops}
 use Rattle.wq_hang.proofs.LeastWalks.{no_round}
@@ -51,7 +80,8 @@ ArePlacesApart-assigned a is =
 
 -- ---- the wiring in which other lanes are bare
 
-module _ (w : Wiring) (wiring : IsWiring w) (lanes : List ℕ) (bare : List Bool) (are : (q : ℕ) → q < w.lanes → (HasRescuer (with_bare w bare) q ↔ (HasRescuer w q × Contains lanes q))) where
+module _ (w : Wiring) (wiring : IsWiring w) (lanes : List ℕ) (bare : List Bool)
+    (are : (q : ℕ) → q < w.lanes → (HasRescuer (with_bare w bare) q ↔ (HasRescuer w q × Contains lanes q))) where
   abbrev v : Wiring
   v = with_bare w bare
 
@@ -64,18 +94,25 @@ module _ (w : Wiring) (wiring : IsWiring w) (lanes : List ℕ) (bare : List Bool
       let on = (are (lane_of w h.item) (own_lane h path.1.declared)).0 path.1.rescuer in
       (path.0, record { declared = path.1.declared; rescuer = on.0 }, path.2, path_on h.next j hops path.3)
 
-  path_stays : (i j : ℕ) (hops : List Hop) → IsPath v i hops j → (h : Hop) → Contains hops h → Contains lanes (lane_of w h.item)
+  path_stays : (i j : ℕ) (hops : List Hop) → IsPath v i hops j → (h : Hop) → Contains hops h
+      → Contains lanes (lane_of w h.item)
   path_stays i j [] path h there = absurd (omega (arith, there.1))
   path_stays i j (g ∷ hops) path h (zero, lt, at) =
       let on = (are (lane_of w g.item) (own_lane g path.1.declared)).0 path.1.rescuer in
       subst (λ (x : Hop). Contains lanes (lane_of w x.item)) at on.1
   path_stays i j (g ∷ hops) path h (suc k, lt, at) = path_stays g.next j hops path.3 h (k, omega arith, at)
 
-  path_kept : (i j : ℕ) (hops : List Hop) → IsPath w i hops j → ((h : Hop) → Contains hops h → Contains lanes (lane_of w h.item)) → IsPath v i hops j
+  path_kept : (i j : ℕ) (hops : List Hop) → IsPath w i hops j
+      → ((h : Hop) → Contains hops h → Contains lanes (lane_of w h.item)) → IsPath v i hops j
   path_kept i j [] path stays = path
   path_kept i j (h ∷ hops) path stays =
-      let on : HasRescuer v (lane_of w h.item) = (are (lane_of w h.item) (own_lane h path.1.declared)).1 (path.1.rescuer, stays h (0, omega arith, refl)) in
-      (path.0, record { declared = path.1.declared; rescuer = on }, path.2, path_kept h.next j hops path.3 (λ g there. stays g (suc there.0, omega (arith, there.1), there.2)))
+      let on : HasRescuer v (lane_of w h.item) = (are (lane_of w h.item) (own_lane h path.1.declared)).1
+      (path.1.rescuer, stays h (0, omega arith, refl)) in (
+        path.0,
+        record { declared = path.1.declared; rescuer = on },
+        path.2,
+        path_kept h.next j hops path.3 (λ g there. stays g (suc there.0, omega (arith, there.1), there.2)),
+      )
 
   round_on : (hops : List Hop) → IsRound v hops → IsRoundOn w lanes hops
   round_on hops round = record {
@@ -84,24 +121,36 @@ module _ (w : Wiring) (wiring : IsWiring w) (lanes : List ℕ) (bare : List Bool
   }
 
   round_kept : (hops : List Hop) → IsRoundOn w lanes hops → IsRound v hops
-  round_kept hops is = record { some = is.round.some; first = is.round.first; path = path_kept is.round.first is.round.first hops is.round.path is.stays }
+  round_kept hops is = record {
+    some = is.round.some;
+    first = is.round.first;
+    path = path_kept is.round.first is.round.first hops is.round.path is.stays;
+  }
 
   pub IsLeastRoundOn-least : (limit : ℕ) (hops : List Hop) → IsLeastRound v limit hops → IsLeastRoundOn w lanes hops
   IsLeastRoundOn-least limit hops is = record {
     stays = round_on hops is.round;
-    least = λ others other. omega (arith, is.least others (round_kept others other), walk_cost-hops hops, walk_cost-hops others);
+    least = λ others other. omega (
+      arith,
+      is.least others (round_kept others other),
+      walk_cost-hops hops,
+      walk_cost-hops others,
+    );
   }
 
   pub none_on : (limit : ℕ) → 32772 * w.lanes + 32772 ≤ limit
       → ((hops : List Hop) → IsRound v hops → limit ≤ hops_cost hops) → (hops : List Hop) → ¬ IsRoundOn w lanes hops
-  none_on limit enough least hops is = no_round v limit (IsWiring-with_bare w bare wiring) enough least hops (round_kept hops is)
+  none_on limit enough least hops is = no_round v limit (IsWiring-with_bare w bare wiring) enough least hops
+      (round_kept hops is)
 
   pub AreItemsOn-kept : (on : List (List ℕ)) → AreItemsOn w on → AreItemsOn v on
   AreItemsOn-kept on is = record { one_each = is.one_each; within = is.within; all = is.all }
 
   -- the items on those of the lanes that are marked are passed
-  pub ArePassed-on : (on : List (List ℕ)) (marks : List Bool) (passed : List ℕ) → AreMade w on marks → AreMarkedOf on marks lanes passed → ArePassed v passed
-  ArePassed-on on marks passed made of = ArePassed-marked v made.numbers marks passed marked (λ i below rescuer there.
+  pub ArePassed-on : (on : List (List ℕ)) (marks : List Bool) (bounds passed : List ℕ) → AreMade w on marks bounds
+      → AreMarkedOf on marks lanes passed → ArePassed v passed
+  ArePassed-on on marks bounds passed made of = ArePassed-marked v made.numbers marks passed marked
+      (λ i below rescuer there.
       let on_them = (are (lane_of w i) (lane_of-within w wiring i below)).0 rescuer in
       of.all (lane_of w i) i on_them.1 there (made.items_on.all i below))
     where
@@ -110,9 +159,22 @@ module _ (w : Wiring) (wiring : IsWiring w) (lanes : List ℕ) (bare : List Bool
           let own = (are (lane_of w h.item) (own_lane h hop.declared)).0 hop.rescuer in
           made.marked h (record { declared = hop.declared; rescuer = own.0 }) low
 
+  -- what it costs at least to come to an item that is passed
+  pub AreBounds-on : (on : List (List ℕ)) (marks : List Bool) (bounds passed : List ℕ) → AreMade w on marks bounds
+      → AreMarkedOf on marks lanes passed → (i : ℕ) → Contains passed i → HasRescuer v (lane_of v i)
+      → AreBounds v bounds i
+  AreBounds-on on marks bounds passed made of i there rescuer j hops some path =
+      let at = of.within i there in
+      let it = made.items_on.within at.0 i at.1 in
+      let has = ((are (lane_of w i) (lane_of-within w wiring i it.0)).0 rescuer).0 in
+      let marked : slice_index_or marks (lane_of w i) false ≡ true =
+      ap (λ (q : ℕ). slice_index_or marks q false) it.1 ∙ at.2 in
+      made.bounded i it.0 has marked j hops some (path_on j i hops path)
+
 -- the items that are passed exist
-pub passed_items : (w : Wiring) (on : List (List ℕ)) (marks : List Bool) (lanes passed : List ℕ) → AreMade w on marks → AreMarkedOf on marks lanes passed → All (λ i. i < items w) passed
-passed_items w on marks lanes passed made of k d lt =
+pub passed_items : (w : Wiring) (on : List (List ℕ)) (marks : List Bool) (bounds lanes passed : List ℕ)
+    → AreMade w on marks bounds → AreMarkedOf on marks lanes passed → All (λ i. i < items w) passed
+passed_items w on marks bounds lanes passed made of k d lt =
     let i : ℕ = get_or passed k d in
     let at = of.within i (Contains-get_or passed k d lt) in
     (made.items_on.within at.0 i at.1).0
@@ -128,20 +190,25 @@ pub record AreKept (w : Wiring) (lanes : List ℕ) (bare : List Bool) : Type 0 w
 pub AreKept-none : (w : Wiring) (bare : List Bool) → bare ≡ replicate w.lanes true → AreKept w [] bare
 AreKept-none w bare is = record {
   len = ap (λ (l : List Bool). length l) is ∙ length-replicate w.lanes true;
-  kept = λ q below stays. absurd (false≢true (sym stays ∙ ap (λ (l : List Bool). get_or l q false) is ∙ get_or-replicate w.lanes q true false below));
+  kept = λ q below stays. absurd (false≢true (sym stays ∙ ap (λ (l : List Bool). get_or l q false) is
+      ∙ get_or-replicate w.lanes q true false below));
   all = λ q below rescuer there. absurd (omega (arith, there.1));
 }
 
 -- one lane more
-pub AreKept-more : (w : Wiring) (before after : List ℕ) (bare new : List Bool) (q : ℕ) (has : Bool) → AreKept w before bare → q < w.lanes
-    → (IsTrue has ↔ HasRescuer w q) → ((p : ℕ) → Contains after p → Contains before p ⊎ (q ≡ p)) → ((p : ℕ) → Contains before p ⊎ (q ≡ p) → Contains after p) → new ≡ set bare q (not has) → AreKept w after new
-AreKept-more w before after bare new q has are below rescuer fewer more is = subst (AreKept w after) (sym is) (record { len = length-set bare q (not has) ∙ are.len; kept = kept; all = all })
+pub AreKept-more : (w : Wiring) (before after : List ℕ) (bare new : List Bool) (q : ℕ) (has : Bool)
+    → AreKept w before bare → q < w.lanes
+    → (IsTrue has ↔ HasRescuer w q) → ((p : ℕ) → Contains after p → Contains before p ⊎ (q ≡ p))
+    → ((p : ℕ) → Contains before p ⊎ (q ≡ p) → Contains after p) → new ≡ set bare q (not has) → AreKept w after new
+AreKept-more w before after bare new q has are below rescuer fewer more is =
+    subst (AreKept w after) (sym is) (record { len = length-set bare q (not has) ∙ are.len; kept = kept; all = all })
   where
     within : q < length bare
     within = omega (arith, below, are.len)
 
     at : (p : ℕ) → (p ≡ q) → get_or (set bare q (not has)) p false ≡ not has
-    at p same = subst (λ (k : ℕ). get_or (set bare q (not has)) k false ≡ not has) (sym same) (get_or-set_same bare q (not has) false within)
+    at p same = subst (λ (k : ℕ). get_or (set bare q (not has)) k false ≡ not has) (sym same)
+        (get_or-set_same bare q (not has) false within)
 
     kept : (p : ℕ) → p < w.lanes → get_or (set bare q (not has)) p false ≡ false → HasRescuer w p × Contains after p
     kept p lt stays = elim (cases_eq p q) [
@@ -158,18 +225,27 @@ AreKept-more w before after bare new q has are below rescuer fewer more is = sub
     all : (p : ℕ) → p < w.lanes → HasRescuer w p → Contains after p → get_or (set bare q (not has)) p false ≡ false
     all p lt here there = elim (cases_eq p q) [
       | inl same ↦ at p same ∙ ap not (rescuer.1 (subst (HasRescuer w) same here))
-      | inr other ↦ get_or-set_other bare q p (not has) false other ∙ elim (fewer p there) [ inl old ↦ are.all p lt here old | inr same ↦ absurd (other (sym same)) ]
+      | inr other ↦ get_or-set_other bare q p (not has) false other
+          ∙ elim (fewer p there) [ inl old ↦ are.all p lt here old | inr same ↦ absurd (other (sym same)) ]
     ]
 
 -- one number more, which is no lane's
-pub AreKept-past : (w : Wiring) (before after : List ℕ) (bare : List Bool) (q : ℕ) → AreKept w before bare → w.lanes ≤ q → ((p : ℕ) → Contains after p → Contains before p ⊎ (q ≡ p)) → ((p : ℕ) → Contains before p ⊎ (q ≡ p) → Contains after p)
+pub AreKept-past : (w : Wiring) (before after : List ℕ) (bare : List Bool) (q : ℕ) → AreKept w before bare → w.lanes ≤ q
+    → ((p : ℕ) → Contains after p → Contains before p ⊎ (q ≡ p))
+    → ((p : ℕ) → Contains before p ⊎ (q ≡ p) → Contains after p)
     → AreKept w after bare
 AreKept-past w before after bare q are past fewer more = record {
   len = are.len;
   kept = λ p lt stays. let was = are.kept p lt stays in (was.0, more p (inl was.1));
-  all = λ p lt has there. elim (fewer p there) [ inl old ↦ are.all p lt has old | inr same ↦ absurd (omega (arith, same, lt, past)) ];
+  all = λ p lt has there. elim (fewer p there) [
+    | inl old ↦ are.all p lt has old
+    | inr same ↦ absurd
+        (omega (arith, same, lt, past))
+  ];
 }
 
 -- the same bare lanes again
-pub same_bare : (w : Wiring) (d : Declaration) (ws : Workqueues) (bare : List Bool) → w ≡ wiring_of d ws → bare ≡ ws.bare → with_bare w bare ≡ w
-same_bare w d ws bare same is = ap (λ (v : Wiring). with_bare v bare) same ∙ ap (with_bare (wiring_of d ws)) is ∙ sym same
+pub same_bare : (w : Wiring) (d : Declaration) (ws : Workqueues) (bare : List Bool) → w ≡ wiring_of d ws
+    → bare ≡ ws.bare → with_bare w bare ≡ w
+same_bare w d ws bare same is = ap (λ (v : Wiring). with_bare v bare) same ∙ ap (with_bare (wiring_of d ws)) is
+    ∙ sym same

@@ -8,5 +8,6 @@ pub mod Shortest
 pub mod Walk
 pub mod Bare
 pub mod Search
+pub mod Bounds
 pub mod Numbering
 pub mod Answer

@@ -134,18 +134,24 @@ IsFollowed w s i cost = (t : Target) → Contains (declared_by w i) t → HasRes
 abbrev pub least_hop : Wiring → ℕ → ℕ
 least_hop w i = if list_any (λ (t : Target). not t.unsure) (declared_by w i) then 3 else unsure_cost + 3
 
--- item i need not be gone on from: its flushes are followed, or no round by way of it costs less than the cheapest way
--- round so far
-abbrev pub IsDone : Wiring → ℕ → Reach → ℕ → Type 0
-IsDone w first s i =
-    IsFollowed w s i (slice_index s.costs i) ⊎ (slice_index s.costs first ≤ slice_index s.costs i + least_hop w i)
+-- bounds: to come from item i to the first one, by one hop or more, costs at least the bound of item i
+abbrev pub AreBounds : Wiring → List ℕ → ℕ → Type 0
+AreBounds w bounds first = (i : ℕ) (hops : List Hop) → 0 < length hops → IsPath w i hops first
+    → slice_index bounds i ≤ hops_cost hops
+
+-- item i need not be gone on from: its flushes are followed, or by its bound no round by way of it costs less than the
+-- cheapest way round so far
+abbrev pub IsDone : Wiring → List ℕ → ℕ → Reach → ℕ → Type 0
+IsDone w bounds first s i =
+    IsFollowed w s i (slice_index s.costs i)
+    ⊎ (slice_index s.costs first ≤ slice_index s.costs i + slice_index bounds i)
 
 -- while the search goes on: the first item's flushes are followed from nothing; and each other item is to be gone on
 -- from, or need not be
-pub record IsGoing (w : Wiring) (first limit : ℕ) (s : Reach) : Type 0 where
+pub record IsGoing (w : Wiring) (bounds : List ℕ) (first limit : ℕ) (s : Reach) : Type 0 where
   pub reach : IsReach w first limit s
   pub begun : IsFollowed w s first 0
-  pub followed : (i : ℕ) → i < items w → IsTodo s i ⊎ IsDone w first s i
+  pub followed : (i : ℕ) → i < items w → IsTodo s i ⊎ IsDone w bounds first s i
 
 -- the search is over: its cost for the first item is no more than that of any round from it; and the hops lead round,
 -- if it is less than the limit
@@ -210,13 +216,18 @@ AreMarked w numbers marks =
 
 -- the items on those of these lanes that are marked, and no others
 pub record AreMarkedOf (on : List (List ℕ)) (marks : List Bool) (lanes items : List ℕ) : Type 0 where
-  pub within : (i : ℕ) → Contains items i → (q : ℕ) × Contains (slice_index_or on q []) i
+  pub within : (i : ℕ) → Contains items i
+      → (q : ℕ) × Contains (slice_index_or on q []) i × (slice_index_or marks q false ≡ true)
   pub all : (q i : ℕ) → Contains lanes q → slice_index_or marks q false ≡ true → Contains (slice_index_or on q []) i
       → Contains items i
 
--- what is made of a wiring once: the items on each lane, and marks of lanes by some numbers
-pub record AreMade (w : Wiring) (on : List (List ℕ)) (marks : List Bool) : Type 0 where
+-- what is made of a wiring once: the items on each lane, marks of lanes by some numbers, and bounds of what it costs to
+-- come to each item of a marked lane
+pub record AreMade (w : Wiring) (on : List (List ℕ)) (marks : List Bool) (bounds : List ℕ) : Type 0 where
   pub items_on : AreItemsOn w on
   pub one_each : length marks ≡ w.lanes
   pub numbers : List ℕ
   pub marked : AreMarked w numbers marks
+  pub bound_each : length bounds ≡ items w
+  pub bounded : (first : ℕ) → first < items w → HasRescuer w (lane_of w first)
+      → slice_index_or marks (lane_of w first) false ≡ true → AreBounds w bounds first

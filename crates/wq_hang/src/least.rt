@@ -1,16 +1,18 @@
 //! A least round: waits that hold one another up, at the least cost.
 //!
-//! A round is searched for from each of some items in turn, for less than the best one so far costs. If that is no more
-//! than two hops from the item cost, only the item's own flushes are looked at. Each round passes one of these items.
-//! It takes the time of a search for each of them, and memory in the number of items and lanes.
+//! A round is searched for from each of some items in turn, for less than the best one so far costs. If the item's
+//! bound isn't less, there is none; and if two hops from the item cost no less, only the item's own flushes are looked
+//! at. Each round passes one of these items. It takes the time of a search for each of them, and memory in the number
+//! of items and lanes.
 
-ghost use Rattle.std.specs.Prelude.{◌≡◌, ◌+◌, ◌<◌, ◌≤◌, List, length, slice_index, IfOk, IfSome, IfNone};
+ghost use Rattle.std.specs.Prelude.{◌≡◌, ◌+◌, ◌<◌, ◌≤◌, ℕ, List, length, slice_index, Contains, IfOk, IfSome};
+ghost use Rattle.std.specs.Prelude.{IfNone};
 ghost use Rattle.std.specs.List.{All};
 ghost use Rattle.wq_core.specs.Wiring.{HasRescuer, items, lane_of};
 ghost use Rattle.wq_hang.specs.declared.hop.Hop.{Hop};
 ghost use Rattle.wq_hang.specs.Walk.{AreFirstAlike, BeginsUnsure, IsRound, max_walk_cost};
 ghost use Rattle.wq_hang.specs.Search.{AreItemsOn, ArePassed, IsReach, IsBetter, IsNoBetter, IsLeastRound, hops_cost};
-ghost use Rattle.wq_hang.specs.Search.{least_hop};
+ghost use Rattle.wq_hang.specs.Search.{AreBounds, least_hop};
 
 use crate::hop::Hop;
 use crate::hop_back::{UNSURE, cost_back, hop_back, least_hop};
@@ -76,11 +78,14 @@ fn better_round<A: Allocator + Copy>(
     alloc: A,
     waits: &Waits<'_, A>,
     on: &Buckets<A>,
+    bounds: &[u32],
     search: &mut Search<A>,
     first: ItemId,
     least: u32,
 ) -> Result<Option<(u32, Vec<Hop, A>)>, AllocError>
     requires on { AreItemsOn waits.now on.now }
+    requires one_each { length bounds.now ≡ items waits.now }
+    requires bounds { HasRescuer waits.now (lane_of waits.now first) → AreBounds waits.now bounds.now first }
     requires first { first < items waits.now }
     requires low { least ≤ max_walk_cost }
     ensures some { IfOk result (λ found.
@@ -90,18 +95,17 @@ fn better_round<A: Allocator + Copy>(
     if waits.flushes(first).is_empty() {
         return Ok(None);
     }
-    let own = least_hop(waits, first);
-    if least <= own {
-        return Ok(None);
-    }
     if !waits.has_rescuer(waits.lane_of(first)) {
         return Ok(None);
     }
+    if least <= bounds[usize::from(first.get())] {
+        return Ok(None);
+    }
     // A second hop costs 3.
-    if least <= own + 3 {
+    if least <= least_hop(waits, first) + 3 {
         return better_hop(alloc, waits, first, least);
     }
-    search_from(waits, on, search, first, least)?;
+    search_from(waits, on, bounds, search, first, least)?;
     let cost = search.cost(first);
     if cost >= least {
         return Ok(None);
@@ -116,11 +120,15 @@ pub(crate) fn least_round<A: Allocator + Copy>(
     alloc: A,
     waits: &Waits<'_, A>,
     on: &Buckets<A>,
+    bounds: &[u32],
     search: &mut Search<A>,
     passed: &[u32],
     limit: u32,
 ) -> Result<Option<Vec<Hop, A>>, AllocError>
     requires on { AreItemsOn waits.now on.now }
+    requires one_each { length bounds.now ≡ items waits.now }
+    requires bounds { (i : ℕ) → Contains passed.now i → HasRescuer waits.now (lane_of waits.now i) →
+        AreBounds waits.now bounds.now i }
     requires items { All (λ i. i < items waits.now) passed.now }
     requires passed { ArePassed waits.now passed.now }
     requires low { limit ≤ max_walk_cost }
@@ -133,7 +141,7 @@ pub(crate) fn least_round<A: Allocator + Copy>(
     let mut found = None;
     for i in passed {
         let first = ItemId::new(*i as u16);
-        if let Some((cost, hops)) = better_round(alloc, waits, on, search, first, least)? {
+        if let Some((cost, hops)) = better_round(alloc, waits, on, bounds, search, first, least)? {
             least = cost;
             found = Some(hops);
         }
@@ -147,11 +155,15 @@ pub(crate) fn least_round_settled<A: Allocator + Copy>(
     alloc: A,
     waits: &Waits<'_, A>,
     on: &Buckets<A>,
+    bounds: &[u32],
     search: &mut Search<A>,
     passed: &[u32],
     limit: u32,
 ) -> Result<Option<Vec<Hop, A>>, AllocError>
     requires on { AreItemsOn waits.now on.now }
+    requires one_each { length bounds.now ≡ items waits.now }
+    requires bounds { (i : ℕ) → Contains passed.now i → HasRescuer waits.now (lane_of waits.now i) →
+        AreBounds waits.now bounds.now i }
     requires items { All (λ i. i < items waits.now) passed.now }
     requires passed { ArePassed waits.now passed.now }
     requires low { limit ≤ max_walk_cost }
@@ -161,7 +173,7 @@ pub(crate) fn least_round_settled<A: Allocator + Copy>(
     ensures begins { IfOk result (λ found. IfSome found (λ hops. BeginsUnsure hops.items)) }
     ensures alike { IfOk result (λ found. IfSome found (λ hops. AreFirstAlike waits.now hops.items)) }
 {
-    match least_round(alloc, waits, on, search, passed, limit)? {
+    match least_round(alloc, waits, on, bounds, search, passed, limit)? {
         Some(mut hops) => {
             settle(waits, hops.as_mut_slice());
             Ok(Some(hops))

@@ -10,6 +10,7 @@
 
 mod answer;
 mod bare;
+mod bounds;
 mod hanging;
 mod hop;
 mod hop_back;

@@ -47,6 +47,8 @@ pub(crate) fn marked_items<A: Allocator + Copy>(
 ) -> Result<Vec<u32, A>, AllocError>
     requires { length marks.now ≡ waits.now.lanes }
     ensures items { IfOk result (λ list. All (λ i. i < items waits.now) list.items) }
+    ensures marked { IfOk result (λ list. (i : ℕ) → Contains list.items i →
+        slice_index_or marks.now (lane_of waits.now i) false ≡ true) }
     ensures all { IfOk result (λ list. (i : ℕ) → i < items waits.now →
         slice_index_or marks.now (lane_of waits.now i) false ≡ true → Contains list.items i) }
 {

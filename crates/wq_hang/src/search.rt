@@ -5,8 +5,8 @@
 //! cost 3 or 4, and 32,768 more by an unsure flush, so four queues, one for each, are in order by themselves
 //! (E. W. Dijkstra, "A note on two problems in connexion with graphs", Numerische Mathematik 1, 1959). The first item
 //! costs nothing to begin with and is then left out, so what it costs in the end is the cheapest way round. What costs
-//! as much as the limit, or as the cheapest way round so far, isn't gone on from. It takes time in the number of items,
-//! lanes and flushes.
+//! as much as the limit isn't gone on from; nor is an item from which it can't come back for less than the cheapest way
+//! round so far. It takes time in the number of items, lanes and flushes.
 
 ghost use Rattle.std.specs.Prelude.{◌≡◌, ◌<◌, ◌≤◌, ◌⊎◌, [], false, length, replicate, slice_index, slice_index_or};
 ghost use Rattle.std.specs.Prelude.{IfOk, OnOk, IfSome, IfNone, IsTrue, if◌then◌else◌};
@@ -15,10 +15,10 @@ ghost use Rattle.wq_core.specs.Wiring.{HasRescuer, items, lane_of};
 ghost use Rattle.wq_hang.specs.declared.hop.Hop.{Hop};
 ghost use Rattle.wq_hang.specs.Walk.{max_walk_cost};
 ghost use Rattle.wq_hang.specs.Search.{AreItemsOn, IsTaken, IsSearched, with_todo, reach, reach_all, reach_lane};
-ghost use Rattle.wq_hang.specs.Search.{follow, expand};
+ghost use Rattle.wq_hang.specs.Search.{follow, expand, hop_to, AreBounds};
 
 use crate::hop::Hop;
-use crate::hop_back::{least_hop, unsure_part};
+use crate::hop_back::unsure_part;
 use crate::waits::Waits;
 use std::alloc::{AllocError, Allocator};
 use std::collections::VecDeque;
@@ -106,6 +106,7 @@ impl<A: Allocator + Copy> Search<A> {
 
     /// An item is to be gone on from, which was reached at the least cost or at 1 more, and by a sure flush or an
     /// unsure one.
+    #[inline(always)]
     fn push(&mut self, near: bool, unsure: bool, item: ItemId) -> Result<(), AllocError>
         ensures { IfOk result (λ _. self.new ≡ with_todo near unsure item self.old) }
     {
@@ -118,17 +119,30 @@ impl<A: Allocator + Copy> Search<A> {
         Ok(())
     }
 
-    /// A hop leads to its item at this cost.
-    fn reach(&mut self, near: bool, cost: u32, hop: &Hop) -> Result<(), AllocError>
-        requires next { hop.now.next < length self.old.costs }
+    /// A flush of an item leads to this one next at this cost. The hop is made only if it is the cheapest so far: most
+    /// hops aren't.
+    #[inline(always)]
+    fn reach(
+        &mut self,
+        near: bool,
+        cost: u32,
+        item: ItemId,
+        flush: &Target,
+        next: ItemId,
+    ) -> Result<(), AllocError>
+        requires next { next < length self.old.costs }
         requires one_each { length self.old.by ≡ length self.old.costs }
-        ensures { IfOk result (λ _. self.new ≡ reach near cost self.old hop.now) }
+        ensures { IfOk result (λ _. self.new ≡ reach near cost self.old (hop_to item flush.now next)) }
     {
-        let at = usize::from(hop.next.get());
+        let at = usize::from(next.get());
         if cost < self.costs[at] {
             self.costs[at] = cost;
-            self.by[at] = *hop;
-            self.push(near, hop.flush.unsure, hop.next)?;
+            self.by[at] = Hop {
+                item,
+                flush: *flush,
+                next,
+            };
+            self.push(near, flush.unsure, next)?;
         }
         Ok(())
     }
@@ -148,17 +162,14 @@ impl<A: Allocator + Copy> Search<A> {
         ensures { IfOk result (λ _. self.new ≡ reach_all near cost item flush.now on.now self.old) }
     {
         for next in on {
-            let hop = Hop {
-                item,
-                flush: *flush,
-                next: ItemId::new(*next as u16),
-            };
-            self.reach(near, cost, &hop)?;
+            self.reach(near, cost, item, flush, ItemId::new(*next as u16))?;
         }
         Ok(())
     }
 
-    /// A flush of an item leads to each of these items, which are those of the target's lane, at this cost.
+    /// A flush of an item leads to each item of the target's lane at this cost. The items are looked up only if the
+    /// lane wasn't reached as cheaply before.
+    #[inline(always)]
     fn reach_lane(
         &mut self,
         near: bool,
@@ -166,16 +177,18 @@ impl<A: Allocator + Copy> Search<A> {
         item: ItemId,
         flush: &Target,
         lane: u16,
-        on: &[u32],
+        on: &Buckets<A>,
     ) -> Result<(), AllocError>
         requires lane { lane < length self.old.lane_costs }
-        requires on { All (λ j. j < length self.old.costs) on.now }
+        requires listed { lane < length on.now }
+        requires on { All (λ j. j < length self.old.costs) (slice_index_or on.now lane []) }
         requires few { length self.old.costs ≤ 4096 }
         requires one_each { length self.old.by ≡ length self.old.costs }
-        ensures { IfOk result (λ _. self.new ≡ reach_lane near cost item flush.now lane on.now self.old) }
+        ensures { IfOk result (λ _. self.new
+            ≡ reach_lane near cost item flush.now lane (slice_index_or on.now lane []) self.old) }
     {
         if cost < self.lane_costs[usize::from(lane)] {
-            self.reach_all(near, cost, item, flush, on)?;
+            self.reach_all(near, cost, item, flush, on.places(lane))?;
             self.lane_costs[usize::from(lane)] = cost;
         }
         Ok(())
@@ -203,22 +216,10 @@ impl<A: Allocator + Copy> Search<A> {
         if !waits.has_rescuer(lane) {
             return Ok(());
         }
-        let direct = Hop {
-            item,
-            flush: *flush,
-            next: flush.item,
-        };
         let cost = cost + unsure_part(flush);
-        self.reach(true, cost + 3, &direct)?;
+        self.reach(true, cost + 3, item, flush, flush.item)?;
         let step = if flush.whole { 3 } else { 4 };
-        self.reach_lane(
-            flush.whole,
-            cost + step,
-            item,
-            flush,
-            lane.get(),
-            on.places(lane.get()),
-        )
+        self.reach_lane(flush.whole, cost + step, item, flush, lane.get(), on)
     }
 
     /// The flushes of an item, which costs so much, lead on.
@@ -261,12 +262,14 @@ impl<A: Allocator + Copy> Search<A> {
     }
 
     /// What it costs to come to an item, as far as is known.
+    #[inline(always)]
     fn cost_so_far(&self, item: ItemId) -> u32 {
         let cost = self.costs.get(usize::from(item.get())).copied();
         cost.unwrap_or(u32::MAX)
     }
 
     /// Whether the first item of one queue comes before that of another, by what it costs to come there.
+    #[inline(always)]
     fn comes_first(&self, one: &VecDeque<ItemId, A>, other: &VecDeque<ItemId, A>) -> bool
         ensures one { IsTrue result → 0 < length one.now.items }
         ensures other { result ≡ false → (length one.now.items ≡ 0) ⊎ (0 < length other.now.items) }
@@ -326,11 +329,14 @@ impl<A: Allocator + Copy> Search<A> {
 pub(crate) fn search_from<A: Allocator + Copy>(
     waits: &Waits<'_, A>,
     on: &Buckets<A>,
+    bounds: &[u32],
     search: &mut Search<A>,
     first: ItemId,
     limit: u32,
 ) -> Result<(), AllocError>
     requires on { AreItemsOn waits.now on.now }
+    requires one_each { length bounds.now ≡ items waits.now }
+    requires bounds { AreBounds waits.now bounds.now first }
     requires first { first < items waits.now }
     requires rescuer { HasRescuer waits.now (lane_of waits.now first) }
     requires low { limit ≤ max_walk_cost }
@@ -340,8 +346,9 @@ pub(crate) fn search_from<A: Allocator + Copy>(
     search.expand(waits, on, first, 0)?;
     while let Some(item) = search.take() {
         let cost = search.cost(item);
-        // Then no round by way of this item costs less than the best one so far.
-        if search.cost(first).saturating_sub(cost) <= least_hop(waits, item) {
+        let left = search.cost(first).saturating_sub(cost);
+        // Then no round by way of this item costs less than the cheapest so far.
+        if left <= bounds[usize::from(item.get())] {
             continue;
         }
         search.expand(waits, on, item, cost)?;

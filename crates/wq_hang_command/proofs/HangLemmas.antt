@@ -98,7 +98,7 @@ module _ (s : Declared) (sound : IsSound s) (ws : Workqueues) (known : IsAssignm
             hang.fewest.soonest [] (omega arith) 0 (omega arith) made (by.run, by.stuck),
             length-hang s sound ws known made is.deadlocks,
           )
-      by true some out (more, soonest, other, made, is, text) =
+      by true some out (more, (soonest, other, made, is, text)) =
           let reads = deadlock-reading s ws (needs more) made is.deadlocks in
           let enough : length (needs more) ≤ length (needs hops) =
           elim (cases_lt (length (needs hops)) (length (needs more))) [

@@ -1,4 +1,4 @@
--- What `hang` and `deadlock` promise follows from what they answer.
+-- What `hang` promises follows from what it answers.
 use Rattle.std.proofs.Common.{
   ◌≡◌,
   ℕ,
@@ -9,7 +9,6 @@ use Rattle.std.proofs.Common.{
   List,
   [],
   length,
-  Option,
   Some,
   None,
   Result,
@@ -20,14 +19,13 @@ use Rattle.std.proofs.Common.{
   ap,
   subst,
   ◌∙◌,
-  arith,
 }
 use Rattle.std.specs.Prelude.{MatchResult, option_map}
 use Rattle.std.specs.Result.{result_ok}
 use Rattle.wq_text.specs.Refusal.{Refusal}
-use Rattle.wq_groups.specs.DeclaredGroups.{declared_waits, reading_with_names, Declared}
+use Rattle.wq_groups.specs.DeclaredGroups.{declared_waits, Declared}
 use Rattle.wq_core.specs.declared.step.Step.{Step}
-use Rattle.wq_core.specs.Deadlock.{DeadlocksBy, IsSafe}
+use Rattle.wq_core.specs.Deadlock.{IsSafe}
 use Rattle.wq_core.specs.Readings.{reading}
 use Rattle.wq_core.specs.Wiring.{Wiring}
 use Rattle.wq_core.specs.Workqueues.{Workqueues, wiring_of}
@@ -42,15 +40,13 @@ use Rattle.wq_hang.specs.Walk.{needs}
 use Rattle.wq_commands.specs.declared.end.End.{End}
 use Rattle.wq_commands.specs.declared.end.End.TheVariants.{Good, Bad, Refused}
 use Rattle.wq_commands.specs.Answer.{PrintsRefusal}
-use Rattle.wq_commands.specs.Deadlocking.{Judges, JudgesAssigned, PrintsRun}
 use Rattle.wq_commands.specs.Declaration.{declaration}
 use Rattle.wq_commands.specs.DeclaredIn.{Named, named_of}
-use Rattle.wq_commands.specs.HangPromise.{IsRunText, KeepsHang, KeepsVerdict, PrintsFewest, SayBoth}
+use Rattle.wq_commands.specs.HangPromise.{IsRunText, KeepsHang, PrintsFewest, SayBoth}
 use Rattle.wq_commands.proofs.AnswerLemmas.{IsSound, IsSound-declaration}
 use Rattle.wq_commands.proofs.DeclaredLemmas.{declared_in-declaration}
-use Rattle.wq_commands.proofs.ReadingLemmas.{AreKeptPlaces-needs, deadlock-reading, made_of-deadlock, made_of-reading}
 use Rattle.wq_hang_command.specs.Hanging.{Hangs, HangsAssigned}
-use Rattle.wq_hang_command.proofs.HangLemmas.{made_of-shortest, made_of-sure, needs-none, reading-sure}
+use Rattle.wq_hang_command.proofs.HangLemmas.{made_of-shortest, made_of-sure, needs-none}
 
 -- an answer that keeps what it promises where it is `safe`, and where it is a run
 pub record KeepsBoth (Holds : Wiring → List ℕ → List Step → Type 0) (declared lanes : List ℕ) (end : End)
@@ -119,51 +115,6 @@ module _ (Holds : Wiring → List ℕ → List Step → Type 0) (declared lanes 
     by_texts (Ok s) is sound h =
         by_lanes s is (sound s refl) (workqueues_of_text s.table.names s.partition lanes) refl h
     by_texts (Err r) is sound h = refused end r h
-
--- ---- `deadlock`
-
-abbrev Deadlocks : Wiring → List ℕ → List Step → Type 0
-Deadlocks w kept steps = DeadlocksBy (reading w kept) steps
-
-module _ (declared lanes out : List ℕ) where
-  of_judged : (s : Declared) → declaration declared ≡ Ok s → IsSound s → (ws : Workqueues)
-      → workqueues_of_text s.table.names s.partition lanes ≡ Ok ws → AreWorkqueuesOf s.partition.groups ws
-      → (end : End) → JudgesAssigned s ws end out → KeepsBoth Deadlocks declared lanes end out
-  of_judged s is sound ws read are Good h = good Deadlocks declared lanes out s is ws read h.1
-  of_judged s is sound ws read are Bad h = by_kind (has_unsure s.table.waits) refl h
-    where
-      by_kind : (some : Bool) → has_unsure s.table.waits ≡ some → PrintsRun some s ws out
-          → KeepsBoth Deadlocks declared lanes Bad out
-      by_kind false none (steps, hang, text) =
-          let w = wiring_of (declared_waits s) ws in
-          let made = subst (λ (bytes : List ℕ). made_of s.table.names s.table.waits bytes ≡ Ok (None, steps)) (sym text)
-          (made_of-deadlock s sound ws are.assignment steps hang.deadlocks) in
-          bad Deadlocks declared lanes out s is ws read [] steps (None, made, refl)
-          (subst (λ (v : Wiring). DeadlocksBy v steps) (sym (reading-sure s ws none)) hang.deadlocks)
-          (λ others less. absurd (omega (arith, less)))
-      by_kind true some (hops, soonest, soon, steps, hang, text) =
-          let kept = needs hops in
-          let made = subst (λ (bytes : List ℕ). made_of s.table.names s.table.waits bytes ≡ Ok (Some kept, steps))
-          (sym text)
-          (made_of-reading s sound ws are.assignment steps kept (AreKeptPlaces-needs s ws hops soonest soon)
-          hang.deadlocks some) in
-          bad Deadlocks declared lanes out s is ws read kept steps (Some kept, made, refl)
-          (deadlock-reading s ws kept steps hang.deadlocks) soon.fewest.fewest
-  of_judged s is sound ws read are Refused h = absurd h
-
-pub KeepsVerdict-judges : (declared lanes : List ℕ) (end : End) (out : List ℕ) → Judges declared lanes end out
-    → KeepsVerdict declared lanes end out
-KeepsVerdict-judges declared lanes end out h =
-    let kept = by_texts Deadlocks declared lanes out JudgesAssigned (of_judged declared lanes out) end
-    (declaration declared) refl (IsSound-declaration declared) h in
-    record {
-      safe = λ e.
-          let found = kept.safe e in
-          (found.0, found.1, found.2, (IsSafeAnyway-all (wiring_of found.0.declared found.1)).0 found.3);
-      deadlocks = kept.hangs;
-    }
-
--- ---- `hang`
 
 module _ (declared lanes out : List ℕ) where
   of_hangs : (s : Declared) → declaration declared ≡ Ok s → IsSound s → (ws : Workqueues)

@@ -1,16 +1,9 @@
-//! Laws about the answers of `hang` and `deadlock`, as contracts of functions with empty bodies.
+//! Laws about the answers of `hang`, as contracts of functions with empty bodies.
 
 ghost use Rattle.std.specs.Prelude.{ℕ, List};
 ghost use Rattle.wq_commands.specs.declared.end.End.{End};
-ghost use Rattle.wq_commands.specs.Deadlocking.{Judges};
-ghost use Rattle.wq_commands.specs.HangPromise.{KeepsHang, KeepsVerdict};
+ghost use Rattle.wq_commands.specs.HangPromise.{KeepsHang};
 ghost use Rattle.wq_hang_command.specs.Hanging.{Hangs};
-
-/// An answer of `deadlock` keeps its promise.
-pub fn a_verdict_keeps_its_promise()
-    ensures { (declared lanes : List ℕ) (end : End) (out : List ℕ) → Judges declared lanes end out
-        → KeepsVerdict declared lanes end out }
-{}
 
 /// An answer of `hang` keeps its promise.
 pub fn a_hang_keeps_its_promise()

@@ -1,32 +1,27 @@
 -- What is said of unsure flushes: whether they matter, and which make no difference.
 use Rattle.std.specs.Prelude.{◌≡◌, ◌==◌, ◌&&◌, if◌then◌else◌, ℕ, Bool, true, false, not, List, [], ◌∷◌, ◌++◌}
-use Rattle.std.specs.Prelude.{Option, Some, None}
+use Rattle.std.specs.Prelude.{Option, Some}
 use Rattle.std.specs.Prelude.{length, map, filter, flat_map, decimal, unwrap_or}
 use Rattle.std.specs.List.{range_with_len}
 use Rattle.wq_items.specs.declared.target.Target.{Target}
 use Rattle.wq_items.specs.Readings.{is_among, unsure_places}
 use Rattle.wq_items.specs.Table.{flush_count}
-use Rattle.wq_core.specs.declared.step.Step.{Step}
-use Rattle.wq_core.specs.Deadlock.{IsSafe}
-use Rattle.wq_core.specs.Workqueues.{Workqueues, wiring_of}
+use Rattle.wq_core.specs.Workqueues.{Workqueues}
 use Rattle.wq_graph.specs.declared.arc.WaitArc.{WaitArc}
 use Rattle.wq_deadlock.specs.Judging.{bare_waits}
 use Rattle.wq_hang.specs.declared.hop.Hop.{Hop}
-use Rattle.wq_hang.specs.Answer.{IsHangOf}
 use Rattle.wq_hang.specs.Walk.{needs}
 use Rattle.wq_circles.specs.Components.{AreComponents}
 use Rattle.wq_cert.specs.Part.{has_unsure}
 use Rattle.wq_names.specs.Messages.{arent_decided, hangs_for_sure}
 use Rattle.wq_names.specs.Messages.{isnt_decided, make_no_difference, makes_no_difference}
 use Rattle.wq_names.specs.Messages.{on_these, safe_whatever, safe_whatever_one, to_a_plan, unsure_line, unsure_lines}
-use Rattle.wq_names.specs.Names.{names_of}
 use Rattle.wq_groups.specs.DeclaredGroups.{declared_waits, Declared}
 use Rattle.wq_diagnosis.specs.Diagnosis.{shown_lines}
 use Rattle.wq_diagnosis.specs.Refused.{NotesNoItem}
 use Rattle.wq_voice.specs.Components.{GivesReasons}
 use Rattle.wq_voice.specs.Note.{NotesBare, listed}
 use Rattle.wq_voice.specs.Reasons.{AreSaid, can_hang_lead, told}
-use Rattle.wq_voice.specs.Waits.{words_of}
 use Rattle.wq_voice.specs.declared.waits.Wording.{Wording}
 use Rattle.wq_voice.specs.declared.waits.Wording.TheVariants.{OfGroups, OnWorkqueues}
 
@@ -144,11 +139,3 @@ TellsHang file words s ws hops text =
     (reason : List ℕ) × (notes : List ℕ) × (text ≡ reason ++ notes)
     × AreSaid file (told can_hang_lead words hops) reason
     × AreHangNotes (has_unsure s.table.waits) file s ws hops notes
-
--- how workqueues with this text hang soonest is said in this file, and which unsure flushes matter; nothing if no run
--- ends stuck
-abbrev pub GivesHang : List ℕ → List ℕ → Declared → Workqueues → Option (List ℕ) → Type 0
-GivesHang first lanes s ws None = IsSafe (wiring_of (declared_waits s) ws)
-GivesHang first lanes s ws (Some text) =
-    (hops : List Hop) × (steps : List Step) × IsHangOf (declared_waits s) ws hops steps
-    × TellsHang first (λ h. words_of OnWorkqueues s ws (names_of lanes) h) s ws hops text

@@ -12,6 +12,7 @@ use Rattle.wq_checker.specs.declared.answer.Yes.{Yes}
 use Rattle.wq_checker.specs.declared.run.RunEnd.{RunEnd}
 use Rattle.wq_checker.specs.declared.run.RunEnd.TheVariants.{Free, NotLawful}
 use Rattle.wq_checker.specs.Codes.{no_code}
+use Rattle.wq_hang.specs.declared.hop.Hop.{Hop}
 use Rattle.wq_names.specs.Names.{names_of}
 use Rattle.wq_circles.specs.declared.circling.Circling.{Circling}
 use Rattle.wq_items.specs.Chain.{HasCircle}
@@ -37,7 +38,7 @@ use Rattle.wq_diagnosis.specs.Reasons.{SaysStep}
 use Rattle.wq_diagnosis.specs.Refused.{Diagnoses, NotesNoItem, SaysNo}
 use Rattle.wq_voice.specs.Chain.{IsChainNote}
 use Rattle.wq_voice.specs.Components.{are_some}
-use Rattle.wq_voice.specs.Unsure.{above, GivesHang, NotesSafe, NotesSafeGroups, TellsComponents}
+use Rattle.wq_voice.specs.Unsure.{above, NotesSafe, NotesSafeGroups, TellsComponents, TellsHang}
 use Rattle.wq_voice.specs.Reasons.{GivesReasonOf, GivesReasonOfGroups, GivesReasonOn}
 use Rattle.wq_voice.specs.Waits.{words_of}
 use Rattle.wq_voice.specs.declared.waits.Wording.TheVariants.{OfGroups, OnWorkqueues}
@@ -125,17 +126,27 @@ SaysCheck first second third s texts found said =
 
 -- ---- `deadlock`
 
--- of workqueues with this text: beside `safe` which items are on workqueues without a rescuer; beside a run how the
--- workqueues hang soonest; and beside both whether unsure flushes matter
-abbrev pub SaysVerdict : List ℕ → List ℕ → List ℕ → Declared → Workqueues → End → Option (List ℕ) → Type 0
-SaysVerdict first second lanes s ws Bad said = GivesHang first lanes s ws said
-SaysVerdict first second lanes s ws end said = NotesSafe first second lanes s ws said
+-- of workqueues with this text: how they hang by the waits of this walk, and which unsure flushes matter; or if none
+-- was found, how they hang soonest
+abbrev pub SaysWalk : List ℕ → List ℕ → Declared → Workqueues → Option (List Hop) → Option (List ℕ) → Type 0
+SaysWalk first lanes s ws (Some hops) said =
+    (text : List ℕ) × (said ≡ Some text)
+    × TellsHang first (λ h. words_of OnWorkqueues s ws (names_of lanes) h) s ws hops text
+SaysWalk first lanes s ws None said = GivesReasonOn first lanes s ws said
+
+-- of workqueues with this text, and the walk that was found with the verdict: beside `safe` which items are on
+-- workqueues without a rescuer; beside a run how the workqueues hang; and beside both whether unsure flushes matter
+abbrev pub SaysVerdict : List ℕ → List ℕ → List ℕ → Declared → Workqueues → Option (List Hop) → End
+    → Option (List ℕ) → Type 0
+SaysVerdict first second lanes s ws walk Bad said = SaysWalk first lanes s ws walk said
+SaysVerdict first second lanes s ws walk end said = NotesSafe first second lanes s ws said
 
 -- the same of the verdict that was found, or of the text that is refused
 abbrev pub SaysVerdictOf : {A : Type 0} → List ℕ → List ℕ → List ℕ → Declared → Given → Found (Verdict A)
     → Option (List ℕ) → Type 0
 SaysVerdictOf first second third s texts found said =
-    SaysFound second third (λ v said. SaysVerdict first second texts.second s v.workqueues v.end said) found said
+    SaysFound second third (λ v said.
+    SaysVerdict first second texts.second s v.workqueues (option_map (λ hops. hops.items) v.hops) v.end said) found said
 
 -- ---- `replay`
 

@@ -11,7 +11,7 @@ ghost use Rattle.wq_names.specs.Names.{names_of};
 ghost use Rattle.wq_groups.specs.DeclaredGroups.{declared_waits};
 ghost use Rattle.wq_voice.specs.Reasons.{can_hang_lead, told, AreSaid, GivesReason, GivesReasonOf, GivesReasonOfGroups};
 ghost use Rattle.wq_voice.specs.Reasons.{GivesReasonOn};
-ghost use Rattle.wq_voice.specs.Unsure.{GivesHang, TellsHang};
+ghost use Rattle.wq_voice.specs.Unsure.{TellsHang};
 ghost use Rattle.wq_voice.specs.Waits.{words_of};
 ghost use Rattle.wq_voice.specs.declared.waits.Wording.TheVariants.{OnWorkqueues};
 
@@ -124,28 +124,6 @@ pub fn say_hops<'a, A: Allocator + Copy>(
     let notes = of_hang(alloc, &subject, hops)?;
     put(&mut said, &notes)?;
     Ok(said)
-}
-
-/// How these workqueues, whose text is that one, hang soonest, and which of the unsure flushes matter; nothing where
-/// they can't hang.
-pub(crate) fn say_hang<'a, A: Allocator + Copy>(
-    alloc: A,
-    declaration: Source<'a>,
-    assignment: Source<'a>,
-    assigned: &Assigned<'_, 'a, A>,
-) -> Result<Option<Vec<u8, A>>, AllocError>
-    requires read { workqueues_of_text assigned.now.declared.table.names assigned.now.declared.partition
-        assignment.text.now ≡ Ok assigned.now.workqueues }
-    ensures { IfOk result (λ said. GivesHang declaration.entry.file.now assignment.entry.text.now
-        assigned.now.declared assigned.now.workqueues (option_map (λ text. text.items) said)) }
-{
-    match hang(alloc, assigned)? {
-        Answer::Safe => Ok(None),
-        Answer::Hang(hops, _) => {
-            let said = say_hops(alloc, declaration, assignment, assigned, &hops)?;
-            Ok(Some(said))
-        }
-    }
 }
 
 /// How these workqueues, whose text is that one, hang soonest; nothing where they can't.

@@ -176,8 +176,8 @@ fn unsure_marks<A: Allocator + Copy>(
     Ok(marks)
 }
 
-/// For each place whether the flush there is unsure, is in none of these components, and leads to no rescuer in none of
-/// these ways.
+/// For each place whether the flush there is unsure, and `circles` doesn't print it: it is in none of these components,
+/// and isn't one of these flushes to no rescuer.
 fn idle_marks<A: Allocator + Copy>(
     alloc: A,
     table: &ItemTable<'_, A>,
@@ -212,7 +212,7 @@ fn marked_lines<A: Allocator + Copy>(
     Ok(lines)
 }
 
-/// The lines of the unsure flushes that are in none of these components and lead to no rescuer in none of these ways.
+/// The lines of the unsure flushes that are in none of these components, and aren't among these flushes to no rescuer.
 fn idle_lines<A: Allocator + Copy>(
     alloc: A,
     table: &ItemTable<'_, A>,

@@ -11,7 +11,8 @@ use Rattle.wq_commands.specs.YesIsTrue.{YesIsTrue}
 use Rattle.wq_commands.proofs.PromiseLemmas.{KeepsPromise-answers, YesIsTrue-checks}
 use Rattle.wq_circles.specs.Circling.{AnswersCircles}
 use Rattle.wq_circles.proofs.Promised.{KeepsCircles-answers, KeepsOwnCircles-answers}
-use Rattle.wq_hang_command.proofs.Promised.{KeepsHang-hangs, KeepsVerdict-judges}
+use Rattle.wq_commands.proofs.VerdictPromises.{KeepsVerdict-judges}
+use Rattle.wq_hang_command.proofs.Promised.{KeepsHang-hangs}
 use Rattle.wq_run.specs.declared.fault.CommandFault.{CommandFault}
 use Rattle.wqplan.specs.CommandLine.{Asked, Behind}
 use Rattle.wqplan.specs.Ended.{EndedBy, EndsAsAsked, EndsOn, has_second}

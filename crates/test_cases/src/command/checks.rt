@@ -1,7 +1,7 @@
 //! Cases of `check`.
 
 use crate::command::{Case, PlainCommand};
-use crate::declarations::{CHAIN_OF_FOUR, CIRCLE, ITSELF, PLAN_OF_TWO, TWO};
+use crate::declarations::{CHAIN_OF_FOUR, CIRCLE, ITSELF, PLAN_OF_TWO, TWO, UNSURE};
 use wq_commands::End;
 
 pub(crate) const CHECKS: &[Case] = &[
@@ -109,6 +109,17 @@ c:5:1: expected `arc NAME TARGET`, found `nope` [refused 40, `wqplan explain 40`
 d:1:1: `items` isn't a directive [refused 4, `wqplan explain 4`]
     items
     ^^^^^ did you mean `item`?
+",
+    },
+    Case {
+        name: "a good plan of an unsure line",
+        command: PlainCommand::Check,
+        texts: &[UNSURE, PLAN_OF_TWO],
+        end: End::Good,
+        answer: "yes 2\n",
+        said: "\
+d: note: 2 workqueues are needed if these are so; without unsure lines 1 is enough:
+flush? a b
 ",
     },
 ];

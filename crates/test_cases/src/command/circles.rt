@@ -1,7 +1,9 @@
 //! Cases of `circles`, with an assignment and without one.
 
 use crate::command::{Case, PlainCommand};
-use crate::declarations::{CHAIN, GROUPED, LANES, PLAN_OF_TWO, TWO};
+use crate::declarations::{
+    CHAIN, GROUPED, LANES, PLAN_OF_TWO, TWO, UNSURE, UNSURE_BESIDE, UNSURE_CHAIN,
+};
 use wq_commands::End;
 
 pub(crate) const CIRCLES: &[Case] = &[
@@ -101,6 +103,43 @@ d:4:9: can hang: `c` waits for itself
 d:2:6: the item `a` is declared twice [refused 7, `wqplan explain 7`]
     item a
          ^ first on line 1
+",
+    },
+    Case {
+        name: "lanes that wait in a circle if an unsure line is so",
+        command: PlainCommand::Circles,
+        texts: &[UNSURE_CHAIN, LANES],
+        end: End::Bad,
+        answer: "components 1\ncomponent 2\narc? a b\narc b c\n",
+        said: "\
+d:4:10: can hang if this is so: `a`, on workqueue 0, waits for `b`, which waits on workqueue 1
+    flush? a b
+             ^
+d:5:9: and `b`, on workqueue 1, waits for `c`, which is behind `a` on workqueue 0
+    flush b c
+            ^
+",
+    },
+    Case {
+        name: "lanes that wait in a circle with an unsure line",
+        command: PlainCommand::Circles,
+        texts: &[UNSURE_BESIDE, "wq 0 a b\n"],
+        end: End::Bad,
+        answer: "components 1\ncomponent 2\narc a b\narc? b b\n",
+        said: "\
+d:3:9: can hang: `a`, on workqueue 0, waits for `b`, which is behind it
+    flush a b
+            ^
+",
+    },
+    Case {
+        name: "groups of an unsure line without a circle",
+        command: PlainCommand::OwnCircles,
+        texts: &[UNSURE],
+        end: End::Good,
+        answer: "safe\n",
+        said: "\
+d: note: safe whatever the 1 unsure line turns out to be
 ",
     },
 ];

@@ -2,7 +2,8 @@
 
 use crate::command::{Case, PlainCommand};
 use crate::declarations::{
-    CHAIN, CROSSED, CROSSED_HANGS, HANGS, LANES, PLAN_OF_TWO, TWO, TWO_FLUSHES,
+    CHAIN, CROSSED, CROSSED_HANGS, HANGS, LANES, PLAN_OF_TWO, SURE_HANGS, TWO, TWO_FLUSHES, UNSURE,
+    UNSURE_BESIDE, UNSURE_CHAIN, UNSURE_CHAIN_HANGS, UNSURE_LANES, UNSURE_TWO,
 };
 use wq_commands::End;
 
@@ -73,6 +74,59 @@ c: `b` is on no workqueue [refused 41, `wqplan explain 41`]
 d:1:5: a name is missing [refused 5, `wqplan explain 5`]
     item
         ^ the line should be `item NAME`
+",
+    },
+    Case {
+        name: "lanes that hang if an unsure line is so",
+        command: PlainCommand::Deadlock,
+        texts: &[UNSURE_CHAIN, LANES],
+        end: End::Bad,
+        answer: UNSURE_CHAIN_HANGS,
+        said: "\
+d:4:10: can hang if this is so: `a`, on workqueue 0, waits for `b`, which waits on workqueue 1
+    flush? a b
+             ^
+d:5:9: and `b`, on workqueue 1, waits for `c`, which is behind `a` on workqueue 0
+    flush b c
+            ^
+d: note: 1 of these waits isn't decided. Take a line away if it isn't so, or its `?` if it is, and ask again
+",
+    },
+    Case {
+        name: "lanes that hang whatever an unsure line is",
+        command: PlainCommand::Deadlock,
+        texts: &[UNSURE_BESIDE, "wq 0 a b\n"],
+        end: End::Bad,
+        answer: SURE_HANGS,
+        said: "\
+d:3:9: can hang: `a`, on workqueue 0, waits for `b`, which is behind it
+    flush a b
+            ^
+d: note: hangs for sure: no unsure line is needed
+",
+    },
+    Case {
+        name: "safe lanes of an unsure line",
+        command: PlainCommand::Deadlock,
+        texts: &[UNSURE, PLAN_OF_TWO],
+        end: End::Good,
+        answer: "safe\n",
+        said: "\
+d: note: safe whatever the 1 unsure line turns out to be
+",
+    },
+    Case {
+        name: "lanes that hang if the first of two unsure lines is so",
+        command: PlainCommand::Deadlock,
+        texts: &[UNSURE_TWO, UNSURE_LANES],
+        end: End::Bad,
+        answer: "unsure 1\nflush? a b\nrun 7\nqueue a\nqueue b\nqueue c\nstart 0 a\nwait 0 b\nstart 1 c\nfinish 1 c\n",
+        said: "\
+d:4:10: can hang if this is so: `a`, on workqueue 0, waits for `b`, which is behind it
+    flush? a b
+             ^
+d: note: 1 of these waits isn't decided. Take a line away if it isn't so, or its `?` if it is, and ask again
+d: note: 1 of 2 unsure lines makes no difference on these workqueues: line 5
 ",
     },
 ];

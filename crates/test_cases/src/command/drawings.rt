@@ -1,7 +1,7 @@
 //! Cases of `dot`, with an assignment and without one.
 
 use crate::command::{Case, PlainCommand};
-use crate::declarations::{CHAIN, GROUPED, LANES, TWO};
+use crate::declarations::{CHAIN, GROUPED, LANES, TWO, UNSURE};
 use wq_commands::End;
 
 /// The drawing of the plan of `TWO`.
@@ -21,6 +21,26 @@ digraph wqplan {
     \"a\";
   }
   \"a\" -> \"b\" [style=bold];
+}
+";
+
+/// The drawing of the plan of `UNSURE`.
+const DRAWN_UNSURE: &str = "\
+digraph wqplan {
+  graph [label=\"plan of 2 workqueues, 1 wait in bold, 1 not sure\
+\\lBold: the chain that needs so many workqueues.\\lDotted: not sure.\\l\", labelloc=t, labeljust=l, rankdir=LR, \
+    nodesep=0.15, ranksep=1, fontname=\"sans-serif\"];
+  node [shape=box, style=filled, fillcolor=white, height=0.3, fontname=\"sans-serif\", fontsize=12];
+  edge [arrowsize=0.7];
+  subgraph \"cluster wq 0\" {
+    graph [label=\"\", style=filled, color=gray92]; \"wq 0\" [shape=plaintext, style=\"\", fontsize=14];
+    \"b\";
+  }
+  subgraph \"cluster wq 1\" {
+    graph [label=\"\", style=filled, color=gray92]; \"wq 1\" [shape=plaintext, style=\"\", fontsize=14];
+    \"a\";
+  }
+  \"a\" -> \"b\" [style=\"bold,dotted\"];
 }
 ";
 
@@ -184,5 +204,13 @@ c:1:4: expected `wq 0` [refused 43, `wqplan explain 43`]
     wq 1 a b
        ^ workqueues are numbered from 0, in order
 ",
+    },
+    Case {
+        name: "a drawing of a plan of an unsure line",
+        command: PlainCommand::OwnDot,
+        texts: &[UNSURE],
+        end: End::Good,
+        answer: DRAWN_UNSURE,
+        said: "",
     },
 ];

@@ -1,7 +1,9 @@
 //! Cases of `plan`.
 
 use crate::command::{Case, PlainCommand};
-use crate::declarations::{CHAIN_OF_FOUR, CIRCLE, EACH_OTHER, GROUPED, ITSELF, PLAN_OF_TWO, TWO};
+use crate::declarations::{
+    CHAIN_OF_FOUR, CIRCLE, EACH_OTHER, GROUPED, ITSELF, PLAN_OF_TWO, TWO, UNSURE,
+};
 use wq_commands::End;
 
 pub(crate) const PLANS: &[Case] = &[
@@ -140,6 +142,32 @@ d:4:9: no item `c` is declared above this line [refused 8, `wqplan explain 8`]
 d:4:9: `b` is on two `ordered` lines [refused 11, `wqplan explain 11`]
     ordered b
             ^ first on line 3
+",
+    },
+    Case {
+        name: "a plan of an unsure line",
+        command: PlainCommand::Plan,
+        texts: &[UNSURE],
+        end: End::Good,
+        answer: PLAN_OF_TWO,
+        said: "\
+d: note: 2 workqueues are needed if these are so; without unsure lines 1 is enough:
+flush? a b
+",
+    },
+    Case {
+        name: "a circle of an unsure line",
+        command: PlainCommand::Plan,
+        texts: &["item a\nitem b\nflush? b a\nflush a b\n"],
+        end: End::Bad,
+        answer: "circle 2\narc a b\narc b a\nrun 6\nqueue a\nqueue b\nstart 0 a\nwait 0 b\nstart 1 b\nwait 1 a\n",
+        said: "\
+d:3:10: can hang on any workqueues if this is so: `b` waits for `a`, which waits
+    flush? b a
+             ^
+d:4:9: and `a` waits for `b`, which waits
+    flush a b
+            ^
 ",
     },
 ];

@@ -1,7 +1,7 @@
 //! Cases of `repair`: one of each answer, and of each kind of change.
 
 use crate::command::{Case, PlainCommand};
-use crate::declarations::{CHAIN, CIRCLE, ITSELF, TWO};
+use crate::declarations::{CHAIN, CIRCLE, ITSELF, TWO, UNSURE};
 use wq_commands::End;
 
 pub(crate) const REPAIRS: &[Case] = &[
@@ -80,6 +80,19 @@ c:2:1: workqueue 1 has no rescuer
         answer: "refused 41 line 0\n",
         said: "\
 c: `b` is on no workqueue [refused 41, `wqplan explain 41`]
+",
+    },
+    Case {
+        name: "an item that moves if an unsure line is so",
+        command: PlainCommand::Repair,
+        texts: &[UNSURE, "wq 0 a b\n"],
+        end: End::Good,
+        answer: "wq 0 a\nwq 1 b\n",
+        said: "\
+c:1:8: `b` moves from workqueue 0 to workqueue 1, a new one
+d:3:10: if it stayed and this is so: `a`, on workqueue 0, waits for `b`, which is behind it
+    flush? a b
+             ^
 ",
     },
 ];

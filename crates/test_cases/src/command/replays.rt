@@ -1,7 +1,7 @@
 //! Cases of `replay`.
 
 use crate::command::{Case, PlainCommand};
-use crate::declarations::{CHAIN, HANGS, LANES, TWO};
+use crate::declarations::{CHAIN, HANGS, LANES, TWO, UNSURE, UNSURE_HANGS};
 use wq_commands::End;
 
 pub(crate) const REPLAYS: &[Case] = &[
@@ -86,6 +86,30 @@ r: expected a step, but the text ends [refused 40, `wqplan explain 40`]
 r:2:1: expected a step, found `nope` [refused 40, `wqplan explain 40`]
     nope
     ^^^^
+",
+    },
+    Case {
+        name: "a run that hangs if an unsure line is so",
+        command: PlainCommand::Replay,
+        texts: &[UNSURE, "wq 0 a b\n", UNSURE_HANGS],
+        end: End::Bad,
+        answer: "deadlock\n",
+        said: "\
+d:3:10: can hang if this is so: `a`, on workqueue 0, waits for `b`, which is behind it
+    flush? a b
+             ^
+",
+    },
+    Case {
+        name: "a run of an unsure line that is sure now",
+        command: PlainCommand::Replay,
+        texts: &[TWO, "wq 0 a b\n", UNSURE_HANGS],
+        end: End::Refused,
+        answer: "refused 40 line 2\n",
+        said: "\
+r:2:1: `flush? a b` isn't unsure in the declaration [refused 40, `wqplan explain 40`]
+    flush? a b
+    ^^^^^^ ask `hang` again
 ",
     },
 ];

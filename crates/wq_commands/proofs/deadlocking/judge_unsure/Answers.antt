@@ -1,4 +1,4 @@
-use Rattle.std.proofs.Common.{◌≡◌, ◌<◌, ◌≤◌, ℕ, Bool, List, length, sym, ap, ap₂, subst, ◌∙◌, arith}
+use Rattle.std.proofs.Common.{◌≡◌, ◌<◌, ◌≤◌, ℕ, List, length, sym, ap, ap₂, subst, ◌∙◌, arith}
 use Rattle.std.specs.List.{All}
 use Rattle.wq_items.specs.Table.{Table}
 use Rattle.wq_groups.specs.DeclaredGroups.{declared_waits, reading_with_names}
@@ -12,7 +12,6 @@ use Rattle.wq_cert.specs.RunText.{step_item}
 use Rattle.wq_hang.specs.Answer.{IsHangOf}
 use Rattle.wq_hang.specs.Walk.{needs}
 use Rattle.wq_hang.proofs.NeededPlaces.{needs_few}
-use Rattle.wq_commands.specs.Deadlocking.{PrintsRun}
 use Rattle.wq_commands.proofs.NamedSteps.{length-hang, step_item-hang}
 use Rattle.wq_commands.proofs.ReadingLemmas.{IsSound-reading, not_safe-reading}
 use Rattle.wq_commands.proofs.deadlocking.judge_unsure.Goals as goal
@@ -82,5 +81,4 @@ returns g c =
     c.table.ensures.is
     ∙ ap₂ (λ (l : List ℕ) (r : List Step). reading_text s.table.names s.table.waits l r) places
     c.as_slice-in-Hang-3.ensures.value in
-    subst (λ (b : Bool). PrintsRun b s ws c.in_ok-text-in-Hang.text.items) (sym c.requires)
-    (hops, c.in-Hang.field-1.items, hang, steps, own, text)
+    (c.requires, (c.in-Hang.field-1.items, hang, steps, own, text))

@@ -1,19 +1,23 @@
 use Rattle.std.proofs.Common.{◌<◌, ℕ, List, length, ◌∙◌, sym, ap, subst, arith}
 use Rattle.std.specs.Prelude.{slice_index}
 use Rattle.std.proofs.lemmas.Bool.{eqb-true, false≢true}
-use Rattle.wq_core.specs.Wiring.{HasRescuer}
+use Rattle.wq_core.specs.Wiring.{HasRescuer, lane_of}
 use Rattle.wq_hang.specs.Search.{IsBetter}
 use Rattle.wq_items.specs.declared.target.Target.{Target}
-use Rattle.wq_hang.proofs.LeastFound.{IsNoBetter-still, IsNoBetter-low, IsNoBetter-bare, IsNoBetter-searched}
+use Rattle.wq_hang.proofs.LeastFound.{IsNoBetter-still, IsNoBetter-bound, IsNoBetter-bare, IsNoBetter-searched}
 use Rattle.wq_hang.proofs.LeastFound.{IsBetter-searched}
 use Rattle.wq_hang.proofs.least.better_round.Goals as goal
 
-pub returns-then-least-own : goal.returns-then-least-own
-returns-then-least-own g c = record {
-  some = tt;
-  none = IsNoBetter-low c.args.waits.now c.args.first c.args.least
-      (omega (arith, c.if-least-own.true, c.least_hop-own.ensures));
-}
+pub returns-then-least-bounds : goal.returns-then-least-bounds
+returns-then-least-bounds g c =
+    let w = c.args.waits.now in
+    let rescuer : HasRescuer w (lane_of w c.args.first) =
+    subst (HasRescuer w) c.lane_of.ensures.lane (c.has_rescuer.ensures.0 c.if-not-has_rescuer.false) in
+    record {
+      some = tt;
+      none = IsNoBetter-bound w c.args.bounds.now c.args.first c.args.least (c.requires.bounds rescuer)
+          (omega (arith, c.if-least-bounds.true, ap (slice_index c.args.bounds.now) (c.from.ensures ∙ c.get.ensures)));
+    }
 
 pub returns-then-not-has_rescuer : goal.returns-then-not-has_rescuer
 returns-then-not-has_rescuer g c =

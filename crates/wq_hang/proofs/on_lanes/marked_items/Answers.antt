@@ -13,16 +13,24 @@ loop-i-preserved g c =
     let marks = c.args.marks.now in
     let i : ℕ = c.loop-i.i in
     let item : i < items v = omega (arith, c.loop-i-test.true, c.items-i-end.ensures.items) in
+    let lane : c.from-at.result ≡ lane_of v i =
+    c.from-at.ensures ∙ c.get.ensures ∙ c.lane_of.ensures.lane ∙ ap (lane_of v) c.new.ensures in
     elim c.if-marks-at.branch [
-      | then-marks-at+in_ok-push w ↦ rw w.list-is (AreMarkedBelow-more v marks i c.loop-i.list.items w.push.new.self.items c.loop-i.invariant item w.in_ok-push.ensures.items)
-      | else-marks-at w ↦ (
-          let lane : c.from-at.result ≡ lane_of v i = c.from-at.ensures ∙ c.get.ensures ∙ c.lane_of.ensures.lane ∙ ap (lane_of v) c.new.ensures in
-          rw w.list-is (AreMarkedBelow-kept v marks i c.loop-i.list.items c.loop-i.invariant (ap (λ (q : ℕ). get_or marks q false) (sym lane) ∙ w.if-marks-at.false))
+      | then-marks-at+in_ok-push w ↦ (
+          let marked = ap (λ (q : ℕ). get_or marks q false) (sym lane) ∙ w.if-marks-at.true in
+          rw w.list-is (AreMarkedBelow-more v marks i c.loop-i.list.items w.push.new.self.items c.loop-i.invariant item
+          marked w.in_ok-push.ensures.items)
           )
+      | else-marks-at w ↦
+          rw w.list-is (AreMarkedBelow-kept v marks i c.loop-i.list.items c.loop-i.invariant
+          (ap (λ (q : ℕ). get_or marks q false) (sym lane) ∙ w.if-marks-at.false))
     ]
 
 pub returns-clause-items : goal.returns-clause-items
 returns-clause-items g c = c.loop-i.invariant.within
+
+pub returns-clause-marked : goal.returns-clause-marked
+returns-clause-marked g c = c.loop-i.invariant.marked
 
 pub returns-clause-all : goal.returns-clause-all
 returns-clause-all g c i below marked = c.loop-i.invariant.all i (omega (arith, below, c.items-i-end.ensures.items, c.loop-i-test.false)) marked

@@ -20,6 +20,7 @@ loop-lane-preserved g c =
       | then-is_marked+in_ok-extend_from_slice w ↦
           rw w.list-is
           (AreMarkedOf-more on marks (take k lanes) (take (k + 1) lanes) c.loop-lane.list.items w.extend_from_slice.new.self.items q c.loop-lane.invariant more
+          (sym c.is_marked.ensures.value ∙ w.if-is_marked.true)
           (w.in_ok-extend_from_slice.ensures.items ∙ ap (λ (l : List ℕ). c.loop-lane.list.items ++ l) w.places.ensures))
       | else-is_marked w ↦ rw w.list-is (AreMarkedOf-kept on marks (take k lanes) (take (k + 1) lanes) c.loop-lane.list.items q c.loop-lane.invariant more (sym c.is_marked.ensures.value ∙ w.if-is_marked.false))
     ]

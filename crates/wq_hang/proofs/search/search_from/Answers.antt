@@ -1,6 +1,16 @@
 use Rattle.std.proofs.Common.{ℕ, List, length, replicate, sym, ap, subst, ◌∙◌, arith}
+use Rattle.std.specs.Prelude.{slice_index}
 use Rattle.wq_hang.specs.Search.{IsSearched}
-use Rattle.wq_hang.proofs.Searching.{IsNew, IsGoing-first, IsGoing-next, IsGoing-skipped, work-less, work-skipped, taken_was, IsSearched-all}
+use Rattle.wq_hang.proofs.Searching.{
+  IsNew,
+  IsGoing-first,
+  IsGoing-next,
+  IsGoing-skipped,
+  work-less,
+  work-skipped,
+  taken_was,
+  IsSearched-all,
+}
 use Rattle.wq_hang.proofs.search.search_from.Goals as goal
 
 pub loop-item-init : goal.loop-item-init
@@ -16,62 +26,84 @@ loop-item-init g c =
       near_unsure = c.in_ok-begin.ensures.near_unsure;
       far_unsure = c.in_ok-begin.ensures.far_unsure;
     } in
-    IsGoing-first w c.args.first limit c.items.ensures.wiring c.args.on.now c.requires.on c.begin.new.self c.expand.new.self new c.requires.rescuer c.in_ok-expand.ensures
+    IsGoing-first w c.args.bounds.now c.args.first limit c.items.ensures.wiring c.args.on.now c.requires.on
+    c.begin.new.self c.expand.new.self new c.requires.rescuer c.in_ok-expand.ensures
 
 pub cost-cost-requires : goal.cost-cost-requires
 cost-cost-requires g c =
     let w = c.args.waits.now in
     let s = c.loop-item.search in
-    let was = taken_was w c.args.first c.args.limit c.items.ensures.wiring c.args.on.now c.requires.on s c.take.new.self c.in-Some.item c.in-Some.ensures.some in
+    let was = taken_was w c.args.bounds.now c.args.first c.args.limit c.items.ensures.wiring c.args.on.now c.requires.on
+    s c.take.new.self c.in-Some.item c.in-Some.ensures.some in
     let item = (c.loop-item.invariant.reach.todo c.in-Some.item was).0 in
-    omega (arith, item, c.loop-item.invariant.reach.one_each, ap (λ (l : List ℕ). length l) c.in-Some.ensures.some.costs)
+    omega (
+      arith,
+      item,
+      c.loop-item.invariant.reach.one_each,
+      ap (λ (l : List ℕ). length l) c.in-Some.ensures.some.costs,
+    )
 
 pub expand-requires-in-Some-clause-one_each : goal.expand-requires-in-Some-clause-one_each
-expand-requires-in-Some-clause-one_each g c = ap (λ (l : List ℕ). length l) c.in-Some.ensures.some.costs ∙ c.loop-item.invariant.reach.one_each
+expand-requires-in-Some-clause-one_each g c = ap (λ (l : List ℕ). length l) c.in-Some.ensures.some.costs
+    ∙ c.loop-item.invariant.reach.one_each
 
 pub expand-requires-in-Some-clause-item : goal.expand-requires-in-Some-clause-item
 expand-requires-in-Some-clause-item g c =
     let w = c.args.waits.now in
     let s = c.loop-item.search in
-    let was = taken_was w c.args.first c.args.limit c.items.ensures.wiring c.args.on.now c.requires.on s c.take.new.self c.in-Some.item c.in-Some.ensures.some in
+    let was = taken_was w c.args.bounds.now c.args.first c.args.limit c.items.ensures.wiring c.args.on.now c.requires.on
+    s c.take.new.self c.in-Some.item c.in-Some.ensures.some in
     (c.loop-item.invariant.reach.todo c.in-Some.item was).0
 
 pub loop-item-smaller : goal.loop-item-smaller
 loop-item-smaller g c =
-    work-less c.args.waits.now c.args.first c.args.limit c.items.ensures.wiring c.args.on.now c.requires.on c.loop-item.search c.take.new.self c.expand-in-Some.new.self c.in-Some.item c.cost-cost.result
+    work-less c.args.waits.now c.args.bounds.now c.args.first c.args.limit c.items.ensures.wiring c.args.on.now
+    c.requires.on c.loop-item.search c.take.new.self c.expand-in-Some.new.self c.in-Some.item c.cost-cost.result
     c.loop-item.invariant c.in-Some.ensures.some c.cost-cost.ensures c.in_ok-expand-2.ensures
 
 pub loop-item-preserved : goal.loop-item-preserved
 loop-item-preserved g c =
-    IsGoing-next c.args.waits.now c.args.first c.args.limit c.items.ensures.wiring c.args.on.now c.requires.on c.loop-item.search c.take.new.self c.expand-in-Some.new.self c.in-Some.item c.cost-cost.result
+    IsGoing-next c.args.waits.now c.args.bounds.now c.args.first c.args.limit c.items.ensures.wiring c.args.on.now
+    c.requires.on c.loop-item.search c.take.new.self c.expand-in-Some.new.self c.in-Some.item c.cost-cost.result
     c.loop-item.invariant c.in-Some.ensures.some c.cost-cost.ensures c.in_ok-expand-2.ensures
 
 pub returns : goal.returns
 returns g c =
     let w = c.args.waits.now in
-    let all = IsSearched-all w c.args.first c.args.limit c.items.ensures.wiring c.args.on.now c.requires.on
+    let all = IsSearched-all w c.args.bounds.now c.args.first c.args.limit c.items.ensures.wiring c.args.on.now
+    c.requires.on
     c.loop-item.search c.loop-item.invariant (omega (
       arith,
       c.in_default.ensures.near,
       c.in_default.ensures.far,
       c.in_default.ensures.near_unsure,
       c.in_default.ensures.far_unsure,
-    )) c.requires.first c.requires.rescuer in
+    )) c.requires.bounds c.requires.first c.requires.rescuer in
     subst (IsSearched w c.args.first c.args.limit) (sym c.in_default.ensures.none) all
 
-pub loop-item-preserved-then-saturating_sub-least_hop : goal.loop-item-preserved-then-saturating_sub-least_hop
-loop-item-preserved-then-saturating_sub-least_hop g c =
-    IsGoing-skipped c.args.waits.now c.args.first c.args.limit c.items.ensures.wiring c.args.on.now c.requires.on c.loop-item.search c.take.new.self c.in-Some.item c.loop-item.invariant c.in-Some.ensures.some
-    (omega (arith, c.cost-cost.ensures, c.saturating_sub.ensures, c.if-saturating_sub-least_hop.true))
+pub loop-item-preserved-then-left-bounds : goal.loop-item-preserved-then-left-bounds
+loop-item-preserved-then-left-bounds g c =
+    IsGoing-skipped c.args.waits.now c.args.bounds.now c.args.first c.args.limit c.items.ensures.wiring c.args.on.now
+    c.requires.on c.loop-item.search c.take.new.self c.in-Some.item c.loop-item.invariant c.in-Some.ensures.some
+    (omega (
+      arith,
+      c.cost-cost.ensures,
+      c.cost.ensures,
+      c.saturating_sub-left.ensures,
+      c.if-left-bounds.true,
+      ap (slice_index c.args.bounds.now) (c.from.ensures ∙ c.get.ensures),
+    ))
 
-pub loop-item-smaller-then-saturating_sub-least_hop : goal.loop-item-smaller-then-saturating_sub-least_hop
-loop-item-smaller-then-saturating_sub-least_hop g c =
-    work-skipped c.args.waits.now c.args.first c.args.limit c.items.ensures.wiring c.args.on.now c.requires.on c.loop-item.search c.take.new.self c.in-Some.item c.in-Some.ensures.some
+pub loop-item-smaller-then-left-bounds : goal.loop-item-smaller-then-left-bounds
+loop-item-smaller-then-left-bounds g c =
+    work-skipped c.args.waits.now c.args.bounds.now c.args.first c.args.limit c.items.ensures.wiring c.args.on.now
+    c.requires.on c.loop-item.search c.take.new.self c.in-Some.item c.in-Some.ensures.some
 
-pub least_hop-requires : goal.least_hop-requires
-least_hop-requires g c =
+pub bounds-bounds-from : goal.bounds-bounds-from
+bounds-bounds-from g c =
     let w = c.args.waits.now in
     let s = c.loop-item.search in
-    let was = taken_was w c.args.first c.args.limit c.items.ensures.wiring c.args.on.now c.requires.on s c.take.new.self
+    let was = taken_was w c.args.bounds.now c.args.first c.args.limit c.items.ensures.wiring c.args.on.now c.requires.on
+    s c.take.new.self
     c.in-Some.item c.in-Some.ensures.some in
-    (c.loop-item.invariant.reach.todo c.in-Some.item was).0
+    omega (arith, (c.loop-item.invariant.reach.todo c.in-Some.item was).0, c.requires.one_each)

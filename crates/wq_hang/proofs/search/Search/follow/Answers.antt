@@ -1,5 +1,4 @@
-use Rattle.std.proofs.Common.{List, ℕ, get_or, [], length, ◌+◌, true, ap, subst, arith}
-use Rattle.std.specs.Prelude.{Contains}
+use Rattle.std.proofs.Common.{List, ℕ, get_or, [], length, ◌+◌, true, ap, arith}
 use Rattle.std.proofs.lemmas.List.Elements.{Contains-get_or}
 use Rattle.wq_hang.specs.Search.{Reach, hop_to}
 use Rattle.wq_hang.proofs.Sizes.{AsLarge-reach}
@@ -7,8 +6,8 @@ use Rattle.wq_hang.proofs.search.Search.follow.Goals as goal
 
 pub reach_lane-requires-clause-on : goal.reach_lane-requires-clause-on
 reach_lane-requires-clause-on g c k d lt =
-    let there : Contains (get_or c.args.on.now c.get-2.result []) (get_or c.places.result.now k d) = subst (λ (l : List ℕ). Contains l (get_or c.places.result.now k d)) c.places.ensures (Contains-get_or c.places.result.now k d lt) in
-    let item = (c.requires.on.within c.get-2.result (get_or c.places.result.now k d) there).0 in
+    let on : List ℕ = get_or c.args.on.now c.get.result [] in
+    let item = (c.requires.on.within c.get.result (get_or on k d) (Contains-get_or on k d lt)).0 in
     let large = AsLarge-reach true (c.args.cost + c.unsure_part.result + 3) c.args.self.now
     (hop_to c.args.item c.args.flush.now c.args.flush.now.item) in
     omega (arith, item, c.requires.one_each, ap (λ (r : Reach). length r.costs) c.in_ok-reach.ensures, large.one_each)

@@ -1,0 +1,131 @@
+-- Bounds of items and of lanes: what it costs at least to come on from them.
+use Rattle.std.proofs.Common.{◌≡◌, ◌≢◌, ℕ, ◌+◌, ◌<◌, ◌≤◌, ◌⊎◌, inl, inr, Bool, true, false, List, [], ◌∷◌, length}
+use Rattle.std.proofs.Common.{◌++◌, get_or, set, replicate, refl, sym, ap, subst, ◌∙◌, arith}
+use Rattle.std.specs.Prelude.{Contains, slice_index, slice_index_or, take}
+use Rattle.std.proofs.lemmas.Bool.{cases_eq, cases_lt, both_ways}
+use Rattle.std.proofs.lemmas.List.{get_or-replicate, get_or_past, get_or-set_same, get_or-set_other, get_or_append_left}
+use Rattle.std.proofs.lemmas.List.{length-replicate, length-set}
+use Rattle.std.proofs.Math.Seq.{get_or-append_seam}
+use Rattle.wq_items.specs.declared.target.Target.{Target}
+use Rattle.wq_core.specs.Wiring.{Wiring, IsWiring, HasRescuer, items, lane_of, declared_by}
+use Rattle.wq_core.proofs.Wirings.{lane_of-within}
+use Rattle.wq_hang.specs.declared.hop.Hop.{Hop}
+use Rattle.wq_hang.specs.Walk.{IsPath}
+use Rattle.wq_hang.specs.Search.{hop_cost, hops_cost, AreItemsOn, AreBounds}
+use Rattle.wq_hang.specs.Bounds.{AreLaneBounds, IsBelowEach}
+use Rattle.wq_hang.proofs.Declared.{declared-item, target_beside-most}
+
+-- an item that comes next on a path to an item on a lane with a rescuer is on such a lane
+next_has_rescuer : (w : Wiring) (i first : ℕ) (hops : List Hop) → HasRescuer w (lane_of w first)
+    → IsPath w i hops first → HasRescuer w (lane_of w i)
+next_has_rescuer w i first [] rescuer path = subst (λ (k : ℕ). HasRescuer w (lane_of w k)) (sym path) rescuer
+next_has_rescuer w i first (h ∷ hops) rescuer path =
+    subst (λ (k : ℕ). HasRescuer w (lane_of w k)) path.0 path.1.rescuer
+
+module _ (w : Wiring) (marks : List Bool) where
+  -- a path to a marked lane costs at least what is below each flush of its first item
+  pub path-bound : (bounds : List ℕ) (i cost first : ℕ) (hops : List Hop) → AreLaneBounds w marks bounds
+      → IsBelowEach w bounds i cost → HasRescuer w (lane_of w first)
+      → slice_index_or marks (lane_of w first) false ≡ true → 0 < length hops → IsPath w i hops first
+      → cost ≤ hops_cost hops
+  path-bound bounds i cost first [] are below rescuer marked some path = absurd (omega arith)
+  path-bound bounds i cost first (h ∷ hops) are below rescuer marked some path =
+      let there : Contains (declared_by w i) h.flush =
+      subst (λ (k : ℕ). Contains (declared_by w k) h.flush) path.0 path.1.declared in
+      let has : HasRescuer w (lane_of w h.flush.item) =
+      subst (HasRescuer w) path.2 (next_has_rescuer w h.next first hops rescuer path.3) in
+      omega (
+        arith,
+        below h.flush there has,
+        ap (slice_index bounds) path.2,
+        are.least h.next first hops rescuer marked path.3,
+      )
+
+  -- before anything is known of a lane
+  pub AreLaneBounds-none : (bounds : List ℕ) → bounds ≡ replicate w.lanes 0 → AreLaneBounds w marks bounds
+  AreLaneBounds-none bounds is = record {
+    one_each = ap (λ (l : List ℕ). length l) is ∙ length-replicate {A = ℕ} w.lanes 0;
+    least = λ i first hops rescuer marked path. omega (arith, none (lane_of w i));
+  }
+    where
+      none : (q : ℕ) → slice_index bounds q ≡ 0
+      none q = ap (λ (l : List ℕ). get_or l q 0) is ∙ elim (cases_lt q w.lanes) [
+        | inl within ↦ get_or-replicate w.lanes q 0 0 within
+        | inr past ↦ get_or_past (replicate w.lanes 0) q 0 (omega (arith, past, length-replicate {A = ℕ} w.lanes 0))
+      ]
+
+  -- one lane more, which isn't marked
+  pub AreLaneBounds-more : (bounds new : List ℕ) (on : List (List ℕ)) (q cost : ℕ) → AreItemsOn w on
+      → AreLaneBounds w marks bounds → slice_index_or marks q false ≡ false
+      → ((i : ℕ) → Contains (slice_index_or on q []) i → IsBelowEach w bounds i cost) → new ≡ set bounds q cost
+      → AreLaneBounds w marks new
+  AreLaneBounds-more bounds new on q cost on_lanes are unmarked below is =
+      subst (AreLaneBounds w marks) (sym is) (record {
+        one_each = length-set bounds q cost ∙ are.one_each;
+        least = λ i first hops rescuer marked path. least i first hops rescuer marked path (cases_eq (lane_of w i) q);
+      })
+    where
+      here : (i first : ℕ) (hops : List Hop) → HasRescuer w (lane_of w first)
+          → slice_index_or marks (lane_of w first) false ≡ true → IsPath w i hops first → lane_of w i ≡ q
+          → cost ≤ hops_cost hops
+      here i first [] rescuer marked path same =
+          absurd (both_ways (slice_index_or marks q false) unmarked
+          (ap (λ (p : ℕ). slice_index_or marks p false) (sym same ∙ ap (lane_of w) path) ∙ marked))
+      here i first (h ∷ hops) rescuer marked path same =
+          let item : i < items w = subst (λ (k : ℕ). k < items w) path.0
+          (declared-item w h.item h.flush path.1.declared) in
+          let there : Contains (slice_index_or on q []) i =
+          subst (λ (p : ℕ). Contains (slice_index_or on p []) i) same (on_lanes.all i item) in
+          path-bound bounds i cost first (h ∷ hops) are (below i there) rescuer marked (omega arith) path
+
+      least : (i first : ℕ) (hops : List Hop) → HasRescuer w (lane_of w first)
+          → slice_index_or marks (lane_of w first) false ≡ true → IsPath w i hops first
+          → (lane_of w i ≡ q) ⊎ (lane_of w i ≢ q)
+          → slice_index (set bounds q cost) (lane_of w i) ≤ hops_cost hops
+      least i first hops rescuer marked path (inr other) =
+          omega (
+            arith,
+            get_or-set_other bounds q (lane_of w i) cost 0 other,
+            are.least i first hops rescuer marked path,
+          )
+      least i first hops rescuer marked path (inl same) = elim (cases_lt q (length bounds)) [
+        | inl within ↦ omega (
+          arith,
+          ap (λ (p : ℕ). get_or (set bounds q cost) p 0) same,
+          get_or-set_same bounds q cost 0 within,
+          here i first hops rescuer marked path same,
+        )
+        | inr past ↦ omega (
+          arith,
+          get_or_past (set bounds q cost) (lane_of w i) 0 (omega (arith, same, past, length-set bounds q cost)),
+        )
+      ]
+
+  -- the bounds of items, one after the other
+  pub AreBounds-lanes : (bounds found : List ℕ) (first : ℕ) → AreLaneBounds w marks bounds
+      → ((i : ℕ) → i < items w → IsBelowEach w bounds i (slice_index found i))
+      → HasRescuer w (lane_of w first) → slice_index_or marks (lane_of w first) false ≡ true
+      → AreBounds w found first
+  AreBounds-lanes bounds found first are below rescuer marked i [] some path = absurd (omega arith)
+  AreBounds-lanes bounds found first are below rescuer marked i (h ∷ hops) some path =
+      let item : i < items w = subst (λ (k : ℕ). k < items w) path.0
+      (declared-item w h.item h.flush path.1.declared) in
+      path-bound bounds i (slice_index found i) first (h ∷ hops) are (below i item) rescuer marked some path
+
+-- one item more has its bound
+pub bounds-more : (w : Wiring) (lanes found new : List ℕ) (n cost : ℕ) → length found ≡ n
+    → ((i : ℕ) → i < n → IsBelowEach w lanes i (slice_index found i)) → IsBelowEach w lanes n cost
+    → new ≡ found ++ (cost ∷ []) → (i : ℕ) → i < n + 1 → IsBelowEach w lanes i (slice_index new i)
+bounds-more w lanes found new n cost size are one is i below = by (cases_eq i n)
+  where
+    by : (i ≡ n) ⊎ (i ≢ n) → IsBelowEach w lanes i (slice_index new i)
+    by (inl same) =
+        let at : slice_index new i ≡ cost =
+        ap (λ (l : List ℕ). get_or l i 0) is
+        ∙ ap (λ (k : ℕ). get_or (found ++ (cost ∷ [])) k 0) (same ∙ sym size) ∙ get_or-append_seam found cost [] 0 in
+        subst (IsBelowEach w lanes i) (sym at) (subst (λ (k : ℕ). IsBelowEach w lanes k cost) (sym same) one)
+    by (inr other) =
+        let before : i < n = omega arith in
+        let at : slice_index new i ≡ slice_index found i =
+        ap (λ (l : List ℕ). get_or l i 0) is ∙ get_or_append_left found (cost ∷ []) 0 i (omega (arith, before, size)) in
+        subst (IsBelowEach w lanes i) (sym at) (are i before)
