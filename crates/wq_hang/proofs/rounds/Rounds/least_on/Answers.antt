@@ -5,10 +5,9 @@ use Rattle.wq_core.specs.Wiring.{Wiring, HasRescuer, items, lane_of}
 use Rattle.wq_core.specs.Workqueues.{with_bare}
 use Rattle.wq_hang.specs.declared.hop.Hop.{Hop}
 use Rattle.wq_hang.specs.Walk.{IsRound, IsRoundOn, IsLeastRoundOn}
-use Rattle.wq_hang.specs.Search.{AreItemsOn, AreBounds, ArePassed, AreMarkedOf, IsLeastRound, hops_cost}
+use Rattle.wq_hang.specs.Search.{AreItemsOn, ArePassed, AreMarkedOf, IsLeastRound, hops_cost}
 use Rattle.wq_hang.proofs.Taken.{IfOk-weaker, IfSome-weaker, IfNone-weaker}
-use Rattle.wq_hang.proofs.SomeLanes.{IsLeastRoundOn-least, none_on, AreItemsOn-kept, ArePassed-on}
-use Rattle.wq_hang.proofs.SomeLanes.{AreBounds-on, passed_items}
+use Rattle.wq_hang.proofs.SomeLanes.{IsLeastRoundOn-least, none_on, AreItemsOn-kept, ArePassed-on, passed_items}
 use Rattle.wq_hang.proofs.rounds.Rounds.least_on.Goals as goal
 
 pub marked_items_of-requires-clause-few : goal.marked_items_of-requires-clause-few
@@ -40,7 +39,7 @@ least_round_settled-requires-clause-items g c =
     subst (λ (l : List Bool). AreMarkedOf c.self.inside.on l c.args.lanes.now passed) c.deref.ensures.value
     c.in_ok-marked_items_of.ensures in
     let all : All (λ i. i < items w) passed = passed_items w c.self.inside.on c.self.inside.marks.items
-    c.self.inside.bounds.items c.args.lanes.now passed c.self.invariant of in
+    c.args.lanes.now passed c.self.invariant of in
     let here : All (λ i. i < items w) c.as_slice-3.result.now =
     subst (λ (l : List ℕ). All (λ i. i < items w) l) (sym c.as_slice-3.ensures.value) all in
     subst (λ (v : Wiring). All (λ i. i < items v) c.as_slice-3.result.now) (sym same) here
@@ -56,39 +55,10 @@ least_round_settled-requires-clause-passed g c =
     subst (λ (l : List Bool). AreMarkedOf c.self.inside.on l c.args.lanes.now passed) c.deref.ensures.value
     c.in_ok-marked_items_of.ensures in
     let are : ArePassed (with_bare w bare) passed = ArePassed-on w c.lanes-lanes.ensures.machine.wiring c.args.lanes.now
-    bare c.in_ok-leave_others_out.ensures c.self.inside.on c.self.inside.marks.items c.self.inside.bounds.items
+    bare c.in_ok-leave_others_out.ensures c.self.inside.on c.self.inside.marks.items
     passed c.self.invariant of in
     subst (ArePassed c.new-waits.result) (sym c.as_slice-3.ensures.value)
     (subst (λ (v : Wiring). ArePassed v passed) (sym same) are)
-
-pub least_round_settled-requires-clause-bounds : goal.least_round_settled-requires-clause-bounds
-least_round_settled-requires-clause-bounds g c = λ i there rescuer.
-    let w = c.self.inside.core.wiring in
-    let bare = c.leave_others_out.new.bare.items in
-    let passed = c.marked_items_of.new.list.items in
-    let bounds = c.self.inside.bounds.items in
-    let same : c.new-waits.result ≡ with_bare w bare = c.new-waits.ensures ∙ ap (with_bare w) c.as_slice.ensures.value
-    in
-    let of : AreMarkedOf c.self.inside.on c.self.inside.marks.items c.args.lanes.now passed =
-    subst (λ (l : List Bool). AreMarkedOf c.self.inside.on l c.args.lanes.now passed) c.deref.ensures.value
-    c.in_ok-marked_items_of.ensures in
-    let here : Contains passed i = subst (λ (l : List ℕ). Contains l i) c.as_slice-3.ensures.value there in
-    let has : HasRescuer (with_bare w bare) (lane_of w i) =
-    subst (λ (v : Wiring). HasRescuer v (lane_of v i)) same rescuer in
-    let are : AreBounds (with_bare w bare) bounds i =
-    AreBounds-on w c.lanes-lanes.ensures.machine.wiring c.args.lanes.now bare c.in_ok-leave_others_out.ensures
-    c.self.inside.on c.self.inside.marks.items bounds passed c.self.invariant of i here has in
-    subst (λ (v : Wiring). AreBounds v c.as_slice-2.result.now i) (sym same)
-    (subst (λ (l : List ℕ). AreBounds (with_bare w bare) l i) (sym c.as_slice-2.ensures.value) are)
-
-pub least_round_settled-requires-clause-one_each : goal.least_round_settled-requires-clause-one_each
-least_round_settled-requires-clause-one_each g c =
-    let w = c.self.inside.core.wiring in
-    let bare = c.leave_others_out.new.bare.items in
-    let same : c.new-waits.result ≡ with_bare w bare = c.new-waits.ensures ∙ ap (with_bare w) c.as_slice.ensures.value
-    in
-    ap (λ (l : List ℕ). length l) c.as_slice-2.ensures.value ∙ c.self.invariant.bound_each
-    ∙ ap (λ (v : Wiring). items v) (sym same)
 
 pub returns-clause-some : goal.returns-clause-some
 returns-clause-some g c =
