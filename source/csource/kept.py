@@ -38,7 +38,7 @@ class KeptProgram:
         self.tree = tree
         name = hashlib.sha256("\0".join([str(tree), str(tree.resolve()), str(stacked), *files]).encode()).hexdigest()
         self.at = extractor.cache / f"program-{name[:32]}"
-        self.includes = Includes(tree)
+        self.includes = extractor.known_includes or Includes(tree)
         found = hashlib.sha256(of_this_program())
         for file in self.includes.all_of(files):
             found.update(file.encode() + b"\0" + self.includes.digest(file))

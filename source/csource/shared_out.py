@@ -1,43 +1,145 @@
-"""Many small tasks in several processes. Each leaves what it made in the cache, where the others find it."""
+"""Many small tasks in several processes, which begin them while this one does something else."""
 
+import contextlib
+import marshal
 import os
-from typing import Callable, Sequence, TypeVar
+from typing import Callable, Generic, Sequence, TypeVar
 
 Task = TypeVar("Task")
 Made = TypeVar("Made")
 # With fewer tasks than this for each, a process isn't worth its beginning.
-LEAST = 12
+LEAST = 4
+# The number of a task, as it stands in the list of those that are left.
+WIDTH = 4
+# The processes of this one that haven't been seen to end, and the lists of tasks that they may still look at.
+_begun: set[int] = set()
+_lists: set[int] = set()
+
+
+class Shared(Generic[Task, Made]):
+    """What `make` makes of each task: plain lists, dictionaries, texts and numbers. Some processes have begun with it.
+
+    Each takes the next task of those that are left. What it has made comes back when there are none, and then it does
+    what comes `after`, which nobody waits for but `wait_for_all`. It says nothing itself: what has failed there is made
+    here, and fails here.
+    """
+
+    def __init__(
+        self, tasks: Sequence[Task], processes: int, make: Callable[[Task], Made], after: Callable[[int], None]
+    ) -> None:
+        self.tasks = tasks
+        self.processes = processes
+        self.make = make
+        self.made: dict[int, Made] = {}
+        # the numbers of the tasks: all processes read this one file, each from where the last one stopped
+        self.left = os.memfd_create("tasks")
+        os.write(self.left, b"".join(number.to_bytes(WIDTH, "little") for number in range(len(tasks))))
+        os.lseek(self.left, 0, os.SEEK_SET)
+        _lists.add(self.left)
+        self.results = [os.memfd_create("made") for _ in range(processes)]
+        # (all have closed their end of it: all that was made is there)
+        self.done, ends = os.pipe()
+        for process, result in enumerate(self.results):
+            begin(lambda process=process, result=result: self.run(ends, result, lambda: after(process)), self.done)
+        os.close(ends)
+
+    def run(self, ends: int, result: int, after: Callable[[], None]) -> None:
+        """In one of the processes."""
+        with contextlib.suppress(Exception):
+            while self.make_next():
+                pass
+        write_all(result, marshal.dumps(self.made))
+        os.close(ends)
+        after()
+
+    def make_next(self) -> bool:
+        """Makes one of the tasks that are left. False if none is."""
+        data = os.read(self.left, WIDTH)
+        if data:
+            number = int.from_bytes(data, "little")
+            self.made[number] = self.make(self.tasks[number])
+        return bool(data)
+
+    def is_begun(self) -> bool:
+        """Whether somebody has begun with each task."""
+        return os.lseek(self.left, 0, os.SEEK_CUR) >= WIDTH * len(self.tasks)
+
+    def finish(self, say: Callable[[int], None]) -> list[Made]:
+        """What was made of each task. `say` gets the number of tasks that this process has done itself."""
+        try:
+            while self.make_next():
+                say(len(self.made))
+            self.collect()
+        finally:
+            self.close()
+        for number, task in enumerate(self.tasks):
+            if number not in self.made:
+                self.made[number] = self.make(task)
+        return [self.made[number] for number in range(len(self.tasks))]
+
+    def collect(self) -> None:
+        """Takes what the other processes have made, when they have."""
+        while os.read(self.done, 1):
+            pass
+        for result in self.results:
+            data = os.pread(result, os.fstat(result).st_size, 0)
+            if data:
+                self.made.update(marshal.loads(data))
+
+    def close(self) -> None:
+        _lists.discard(self.left)
+        for descriptor in (self.left, self.done, *self.results):
+            os.close(descriptor)
+
+
+def write_all(to: int, data: bytes) -> None:
+    view = memoryview(data)
+    while view:
+        view = view[os.write(to, view) :]
+
+
+def nothing(_: int) -> None:
+    """What comes after, where nothing does."""
 
 
 def share_out(
-    tasks: Sequence[Task], jobs: int, make: Callable[[Task], Made], say: Callable[[int], None]
+    tasks: Sequence[Task],
+    jobs: int,
+    make: Callable[[Task], Made],
+    say: Callable[[int], None],
+    after: Callable[[int], None] = nothing,
 ) -> list[Made]:
-    """What `make` makes of each task, from the cache if it is there, in up to `jobs` processes.
+    """What `make` makes of each task, in up to `jobs` processes, of which this is one."""
+    return begin_with(tasks, jobs, make, after).finish(say)
 
-    Each goes through all tasks, from another one on, and so the first to come to a task makes it. This one hears
-    nothing from the others, but for what is in the cache; so what fails, fails here. `say` gets the number of tasks
-    that are done.
-    """
+
+def begin_with(
+    tasks: Sequence[Task], jobs: int, make: Callable[[Task], Made], after: Callable[[int], None] = nothing
+) -> Shared[Task, Made]:
+    """Tasks for up to `jobs` processes, of which this is one."""
     jobs = max(1, min(jobs, len(tasks) // LEAST))
-    children = [begin([*tasks[at:], *tasks[:at]], make) for at in (len(tasks) * job // jobs for job in range(1, jobs))]
-    found = []
-    try:
-        for task in tasks:
-            say(len(found))
-            found.append(make(task))
-    finally:
-        for child in children:
-            os.waitpid(child, 0)
-    return found
+    return Shared(tasks, jobs - 1, make, after)
 
 
-def begin(tasks: Sequence[Task], make: Callable[[Task], object]) -> int:
-    """A process for some tasks. It says nothing, and leaves what the end of this program has to do to this one."""
+def begin(work: Callable[[], None], *unneeded: int) -> None:
+    """A process for some work. It says nothing, and leaves what the end of this program has to do to this one."""
     child = os.fork()
     if child:
-        return child
+        _begun.add(child)
+        return
     try:
-        for task in tasks:
-            make(task)
+        for descriptor in unneeded:
+            os.close(descriptor)
+        work()
     finally:
         os._exit(0)
+
+
+def wait_for_all() -> None:
+    """Until all processes that were begun have ended. They begin with no other task: nobody asks for it any more."""
+    for left in _lists:
+        os.lseek(left, 0, os.SEEK_END)
+    while _begun:
+        child = _begun.pop()
+        with contextlib.suppress(ChildProcessError):
+            os.waitpid(child, 0)
