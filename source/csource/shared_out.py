@@ -3,17 +3,19 @@
 import contextlib
 import marshal
 import os
+import select
 from typing import Callable, Generic, Sequence, TypeVar
 
 Task = TypeVar("Task")
 Made = TypeVar("Made")
 # With fewer tasks than this for each, a process isn't worth its beginning.
 LEAST = 4
-# The number of a task, as it stands in the list of those that are left.
+# The number of a task, as it stands in the list of those that are left; and how many numbers a pipe holds for sure.
 WIDTH = 4
-# The processes of this one that haven't been seen to end, and the lists of tasks that they may still look at.
+MOST = 4096 // WIDTH
+# The processes of this one that haven't been seen to end, and the work that isn't finished.
 _begun: set[int] = set()
-_lists: set[int] = set()
+_unfinished: "set[Shared]" = set()
 
 
 class Shared(Generic[Task, Made]):
@@ -31,11 +33,13 @@ class Shared(Generic[Task, Made]):
         self.processes = processes
         self.make = make
         self.made: dict[int, Made] = {}
-        # the numbers of the tasks: all processes read this one file, each from where the last one stopped
-        self.left = os.memfd_create("tasks")
-        os.write(self.left, b"".join(number.to_bytes(WIDTH, "little") for number in range(len(tasks))))
-        os.lseek(self.left, 0, os.SEEK_SET)
-        _lists.add(self.left)
+        # the numbers of the tasks that are left, from which each process takes one at a time: where there are many tasks,
+        # it stands for the later ones, too, that are so far behind it
+        self.step = min(len(tasks), MOST)
+        self.left, filled = os.pipe()
+        os.write(filled, b"".join(number.to_bytes(WIDTH, "little") for number in range(self.step)))
+        os.close(filled)
+        _unfinished.add(self)
         self.results = [os.memfd_create("made") for _ in range(processes)]
         # (all have closed their end of it: all that was made is there)
         self.done, ends = os.pipe()
@@ -53,16 +57,22 @@ class Shared(Generic[Task, Made]):
         after()
 
     def make_next(self) -> bool:
-        """Makes one of the tasks that are left. False if none is."""
+        """Makes what comes next of the tasks that are left. False if none is."""
         data = os.read(self.left, WIDTH)
-        if data:
-            number = int.from_bytes(data, "little")
+        for number in range(int.from_bytes(data, "little"), len(self.tasks), self.step) if data else ():
             self.made[number] = self.make(self.tasks[number])
         return bool(data)
 
     def is_begun(self) -> bool:
         """Whether somebody has begun with each task."""
-        return os.lseek(self.left, 0, os.SEEK_CUR) >= WIDTH * len(self.tasks)
+        poll = select.poll()
+        poll.register(self.left, select.POLLIN)
+        return not any(events & select.POLLIN for _, events in poll.poll(0))
+
+    def give_up(self) -> None:
+        """Lets nobody begin with another task."""
+        while os.read(self.left, WIDTH * MOST):
+            pass
 
     def finish(self, say: Callable[[int], None]) -> list[Made]:
         """What was made of each task. `say` gets the number of tasks that this process has done itself."""
@@ -87,7 +97,7 @@ class Shared(Generic[Task, Made]):
                 self.made.update(marshal.loads(data))
 
     def close(self) -> None:
-        _lists.discard(self.left)
+        _unfinished.discard(self)
         for descriptor in (self.left, self.done, *self.results):
             os.close(descriptor)
 
@@ -137,8 +147,8 @@ def begin(work: Callable[[], None], *unneeded: int) -> None:
 
 def wait_for_all() -> None:
     """Until all processes that were begun have ended. They begin with no other task: nobody asks for it any more."""
-    for left in _lists:
-        os.lseek(left, 0, os.SEEK_END)
+    for shared in _unfinished:
+        shared.give_up()
     while _begun:
         child = _begun.pop()
         with contextlib.suppress(ChildProcessError):

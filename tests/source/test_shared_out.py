@@ -81,6 +81,19 @@ def test_what_a_process_leaves_is_made_here(forks):
     assert len(forks) == 3
 
 
+def test_many_tasks(tmp_path, forks):
+    """More than a pipe holds numbers of: each is made once."""
+    many = range(3 * shared_out.MOST + 1)
+
+    def make(task):
+        with open(tmp_path / "made", "a") as opened:
+            opened.write(f"{task}\n")
+        return -task
+
+    assert shared_out.share_out(many, 4, make, lambda _: None) == [-task for task in many]
+    assert sorted(map(int, (tmp_path / "made").read_text().split())) == list(many)
+
+
 def test_much_is_handed_over(forks):
     """More than a pipe holds."""
     long = "x" * 100_000
@@ -108,7 +121,7 @@ def test_what_nobody_asks_for_is_given_up(tmp_path, forks):
     while len(os.listdir(tmp_path)) < 3:
         os.sched_yield()
     assert not shared.is_begun()
-    os.lseek(shared.left, 0, os.SEEK_END)
+    shared.give_up()
     assert shared.is_begun()
     (tmp_path / "go").touch()
     shared_out.wait_for_all()
