@@ -55,6 +55,7 @@ class Program:
         self.tables = tables
         self.holds = Holds(facts, tables.waits)
         self.graph = CallGraph(facts, self.holds, tables.idioms, stacked)
+        self.holds.forget_flows()
         self.items = Items(facts, self.holds, tables.waits)
         self.workqueues = Workqueues(facts, tables.waits)
         self.sites = Sites(facts, self.holds, self.graph, tables.waits, self.items)
