@@ -105,9 +105,9 @@ def without_macros(lines, text):
     """The facts that aren't in the text of a macro: those wqsource reads by itself (csource/macros.py)."""
     inside = {
         number
-        for match in DIRECTIVE.finditer(text)
+        for match in DIRECTIVE.finditer(f"\n{text}")
         for first in [text.count("\n", 0, match.start()) + 1]
-        for number in range(first, first + match[0].count("\n") + 1)
+        for number in range(first, first + match[0].count("\n"))
     }
     return [line for line in lines if int(line.split("\t")[1]) not in inside]
 
