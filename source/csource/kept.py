@@ -12,7 +12,6 @@ import sys
 import zlib
 from typing import Optional
 
-from .headers import Includes
 from .program import Program, ReadsFacts, Tables, read
 from .tables import FOLDER
 from .token_extract import TokenExtractor
@@ -38,7 +37,7 @@ class KeptProgram:
         self.tree = tree
         name = hashlib.sha256("\0".join([str(tree), str(tree.resolve()), str(stacked), *files]).encode()).hexdigest()
         self.at = extractor.cache / f"program-{name[:32]}"
-        self.includes = extractor.known_includes or Includes(tree)
+        self.includes = extractor.includes(tree)
         found = hashlib.sha256(of_this_program())
         for file in self.includes.all_of(files):
             found.update(file.encode() + b"\0" + self.includes.digest(file))
@@ -57,6 +56,8 @@ class KeptProgram:
         return program
 
     def write(self, program: Program) -> None:
+        # (each audit asks for them)
+        _ = program.missed
         half = self.at.with_suffix(f".{os.getpid()}")
         half.write_bytes(self.sum + zlib.compress(pickle.dumps(program, pickle.HIGHEST_PROTOCOL), FAST))
         half.replace(self.at)

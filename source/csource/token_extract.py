@@ -62,7 +62,7 @@ class TokenExtractor:
 
     def read(self, tree: pathlib.Path, files: list[str]) -> Facts:
         """The facts of some files."""
-        includes = self.known_includes or Includes(tree)
+        includes = self.includes(tree)
         headers = includes.all_of(files)
         reading = self.begin_files(tree, files)
         while reading.make_next():
@@ -81,6 +81,11 @@ class TokenExtractor:
         self.kept.write_owed()
         facts.called_in = lambda file: calls_of(read[file][1])
         return facts
+
+    def includes(self, tree: pathlib.Path) -> Includes:
+        """Which files of a tree include which: what is known of it already, if something is."""
+        known = self.known_includes
+        return known if known is not None and known.tree == tree else Includes(tree)
 
     # Files
 
