@@ -4,11 +4,13 @@ Of the files of a call there is one, the last. It counts if all is as it was: th
 this program and its tables.
 """
 
+import contextlib
 import hashlib
 import os
 import pathlib
 import pickle
 import sys
+import threading
 import zlib
 from typing import Optional
 
@@ -19,6 +21,8 @@ from .token_extract import TokenExtractor
 HERE = pathlib.Path(__file__).resolve().parent
 # (a third of the time of the next level, and half as much again in bytes)
 FAST = 1
+# So many bytes before it say of what it is.
+SUM = hashlib.sha256().digest_size
 
 
 def of_this_program() -> bytes:
@@ -37,6 +41,10 @@ class KeptProgram:
         self.tree = tree
         name = hashlib.sha256("\0".join([str(tree), str(tree.resolve()), str(stacked), *files]).encode()).hexdigest()
         self.at = extractor.cache / f"program-{name[:32]}"
+        # the sum, and the program: it is unpacked while the files are looked at
+        self.kept = b"", b""
+        self.unpacking = threading.Thread(target=self.unpack)
+        self.unpacking.start()
         self.includes = extractor.includes(tree)
         found = hashlib.sha256(of_this_program())
         for file in self.includes.all_of(files):
@@ -45,15 +53,18 @@ class KeptProgram:
 
     def read(self) -> Optional[Program]:
         """The program, if it is there and is of the same files."""
-        try:
-            kept = self.at.read_bytes()
-        except FileNotFoundError:
+        self.unpacking.join()
+        (known, data), self.kept = self.kept, (b"", b"")
+        if known != self.sum:
             return None
-        if not kept.startswith(self.sum):
-            return None
-        program: Program = pickle.loads(zlib.decompress(kept[len(self.sum) :]))
+        program: Program = pickle.loads(data)
         self.extractor.give_calls(self.tree, program.facts)
         return program
+
+    def unpack(self) -> None:
+        with contextlib.suppress(FileNotFoundError):
+            kept = self.at.read_bytes()
+            self.kept = kept[:SUM], zlib.decompress(kept[SUM:])
 
     def write(self, program: Program) -> None:
         # (each audit asks for them)
