@@ -123,18 +123,27 @@ def parser() -> argparse.ArgumentParser:
     return words
 
 
-def main() -> NoReturn:
+def main() -> int:
+    """Does what the command line says. The status."""
     let_bytes_through()
     words = parser().parse_args()
     # (millions of small objects, which live as long as the command; to look through them again and again costs a third)
     gc.disable()
     said = Progress()
     try:
-        status = run(words, said)
-        sys.stdout.flush()
+        status = status_of(words, said)
+        let_go_of_output()
+        shared_out.wait_for_all()
     except KeyboardInterrupt:
         said.end()
         end_by_interrupt()
+    return status
+
+
+def status_of(words: argparse.Namespace, said: Progress) -> int:
+    try:
+        status = run(words, said)
+        sys.stdout.flush()
     except BrokenPipeError:
         said.end()
         status = UNREAD
@@ -142,9 +151,7 @@ def main() -> NoReturn:
         said.end()
         print(f"wqsource: {said_of(fault)}", file=sys.stderr)
         status = FAULT
-    let_go_of_output()
-    shared_out.wait_for_all()
-    sys.exit(status)
+    return status
 
 
 def run(words: argparse.Namespace, said: Progress) -> int:
