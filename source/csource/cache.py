@@ -17,9 +17,10 @@ class Cache:
     def __init__(self, folder: pathlib.Path) -> None:
         self.folder = folder
         self.is_owing = False
-        # what was made while it was so, and the names of what nobody has written yet
+        # what was made while it was so, the names of what nobody has written yet, and what is to be made for others
         self.recent: dict[str, str] = {}
         self.owed: list[str] = []
+        self.unmade: list[tuple[str, Callable[[], str]]] = []
 
     def made(self, name: str, make: Callable[[], str]) -> str:
         """The text of a name; what `make` answers, if it isn't there yet."""
@@ -45,6 +46,10 @@ class Cache:
         else:
             self.write(name, text)
 
+    def owe(self, name: str, make: Callable[[], str]) -> None:
+        """A text that nobody asks for any more before it is written."""
+        self.unmade.append((name, make))
+
     def at(self, name: str) -> str:
         return os.path.join(self.folder, name[:2], name[2:])
 
@@ -67,6 +72,11 @@ class Cache:
         """Writes what was left for later, and from now on at once."""
         for name in self.owed:
             self.write(name, self.recent[name])
+        for name, make in self.unmade:
+            self.write(name, make())
+        self.forget()
+
+    def forget(self) -> None:
+        """Somebody else writes what was left for later."""
         self.is_owing = False
-        self.owed = []
-        self.recent = {}
+        self.recent, self.owed, self.unmade = {}, [], []

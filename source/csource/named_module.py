@@ -30,10 +30,13 @@ def chosen_for(tree: pathlib.Path, name: str, extractor: TokenExtractor, index: 
         raise Fault(
             f"{name}: no module of {tree} has this name: write its folder, `/`, and the name of its object{hint}"
         )
-    # (while others search the tree)
-    extractor.read_ahead(tree, list(module.files), includes, index.is_near)
+    own = includes.all_beside(module.files)
+    # (first while others search the tree, then with their help)
+    extractor.read_ahead(tree, own, includes, index.is_there)
+    known = index.get()
+    extractor.read_files(tree, own)
     summary = functools.cache(lambda file: Summary.of(extractor.lines_of(tree, file)))
-    return Chooser(tree, index.get(), Layers(), summary, extractor.jobs, kbuild, includes).choose(module)
+    return Chooser(tree, known, Layers(), summary, extractor.jobs, kbuild, includes).choose(module)
 
 
 def nearest(name: str, names: list[str]) -> str:

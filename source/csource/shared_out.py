@@ -63,11 +63,11 @@ class Shared(Generic[Task, Made]):
             self.made[number] = self.make(self.tasks[number])
         return bool(data)
 
-    def is_begun(self) -> bool:
-        """Whether somebody has begun with each task."""
+    def is_done(self) -> bool:
+        """Whether the other processes are through."""
         poll = select.poll()
-        poll.register(self.left, select.POLLIN)
-        return not any(events & select.POLLIN for _, events in poll.poll(0))
+        poll.register(self.done, select.POLLIN)
+        return bool(poll.poll(0))
 
     def give_up(self) -> None:
         """Lets nobody begin with another task."""

@@ -13,7 +13,7 @@ from .facts import Facts
 from .headers import Includes
 from .named_calls import called_in
 from .progress import Progress
-from .shared_out import Made, Shared, Task, begin_with
+from .shared_out import Made, Shared, Task, begin, begin_with
 from .token_facts import TokenFacts
 from .token_types import TYPE_KINDS, Parts, Types
 
@@ -24,6 +24,8 @@ VERSION = hashlib.sha256(b"\0".join((HERE / name).read_bytes() for name in READS
 TOGETHER = hashlib.sha256(b"\0".join((HERE / name).read_bytes() for name in (*READS, "token_types.py"))).hexdigest()
 # Of what a file calls by its text alone.
 CALLS = hashlib.sha256(b"\0".join((HERE / name).read_bytes() for name in ("ctext.py", "named_calls.py"))).hexdigest()
+# So many texts are written sooner than a process begins.
+FEW = 10
 # What Coccinelle's facts of a file lack, the reader's give.
 KEPT_OF_READER = (*TYPE_KINDS, "LOC", "GRD")
 # Of a file the lines of facts, and those of what it calls by its text alone.
@@ -78,7 +80,7 @@ class TokenExtractor:
         facts = TokenFacts(tree, lines, own, headers, types)
         self.known_includes = None
         self.known_lines, self.known_types = {}, {}
-        self.kept.write_owed()
+        self.leave_owed()
         facts.called_in = lambda file: calls_of(read[file][1])
         return facts
 
@@ -102,6 +104,10 @@ class TokenExtractor:
                 return
             if header not in own:
                 self.known_types[os.path.join(tree, header)] = self.types_of(tree, header, includes.digest(header))
+
+    def read_files(self, tree: pathlib.Path, files: list[str]) -> None:
+        """Reads files of the next `read`, in several processes."""
+        self.finish_files(tree, files, self.begin_files(tree, files))
 
     def begin_files(self, tree: pathlib.Path, files: list[str]) -> Shared[str, ReadLines]:
         """The reading of those of which nothing is known yet."""
@@ -162,7 +168,7 @@ class TokenExtractor:
             found = Types()
             for header in headers:
                 found.take_parts(read.get(header) or self.known_types[os.path.join(tree, header)])
-            self.kept.put(name, found.text())
+            self.kept.owe(name, found.text)
             return found
 
         return finish
@@ -195,6 +201,14 @@ class TokenExtractor:
             name = named(what, hashlib.sha256(data).digest())
             found = self.kept.made(name, lambda: "\n".join(make(data.decode(errors="replace"))))
         return found.splitlines()
+
+    def leave_owed(self) -> None:
+        """Another process writes into the cache what this one owes."""
+        if self.jobs > 1 and (self.kept.unmade or len(self.kept.owed) > FEW):
+            begin(self.kept.write_owed)
+            self.kept.forget()
+        else:
+            self.kept.write_owed()
 
     def shared(self, tasks: Sequence[Task], make: Callable[[Task], Made]) -> Shared[Task, Made]:
         """Tasks with which other processes begin. What these have made they write into the cache when they are through,

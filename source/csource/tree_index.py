@@ -128,9 +128,9 @@ class Coming:
         self.at = cache / f"tree-{kept_as(tree)}"
         self.search = None if self.at.is_file() else begun(tree, jobs)
 
-    def is_near(self) -> bool:
-        """Whether nobody waits long for it any more."""
-        return self.search is None or self.search.is_begun()
+    def is_there(self) -> bool:
+        """Whether nobody else works on it any more."""
+        return self.search is None or self.search.is_done()
 
     def get(self) -> TreeIndex:
         if self.search is None:

@@ -120,11 +120,11 @@ def test_what_nobody_asks_for_is_given_up(tmp_path, forks):
     shared = shared_out.begin_with(TASKS, 4, make)
     while len(os.listdir(tmp_path)) < 3:
         os.sched_yield()
-    assert not shared.is_begun()
     shared.give_up()
-    assert shared.is_begun()
+    assert not shared.is_done()
     (tmp_path / "go").touch()
     shared_out.wait_for_all()
+    assert shared.is_done()
     assert sorted(os.listdir(tmp_path)) == ["0", "1", "2", "go"]
     shared.close()
 
