@@ -4,7 +4,7 @@ import contextlib
 import marshal
 import os
 import select
-from typing import Callable, Generic, Sequence, TypeVar
+from typing import Any, Callable, Generic, Sequence, TypeVar
 
 Task = TypeVar("Task")
 Made = TypeVar("Made")
@@ -15,22 +15,22 @@ WIDTH = 4
 MOST = 4096 // WIDTH
 # The processes of this one that haven't been seen to end, and the work that isn't finished.
 _begun: set[int] = set()
-_unfinished: "set[Shared]" = set()
+_unfinished: "set[Shared[Any, Any]]" = set()
 
 
 class Shared(Generic[Task, Made]):
-    """What `make` makes of each task: plain lists, dictionaries, texts and numbers. Some processes have begun with it.
+    """What `make` makes of each task, with which other processes begin at once: plain lists, dictionaries, texts, numbers.
 
-    Each takes the next task of those that are left. What it has made comes back when there are none, and then it does
-    what comes `after`, which nobody waits for but `wait_for_all`. It says nothing itself: what has failed there is made
-    here, and fails here.
+    Each of them takes the next task of those that are left. When there are none it hands over what it has made, and
+    then does what comes `after`, for which only `wait_for_all` waits. None says anything: what fails in one of them is
+    made in this process again, and fails there.
     """
 
     def __init__(
         self, tasks: Sequence[Task], processes: int, make: Callable[[Task], Made], after: Callable[[int], None]
     ) -> None:
         self.tasks = tasks
-        self.processes = processes
+        self.processes = min(processes, len(tasks))
         self.make = make
         self.made: dict[int, Made] = {}
         # the numbers of the tasks that are left, from which each process takes one at a time: where there are many tasks,
@@ -40,7 +40,7 @@ class Shared(Generic[Task, Made]):
         os.write(filled, b"".join(number.to_bytes(WIDTH, "little") for number in range(self.step)))
         os.close(filled)
         _unfinished.add(self)
-        self.results = [os.memfd_create("made") for _ in range(processes)]
+        self.results = [os.memfd_create("made") for _ in range(self.processes)]
         # (all have closed their end of it: all that was made is there)
         self.done, ends = os.pipe()
         for process, result in enumerate(self.results):

@@ -81,7 +81,8 @@ class TokenExtractor:
         self.known_includes = None
         self.known_lines, self.known_types = {}, {}
         self.leave_owed()
-        facts.called_in = lambda file: calls_of(read[file][1])
+        called = {file: calls for file, (_, calls) in read.items()}
+        facts.called_in = lambda file: calls_of(called[file])
         return facts
 
     def includes(self, tree: pathlib.Path) -> Includes:

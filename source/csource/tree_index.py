@@ -59,7 +59,12 @@ def shared_folders(tree: pathlib.Path) -> list[list[str]]:
 def parts_of(tree: pathlib.Path, folder: str) -> list[str]:
     if folder not in LARGE:
         return [folder]
-    inside = sorted(path for path in (tree / folder).iterdir() if path.is_dir() or path.suffix in (".c", ".h"))
+    # (`grep -r` follows no links but those that it is given)
+    inside = sorted(
+        path
+        for path in (tree / folder).iterdir()
+        if (path.is_dir() or path.suffix in (".c", ".h")) and not path.is_symlink()
+    )
     return [part for path in inside for part in parts_of(tree, f"{folder}/{path.name}")]
 
 
