@@ -33,6 +33,9 @@ class Loader(SourceFileLoader):
             sys.pycache_prefix, sys.dont_write_bytecode = before
 
 
+# (Python puts it there, unless PYTHONSAFEPATH is set)
+if HERE not in sys.path:
+    sys.path.insert(0, HERE)
 for folder in (HERE, os.path.join(HERE, "csource")):
     sys.path_importer_cache[folder] = FileFinder(folder, (Loader, [".py"]))
 

@@ -130,6 +130,13 @@ def test_what_python_keeps(wqsource, tmp_path):
     assert made_by_python(ROOT / "source") == beside
 
 
+def test_the_environment_of_python(wqsource):
+    """It finds its own modules, whatever somebody else has told Python."""
+    words = ("draft", "--tree", RDISK, "rdisk.c")
+    for name, value in (("PYTHONSAFEPATH", "1"), ("PYTHONPATH", "/none"), ("PYTHONUNBUFFERED", "1")):
+        assert wqsource(*words, env={**os.environ, name: value}) == wqsource(*words), name
+
+
 def test_without_coccinelle(wqsource, tmp_path):
     env = only(tmp_path, "sh", "dirname", "readlink")
     (tmp_path / "bin" / "python3").symlink_to("/usr/bin/python3")
