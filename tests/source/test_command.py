@@ -121,12 +121,12 @@ def test_what_python_keeps(wqsource, tmp_path):
     assert ran.status == 0 and {"command_line", "reader", "draft"} <= of_csource
     assert of_csource <= {path.stem for path in (ROOT / "source" / "csource").glob("*.py")}
     env.pop("XDG_CACHE_HOME", None)
-    assert wqsource(*words, env={**env, "HOME": str(tmp_path / "b")}) == ran
+    assert wqsource(*words, env={**env, "HOME": str(tmp_path / "b")}).out == ran.out
     assert made_by_python(tmp_path / "b" / ".cache" / "wqplan" / "python")
     without = {**env, "PYTHONDONTWRITEBYTECODE": "1", "HOME": str(tmp_path / "c")}
-    assert wqsource(*words, env=without) == ran and not made_by_python(tmp_path / "c")
+    assert wqsource(*words, env=without).out == ran.out and not made_by_python(tmp_path / "c")
     del env["HOME"]
-    assert wqsource(*words, "--cache", tmp_path / "d", env=env) == ran and not made_by_python(tmp_path / "d")
+    assert wqsource(*words, "--cache", tmp_path / "d", env=env).out == ran.out and not made_by_python(tmp_path / "d")
     assert made_by_python(ROOT / "source") == beside
 
 
@@ -134,7 +134,7 @@ def test_the_environment_of_python(wqsource):
     """It finds its own modules, whatever somebody else has told Python."""
     words = ("draft", "--tree", RDISK, "rdisk.c")
     for name, value in (("PYTHONSAFEPATH", "1"), ("PYTHONPATH", "/none"), ("PYTHONUNBUFFERED", "1")):
-        assert wqsource(*words, env={**os.environ, name: value}) == wqsource(*words), name
+        assert wqsource(*words, env={**os.environ, name: value}).out == wqsource(*words).out != "", name
 
 
 def test_without_coccinelle(wqsource, tmp_path):

@@ -124,8 +124,9 @@ def test_the_same_draft_by_several_processes(wqsource, tree, tmp_path, name):
         wqsource("draft", "--module", name, "--tree", tree, "--cache", tmp_path / jobs, "--jobs", jobs)
         for jobs in ("1", "4", "1", "4", "16")
     ]
+    # (standard error may say how far it is)
     assert drafts[0].status == 0 and "\nitem " in drafts[0].out
-    assert all(draft == drafts[0] for draft in drafts)
+    assert {draft[:2] for draft in drafts} == {drafts[0][:2]}
 
 
 def test_what_is_printed(scanned):
