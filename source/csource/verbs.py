@@ -184,4 +184,7 @@ def run(words: argparse.Namespace, cache: pathlib.Path, jobs: int, said: Progres
         return scan_command.run(words, reader)
     if index is not None:
         words.files = chosen_for(words.tree, words.module, reader, index).files
-    return VERBS[words.verb](words, extractor)
+    status = VERBS[words.verb](words, extractor)
+    # (what the choice of files has read, if nobody read them by it)
+    reader.kept.write_owed()
+    return status
