@@ -4,7 +4,6 @@ Of the files of a call there is one, the last. It counts if all is as it was: th
 this program and its tables.
 """
 
-import contextlib
 import hashlib
 import os
 import pathlib
@@ -43,6 +42,7 @@ class KeptProgram:
         self.at = extractor.cache / f"program-{name[:32]}"
         # the sum, and the program: it is unpacked while the files are looked at
         self.kept = b"", b""
+        self.failed: Optional[Exception] = None
         self.unpacking = threading.Thread(target=self.unpack)
         self.unpacking.start()
         self.includes = extractor.includes(tree)
@@ -54,6 +54,8 @@ class KeptProgram:
     def read(self) -> Optional[Program]:
         """The program, if it is there and is of the same files."""
         self.unpacking.join()
+        if self.failed is not None:
+            raise self.failed
         (known, data), self.kept = self.kept, (b"", b"")
         if known != self.sum:
             return None
@@ -62,9 +64,14 @@ class KeptProgram:
         return program
 
     def unpack(self) -> None:
-        with contextlib.suppress(FileNotFoundError):
+        """In a thread: what fails is told by who asks for it."""
+        try:
             kept = self.at.read_bytes()
             self.kept = kept[:SUM], zlib.decompress(kept[SUM:])
+        except FileNotFoundError:
+            pass
+        except (OSError, zlib.error) as error:
+            self.failed = error
 
     def write(self, program: Program) -> None:
         # (each audit asks for them)
