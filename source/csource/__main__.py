@@ -1,3 +1,5 @@
+import sys
+
 from .command_line import main
 
-main()
+sys.exit(main())

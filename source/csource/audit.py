@@ -3,7 +3,6 @@
 from dataclasses import dataclass, field
 from typing import Optional
 
-from .backstop import missed_calls
 from .calls import Edge
 from .cited import FLUSHES, Cited
 from .fits import Fits
@@ -66,11 +65,7 @@ class Audit:
         self.settled = [found for found in open_sites if self.is_settled(found)]
         self.of_network = [found for found in open_sites if self.program.tables.waits.is_network(found.site.key.call)]
         self.left = [found for found in open_sites if found not in self.settled and found not in self.of_network]
-        self.missed = [
-            missed
-            for missed in missed_calls(self.program.facts, self.program.tables.waits)
-            if not self.dismisses(missed.key)
-        ]
+        self.missed = [missed for missed in self.program.missed if not self.dismisses(missed.key)]
         self.note_spared()
         self.for_others = [(found, names) for found in self.cited_sites if (names := self.undecided_items(found))]
 

@@ -78,6 +78,9 @@ class CallGraph:
             self.holds.settle()
             if not added:
                 break
+        # (nobody asks any more how they were found; and what is kept of a program is read each time)
+        self.added, self.handings = set(), []
+        self.by_pointer, self.by_expression, self.by_variable = [], [], []
         self.sort()
         self.callers: dict[FunctionId, set[FunctionId]] = collections.defaultdict(set)
         for caller, called in self.edges.items():

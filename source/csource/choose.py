@@ -4,7 +4,7 @@ import glob
 import pathlib
 import re
 from dataclasses import dataclass, field
-from typing import Callable, Iterable, Iterator
+from typing import Callable, Iterable, Iterator, Optional
 
 from .headers import Includes
 from .kbuild import Kbuild, Module
@@ -50,14 +50,16 @@ class Chooser:
         layers: Layers,
         summary: Callable[[str], Summary],
         jobs: int = 1,
+        kbuild: Optional[Kbuild] = None,
+        includes: Optional[Includes] = None,
     ) -> None:
         self.tree = tree
         self.jobs = jobs
         self.index = index
         self.layers = layers
         self.summary = summary
-        self.kbuild = Kbuild(tree)
-        self.includes = Includes(tree)
+        self.kbuild = kbuild or Kbuild(tree)
+        self.includes = includes or Includes(tree)
         self.with_items = set(index.with_items)
 
     def choose(self, module: Module, users_of: "Users | None" = None) -> Chosen:

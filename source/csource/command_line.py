@@ -2,26 +2,20 @@
 
 import argparse
 import gc
-import glob
 import io
 import os
 import pathlib
-import re
 import signal
 import sys
 from typing import Any, NoReturn, Optional
 
-from . import outputs, program, scan_options
-from .declaration import Declaration
-from .extract import ExtractError, Extractor, default_cache
+from . import scan_options, shared_out
+from .cache import default_cache
 from .faults import Fault
-from .kept import program_of
-from .names import from_top
 from .progress import Progress
-from .tables import TableError
-from .token_extract import TokenExtractor
+from .tree_index import Coming
 
-DONE, LEFT, USAGE, FAULT, DEPENDS = 0, 1, 2, 3, 4
+FAULT = 3
 # The tree, where none is named.
 HERE = pathlib.Path(".")
 # What a shell says of a program that SIGPIPE ended.
@@ -129,186 +123,52 @@ def parser() -> argparse.ArgumentParser:
     return words
 
 
-def expanded(tree: pathlib.Path, names: list[str]) -> list[str]:
-    """The files that the names mean. A name with `*` may mean several."""
-    return list(dict.fromkeys(file for name in names for file in meant(tree, name)))
-
-
-def meant(tree: pathlib.Path, name: str) -> list[str]:
-    name = from_top(tree, name)
-    return sorted(glob.glob(name, root_dir=tree, recursive=True)) if "*" in name else [name]
-
-
-def wrong_name(tree: pathlib.Path, name: str) -> Optional[str]:
-    """What is wrong with a name of files; None if nothing is."""
-    files = meant(tree, name)
-    if not files:
-        return f"{name}: matches no file in {tree}"
-    for file in files:
-        path = tree / file
-        if os.path.isabs(file) and tree != HERE:
-            return f"{file}: not below {tree}: is it of another tree?"
-        if path.is_dir():
-            return f"{path}: a folder: write '{file}/*.c'"
-        if not path.is_file():
-            return f"{path}: no such file"
-        if re.search(r"\s", file):
-            return f"{path}: a `# files:` line can't name a file with a blank in its name"
-        if path.suffix not in outputs.SOURCES:
-            return f"{path}: no C file: its name ends with none of {' '.join(outputs.SOURCES)}"
-    return None
-
-
-def files_of(tree: pathlib.Path, given: list[str], declaration: Optional[Declaration]) -> list[str]:
-    """The files to read. Each is there."""
-    if not tree.is_dir():
-        raise Fault(f"{tree}: no such folder")
-    names = given or (declaration.files if declaration else [])
-    if not names:
-        raise Fault("no file is given" + (", and the declaration has no `# files:` line" if declaration else ""))
-    for name in names:
-        wrong = wrong_name(tree, name)
-        if wrong:
-            raise Fault(wrong)
-    return expanded(tree, names)
-
-
-def declared(path: str) -> Declaration:
-    """The declaration, if it is one."""
-    found = Declaration.read(path)
-    if not found.items:
-        raise Fault(f"{path}: it declares no item: is this the right file?")
-    if found.without_colon:
-        number, word = found.without_colon[0]
-        raise Fault(f"{path}:{number}: `# {word}` without its colon: write `# {word}: ..`")
-    return found
-
-
-def run_audit(words: argparse.Namespace, extractor: program.ReadsFacts) -> int:
-    # (each verb imports what it needs alone: that is a tenth of the time that it takes)
-    from . import audit, audit_text
-
-    declaration = declared(words.decl)
-    files = files_of(words.tree, words.files, declaration)
-    found = audit.Audit(
-        declaration,
-        program_of(words.tree, files, extractor, words.stacked or declaration.is_stacked),
-        words.each_item,
-    )
-    extractor.progress.end()
-    audit_text.Printer(found, sys.stdout, words.paths).print()
-    return DONE if found.is_done else LEFT
-
-
-def run_drift(words: argparse.Namespace, extractor: program.ReadsFacts) -> int:
-    from . import drift, drift_text
-
-    declaration = declared(words.decl)
-    if not words.new.is_dir():
-        raise Fault(f"{words.new}: no such folder")
-    names = [from_top(words.old, name) for name in words.files or declaration.files]
-    for name in names:
-        if os.path.isabs(name):
-            raise Fault(f"{name}: not below {words.old}, so the other tree has no file of this name")
-    files = files_of(words.old, names, declaration)
-    stacked = words.stacked or declaration.is_stacked
-    old = program_of(words.old, files, extractor, stacked)
-    # (a file may be gone; one that a name with `*` means may be new)
-    later = expanded(words.new, names)
-    new = program_of(words.new, [file for file in later if (words.new / file).is_file()], extractor, stacked)
-    found = drift.Drift(declaration, old, new)
-    extractor.progress.end()
-    drift_text.Printer(found, sys.stdout).print()
-    text = found.rewritten() if words.write else None
-    if text is not None:
-        outputs.replace(pathlib.Path(words.decl), text)
-    return DONE if found.is_silent(after_writing=words.write) else LEFT
-
-
-def run_draft(words: argparse.Namespace, extractor: program.ReadsFacts) -> int:
-    from . import draft, draft_text
-
-    if not words.files:
-        for name in words.only:
-            if pathlib.PurePath(name).suffix in outputs.SOURCES:
-                raise Fault(f"{name} was taken for a function: write `--` before the files")
-    files = files_of(words.tree, words.files, None)
-    out = pathlib.Path(words.assign) if words.assign else None
-    if out:
-        why = outputs.refusal(out, [words.tree / file for file in files], words.force)
-        if why:
-            raise Fault(why)
-    # (of the files of a draft it is asked once, as a rule)
-    found = draft.Draft(program_of(words.tree, files, extractor, words.stacked, is_kept=False), words.only)
-    extractor.progress.end()
-    if found.missing:
-        raise Fault(f"{found.missing[0]} is no work function of these files")
-    declaration = io.StringIO()
-    draft_text.Printer(found, declaration, words.unknown).print()
-    sys.stdout.write(declaration.getvalue())
-    if out:
-        text = io.StringIO()
-        draft_text.print_assignment(found, text, words.unknown)
-        outputs.replace(out, outputs.with_sum(text.getvalue()))
-    if draft_text.is_too_long(declaration.getvalue()):
-        print(f"wqsource: {draft_text.TOO_LONG}", file=sys.stderr)
-    return DONE
-
-
-def run_ask(words: argparse.Namespace, extractor: program.ReadsFacts) -> int:
-    from . import ask, ask_text
-
-    declaration = declared(words.declaration)
-    wqplan = ask.Wqplan()
-    read = None
-    if words.files or declaration.files:
-        files = files_of(words.tree, words.files, declaration)
-        stacked = words.stacked or declaration.is_stacked
-        read = program_of(words.tree, files, extractor, stacked)
-    asking = ask.Asking(pathlib.Path(words.declaration), words.assignment, read, wqplan)
-    extractor.progress.end()
-    ask_text.talk(asking, ask_text.terminal(), sys.stdout)
-    if asking.hang is None:
-        return DONE
-    return DEPENDS if asking.hang.unsure else LEFT
-
-
-VERBS = {"audit": run_audit, "drift": run_drift, "draft": run_draft, "ask": run_ask}
-
-
-def main() -> NoReturn:
+def main() -> int:
+    """Does what the command line says. The status."""
     let_bytes_through()
     words = parser().parse_args()
     # (millions of small objects, which live as long as the command; to look through them again and again costs a third)
     gc.disable()
-    # (spatch runs in the folder of the tree)
-    coccinelle = Extractor(words.cache.resolve(), max(1, words.jobs or 1), Progress())
-    reader = TokenExtractor(words.cache.resolve(), coccinelle.progress, coccinelle)
-    extractor: program.ReadsFacts = coccinelle if words.facts == "coccinelle" else reader
+    said = Progress()
     try:
-        if words.verb == "scan":
-            from . import scan_command
-
-            status = scan_command.run(words, reader)
-        else:
-            if getattr(words, "module", None):
-                from .named_module import chosen_for
-
-                words.files = chosen_for(words.tree, words.module, reader).files
-            status = VERBS[words.verb](words, extractor)
-        sys.stdout.flush()
+        status = status_of(words, said)
+        let_go_of_output()
+        shared_out.wait_for_all()
     except KeyboardInterrupt:
-        extractor.progress.end()
+        said.end()
         end_by_interrupt()
+    return status
+
+
+def status_of(words: argparse.Namespace, said: Progress) -> int:
+    try:
+        status = run(words, said)
+        sys.stdout.flush()
     except BrokenPipeError:
-        extractor.progress.end()
+        said.end()
         status = UNREAD
-    except (Fault, ExtractError, TableError, OSError) as fault:
-        extractor.progress.end()
+    except (Fault, OSError) as fault:
+        said.end()
         print(f"wqsource: {said_of(fault)}", file=sys.stderr)
         status = FAULT
-    let_go_of_output()
-    sys.exit(status)
+    return status
+
+
+def run(words: argparse.Namespace, said: Progress) -> int:
+    # (spatch runs in the folder of the tree)
+    cache, jobs = words.cache.resolve(), max(1, words.jobs or 1)
+    # (others search the tree, while this process gets ready)
+    index = begun_index(words, cache, jobs) if words.verb != "scan" and getattr(words, "module", None) else None
+    from . import verbs
+
+    return verbs.run(words, cache, jobs, said, index)
+
+
+def begun_index(words: argparse.Namespace, cache: pathlib.Path, jobs: int) -> Coming:
+    tree: pathlib.Path = words.tree
+    if not (tree / "Kbuild").is_file() and not (tree / "Makefile").is_file():
+        raise Fault(f"{tree}: no kernel's source (it has no Makefile)")
+    return Coming(tree, cache, jobs)
 
 
 def let_bytes_through() -> None:

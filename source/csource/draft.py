@@ -5,7 +5,6 @@ import functools
 from dataclasses import dataclass, field
 from typing import Callable, Iterator, Optional
 
-from .backstop import Missed, missed_calls
 from .calls import DIRECT, Edge
 from .doubts import CONSTANT, Doubts
 from .items import Item
@@ -96,7 +95,7 @@ class Draft:
         for function in self.items:
             self.take(function)
         self.added = self.close()
-        self.missed: list[Missed] = list(missed_calls(program.facts, program.tables.waits))
+        self.missed = program.missed
 
     def take(self, function: FunctionId) -> None:
         """The sites in reach of an item: each becomes a line, or stays open."""

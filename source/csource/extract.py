@@ -9,6 +9,7 @@ import tempfile
 from dataclasses import dataclass
 
 from .facts import Facts
+from .faults import Fault
 from .progress import Progress
 from .tables import FOLDER
 
@@ -16,14 +17,8 @@ RULES = FOLDER / "facts.cocci"
 MACROS = FOLDER / "macros.h"
 
 
-class ExtractError(Exception):
+class ExtractError(Fault):
     """Coccinelle is missing, or fails."""
-
-
-def default_cache() -> pathlib.Path:
-    """Where facts are kept: $XDG_CACHE_HOME/wqplan/facts."""
-    base = os.environ.get("XDG_CACHE_HOME") or os.path.join(os.path.expanduser("~"), ".cache")
-    return pathlib.Path(base) / "wqplan" / "facts"
 
 
 @dataclass

@@ -36,6 +36,7 @@ class Includes:
         self.there: dict[str, bool] = {}
         self.named: dict[str, list[tuple[str, str]]] = {}
         self.digests: dict[str, bytes] = {}
+        self.sizes: dict[str, int] = {}
         # what a name means in a folder: many headers include the same ones
         self.meant: dict[tuple[str, str], Optional[str]] = {}
 
@@ -56,11 +57,18 @@ class Includes:
             self.look_into(file)
         return self.digests[file]
 
+    def size(self, file: str) -> int:
+        """The bytes of a file."""
+        if file not in self.sizes:
+            self.look_into(file)
+        return self.sizes[file]
+
     def look_into(self, file: str) -> None:
         with open(os.path.join(self.tree, file), "rb") as opened:
             data = opened.read()
         self.named[file] = list(included(data))
         self.digests[file] = hashlib.sha256(data).digest()
+        self.sizes[file] = len(data)
 
     def of(self, file: str) -> Iterator[str]:
         """The files that one includes, as far as the tree has them."""

@@ -201,6 +201,10 @@ class Holds:
             for to in self.flows_to[cell]:
                 self.add(to, values)
 
+    def forget_flows(self) -> None:
+        """Nothing flows any more: what each cell holds stays."""
+        self.flows_to, self.changed = collections.defaultdict(set), []
+
     # Questions
 
     def lookup(self, cell: Cell) -> set[Value]:

@@ -9,10 +9,10 @@ import os
 import pathlib
 import pickle
 import sys
+import threading
 import zlib
 from typing import Optional
 
-from .headers import Includes
 from .program import Program, ReadsFacts, Tables, read
 from .tables import FOLDER
 from .token_extract import TokenExtractor
@@ -20,6 +20,8 @@ from .token_extract import TokenExtractor
 HERE = pathlib.Path(__file__).resolve().parent
 # (a third of the time of the next level, and half as much again in bytes)
 FAST = 1
+# So many bytes before it say of what it is.
+SUM = hashlib.sha256().digest_size
 
 
 def of_this_program() -> bytes:
@@ -38,7 +40,12 @@ class KeptProgram:
         self.tree = tree
         name = hashlib.sha256("\0".join([str(tree), str(tree.resolve()), str(stacked), *files]).encode()).hexdigest()
         self.at = extractor.cache / f"program-{name[:32]}"
-        self.includes = Includes(tree)
+        # the sum, and the program: it is unpacked while the files are looked at
+        self.kept = b"", b""
+        self.failed: Optional[Exception] = None
+        self.unpacking = threading.Thread(target=self.unpack)
+        self.unpacking.start()
+        self.includes = extractor.includes(tree)
         found = hashlib.sha256(of_this_program())
         for file in self.includes.all_of(files):
             found.update(file.encode() + b"\0" + self.includes.digest(file))
@@ -46,17 +53,29 @@ class KeptProgram:
 
     def read(self) -> Optional[Program]:
         """The program, if it is there and is of the same files."""
-        try:
-            kept = self.at.read_bytes()
-        except FileNotFoundError:
+        self.unpacking.join()
+        if self.failed is not None:
+            raise self.failed
+        (known, data), self.kept = self.kept, (b"", b"")
+        if known != self.sum:
             return None
-        if not kept.startswith(self.sum):
-            return None
-        program: Program = pickle.loads(zlib.decompress(kept[len(self.sum) :]))
+        program: Program = pickle.loads(data)
         self.extractor.give_calls(self.tree, program.facts)
         return program
 
+    def unpack(self) -> None:
+        """In a thread: what fails is told by who asks for it."""
+        try:
+            kept = self.at.read_bytes()
+            self.kept = kept[:SUM], zlib.decompress(kept[SUM:])
+        except FileNotFoundError:
+            pass
+        except (OSError, zlib.error) as error:
+            self.failed = error
+
     def write(self, program: Program) -> None:
+        # (each audit asks for them)
+        _ = program.missed
         half = self.at.with_suffix(f".{os.getpid()}")
         half.write_bytes(self.sum + zlib.compress(pickle.dumps(program, pickle.HIGHEST_PROTOCOL), FAST))
         half.replace(self.at)

@@ -7,33 +7,36 @@ import pathlib
 
 from .choose import Chooser, Chosen
 from .faults import Fault
+from .headers import Includes
+from .kbuild import Kbuild
 from .layers import Layers
 from .names import from_top
 from .summary import Summary
 from .token_extract import TokenExtractor
-from .tree_index import TreeIndex
+from .tree_index import Coming
 
 # So many names are offered for one that there isn't, and they have so much of it.
 MOST_HINTS = 3
 LEAST_LIKENESS = 0.75
 
 
-def chosen_for(tree: pathlib.Path, name: str, extractor: TokenExtractor) -> Chosen:
+def chosen_for(tree: pathlib.Path, name: str, extractor: TokenExtractor, index: Coming) -> Chosen:
     """The files of a module and those that belong to it."""
-    if not (tree / "Kbuild").is_file() and not (tree / "Makefile").is_file():
-        raise Fault(f"{tree}: no kernel's source (it has no Makefile)")
     extractor.progress.say(f"looking for what belongs to {name}")
-    summary, jobs = functools.cache(lambda file: Summary.of(extractor.lines_of(tree, file))), extractor.jobs
-    chooser = Chooser(tree, TreeIndex.kept(tree, extractor.cache, jobs), Layers(), summary, jobs)
-    module = chooser.kbuild.named(from_top(tree, name))
+    kbuild, includes = Kbuild(tree), Includes(tree)
+    module = kbuild.named(from_top(tree, name))
     if module is None:
-        hint = nearest(from_top(tree, name), [one.name for one in chooser.kbuild.all_modules()])
+        hint = nearest(from_top(tree, name), [one.name for one in kbuild.all_modules()])
         raise Fault(
             f"{name}: no module of {tree} has this name: write its folder, `/`, and the name of its object{hint}"
         )
-    # (so they are read in several processes)
-    extractor.lines_of_all(tree, list(module.files))
-    return chooser.choose(module)
+    own = includes.all_beside(module.files)
+    # (first while others search the tree, then with their help)
+    extractor.read_ahead(tree, own, includes, index.is_there)
+    known = index.get()
+    extractor.read_files(tree, own)
+    summary = functools.cache(lambda file: Summary.of(extractor.lines_of(tree, file)))
+    return Chooser(tree, known, Layers(), summary, extractor.jobs, kbuild, includes).choose(module)
 
 
 def nearest(name: str, names: list[str]) -> str:

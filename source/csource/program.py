@@ -1,10 +1,12 @@
 """All that is known of the given files of a tree."""
 
 import collections
+import functools
 import pathlib
 from dataclasses import dataclass, field
 from typing import Protocol
 
+from .backstop import Missed, missed_calls
 from .calls import CallGraph, Edge
 from .facts import Facts
 from .holds import Holds
@@ -55,6 +57,7 @@ class Program:
         self.tables = tables
         self.holds = Holds(facts, tables.waits)
         self.graph = CallGraph(facts, self.holds, tables.idioms, stacked)
+        self.holds.forget_flows()
         self.items = Items(facts, self.holds, tables.waits)
         self.workqueues = Workqueues(facts, tables.waits)
         self.sites = Sites(facts, self.holds, self.graph, tables.waits, self.items)
@@ -66,6 +69,11 @@ class Program:
         for item, reached in self.reached.items():
             for function in reached:
                 self.reached_by[function].add(item)
+
+    @functools.cached_property
+    def missed(self) -> list[Missed]:
+        """The calls that no fact has."""
+        return list(missed_calls(self.facts, self.tables.waits))
 
     def may_sleep(self, edge: Edge) -> bool:
         return edge.how[0] != "~" or not self.tables.idioms.is_atomic(edge.how[1:])

@@ -6,6 +6,7 @@ from dataclasses import dataclass
 from typing import Iterator, Optional
 
 from . import ctext
+from .faults import Fault
 
 FOLDER = pathlib.Path(__file__).resolve().parent.parent
 SYSTEM_WORKQUEUE = re.compile(r"system_\w*wq$")
@@ -13,7 +14,7 @@ SYSTEM_WORKQUEUE = re.compile(r"system_\w*wq$")
 OLD_NAMES = {"system_percpu_wq": "system_wq", "system_dfl_wq": "system_unbound_wq"}
 
 
-class TableError(Exception):
+class TableError(Fault):
     """A line of a table that has not the form that the head of the table describes."""
 
 

@@ -2,7 +2,7 @@
 
 import collections
 import pathlib
-from typing import Iterable, Iterator, Optional
+from typing import Callable, Iterable, Iterator, Optional
 
 from . import ctext
 from .ctext import Tokens
@@ -66,15 +66,28 @@ class TokenFacts(Facts):
     """As Facts. The lines of a file may be the reader's, or Coccinelle's; the types are always the reader's.
 
     `types` has those of the files and, above them, those of the headers that they include; `headers` names these.
+    `above` is asked for these at the end, if `types` hasn't them yet: somebody may be reading them.
     """
 
-    def __init__(self, tree: pathlib.Path, lines: dict[str, list[str]], types: Types, headers: Iterable[str]) -> None:
+    def __init__(
+        self,
+        tree: pathlib.Path,
+        lines: dict[str, list[str]],
+        types: Types,
+        headers: Iterable[str],
+        above: Optional[Callable[[], Types]] = None,
+    ) -> None:
         self.headers = headers
+        self.initialiser_lines: list[tuple[Place, list[str]]] = []
         self.expressions = Expressions(types)
         self.known: dict[tuple[str, str, str, str], Optional[str]] = {}
         # of the parameters of macros: (file, macro, parameter)
         self.handed_over: dict[tuple[str, str, str], Optional[str]] = {}
         super().__init__(tree, lines)
+        types.above = above() if above else types.above
+        for place, words in self.initialiser_lines:
+            self.take_initialiser(place, struct_name(words[4]), words[5], split(words[6]))
+        self.initialiser_lines = []
         self.expressions.handed = self.handed
 
     def find_types(self) -> tuple[Structs, TypesOfText]:
@@ -104,7 +117,7 @@ class TokenFacts(Facts):
             self.define(place, words[4], parameter_names(words[5]))
             self.add_span(FunctionId(file, words[4]), place.line, self.end_of(place))
         elif kind == "INI":
-            self.take_initialiser(place, struct_name(words[4]), words[5], split(words[6]))
+            self.initialiser_lines.append((place, words))
         elif kind == "GRD":
             guard = Guard(int(words[4]), int(words[5]), words[6] == "1", split(words[7]))
             self.guards[place.id].append(guard)

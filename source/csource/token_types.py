@@ -17,6 +17,8 @@ GIVES_ARGUMENT = frozenset(
     "rcu_dereference_protected rcu_dereference_check rcu_dereference_raw smp_load_acquire xchg cmpxchg".split()
 )
 MOST_STEPS = 8
+# The members of each struct with their types; what functions return; the types of variables; what typedefs stand for.
+Parts = tuple[dict[str, dict[str, str]], dict[str, str], dict[str, str], dict[str, str]]
 
 
 class Types:
@@ -29,9 +31,24 @@ class Types:
         self.globals: dict[str, str] = {}
         self.named: dict[str, str] = {}
 
+    def parts(self) -> Parts:
+        """All of it but what is above."""
+        return self.members, self.returns, self.globals, self.named
+
+    def take_parts(self, parts: Parts) -> None:
+        """Those of another one, which may become its own. What is said first stays."""
+        for struct, members in parts[0].items():
+            own = self.members.setdefault(struct, members)
+            if own is not members:
+                for member, kind in members.items():
+                    own.setdefault(member, kind)
+        for own_names, names in zip((self.returns, self.globals, self.named), parts[1:]):
+            for name, kind in names.items():
+                own_names.setdefault(name, kind)
+
     def text(self) -> str:
-        """All of it but what is above, for of_text."""
-        return json.dumps([self.members, self.returns, self.globals, self.named])
+        """The same, for of_text."""
+        return json.dumps(self.parts())
 
     @staticmethod
     def of_text(text: str) -> "Types":

@@ -13,7 +13,7 @@ ROOT = HERE.parent.parent
 sys.path[:0] = [str(ROOT / "source"), str(ROOT / "tests" / "lib")]
 
 import programs  # noqa: E402
-from csource import draft, extract, program, progress, token_extract  # noqa: E402
+from csource import cache as kept, draft, extract, program, progress, token_extract  # noqa: E402
 
 C_FILES = HERE / "c"
 
@@ -31,7 +31,7 @@ Drafted = collections.namedtuple("Drafted", "items flushes open")
 @pytest.fixture(scope="session")
 def cache():
     """Where facts are kept. The gate may begin with none."""
-    return extract.default_cache()
+    return kept.default_cache()
 
 
 @pytest.fixture(scope="session")

@@ -17,8 +17,9 @@ ROOT = HERE.parent.parent
 sys.path.insert(0, str(ROOT / "source"))
 
 from csource import ctext, reader  # noqa: E402
+from csource.cache import default_cache  # noqa: E402
 from csource.declaration import Declaration  # noqa: E402
-from csource.extract import Extractor, default_cache  # noqa: E402
+from csource.extract import Extractor  # noqa: E402
 from csource.facts import OUTSIDE, struct_name  # noqa: E402
 from csource.lexer import DIRECTIVE  # noqa: E402
 from csource.places import Place  # noqa: E402
@@ -104,9 +105,9 @@ def without_macros(lines, text):
     """The facts that aren't in the text of a macro: those wqsource reads by itself (csource/macros.py)."""
     inside = {
         number
-        for match in DIRECTIVE.finditer(text)
+        for match in DIRECTIVE.finditer(f"\n{text}")
         for first in [text.count("\n", 0, match.start()) + 1]
-        for number in range(first, first + match[0].count("\n") + 1)
+        for number in range(first, first + match[0].count("\n"))
     }
     return [line for line in lines if int(line.split("\t")[1]) not in inside]
 
@@ -127,7 +128,7 @@ def structs_beside(file, lines, facts):
 
 
 def files_of_examples(tree):
-    from csource.command_line import expanded
+    from csource.verbs import expanded
 
     names = [name for path in (ROOT / "examples").glob("*.wq") for name in Declaration.read(str(path)).files]
     return sorted(set(expanded(tree, names)))

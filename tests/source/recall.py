@@ -17,7 +17,7 @@ HERE = pathlib.Path(__file__).resolve().parent
 ROOT = HERE.parent.parent
 sys.path.insert(0, str(ROOT / "source"))
 
-from csource import extract, progress, scan, token_extract, tree_index  # noqa: E402
+from csource import cache, extract, progress, scan, token_extract, tree_index  # noqa: E402
 
 MODULES = {
     "bcache": "drivers/md/bcache/bcache",
@@ -94,10 +94,10 @@ def count(example, found_in):
     return counted
 
 
-def tree_scan(tree, cache):
+def tree_scan(tree, kept_at):
     said = progress.Progress()
-    extractor = token_extract.TokenExtractor(cache, said, extract.Extractor(cache, 1, said))
-    return scan.TreeScan(tree, extractor, tree_index.TreeIndex.kept(tree, cache))
+    extractor = token_extract.TokenExtractor(kept_at, said, extract.Extractor(kept_at, 1, said))
+    return scan.TreeScan(tree, extractor, tree_index.TreeIndex.kept(tree, kept_at))
 
 
 def table(counted):
@@ -116,7 +116,7 @@ def row(name, files, counts):
 
 def main(arguments):
     gc.disable()
-    scanned = tree_scan(pathlib.Path(arguments[0]), extract.default_cache())
+    scanned = tree_scan(pathlib.Path(arguments[0]), cache.default_cache())
     counted = {}
     for example in arguments[1:] or MODULES:
         counted[example] = count(example, scan_module(scanned, MODULES[example]))

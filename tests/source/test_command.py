@@ -106,6 +106,37 @@ def test_without_python(wqsource, tmp_path):
     assert ran == (3, "", "wqsource: python3 isn't on the PATH: apt-get install python3\n")
 
 
+def made_by_python(folder):
+    """The files that Python keeps of what it made of sources."""
+    return set(folder.rglob("*.pyc"))
+
+
+def test_what_python_keeps(wqsource, tmp_path):
+    """What it made of csource, beside the facts. What it made of its own modules it has elsewhere."""
+    words = ("draft", "--tree", RDISK, "rdisk.c")
+    env = {name: value for name, value in os.environ.items() if name != "PYTHONDONTWRITEBYTECODE"}
+    beside = made_by_python(ROOT / "source")
+    ran = wqsource(*words, env={**env, "XDG_CACHE_HOME": str(tmp_path / "a")})
+    of_csource = {path.name.partition(".")[0] for path in made_by_python(tmp_path / "a" / "wqplan" / "python")}
+    assert ran.status == 0 and {"command_line", "reader", "draft"} <= of_csource
+    assert of_csource <= {path.stem for path in (ROOT / "source" / "csource").glob("*.py")}
+    env.pop("XDG_CACHE_HOME", None)
+    assert wqsource(*words, env={**env, "HOME": str(tmp_path / "b")}).out == ran.out
+    assert made_by_python(tmp_path / "b" / ".cache" / "wqplan" / "python")
+    without = {**env, "PYTHONDONTWRITEBYTECODE": "1", "HOME": str(tmp_path / "c")}
+    assert wqsource(*words, env=without).out == ran.out and not made_by_python(tmp_path / "c")
+    del env["HOME"]
+    assert wqsource(*words, "--cache", tmp_path / "d", env=env).out == ran.out and not made_by_python(tmp_path / "d")
+    assert made_by_python(ROOT / "source") == beside
+
+
+def test_the_environment_of_python(wqsource):
+    """It finds its own modules, whatever somebody else has told Python."""
+    words = ("draft", "--tree", RDISK, "rdisk.c")
+    for name, value in (("PYTHONSAFEPATH", "1"), ("PYTHONPATH", "/none"), ("PYTHONUNBUFFERED", "1")):
+        assert wqsource(*words, env={**os.environ, name: value}).out == wqsource(*words).out != "", name
+
+
 def test_without_coccinelle(wqsource, tmp_path):
     env = only(tmp_path, "sh", "dirname", "readlink")
     (tmp_path / "bin" / "python3").symlink_to("/usr/bin/python3")

@@ -9,7 +9,7 @@ import pytest
 from conftest import ROOT
 from csource.audit import Audit
 from csource.cited import UNSURE
-from csource.command_line import expanded
+from csource.verbs import expanded
 from csource.declaration import Declaration
 
 LINUX = pathlib.Path(os.environ.get("LINUX_6_1") or "/none")

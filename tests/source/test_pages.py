@@ -65,7 +65,7 @@ def test_modules_and_tables():
     """Each module and each table has its row, and each row names what is there."""
     modules = {path.stem for path in (ROOT / "source" / "csource").glob("*.py")} - {"__init__", "__main__"}
     rows = {name for row in re.findall(r"^\| (`\w+`.*?) \|", PAGE, re.M) for name in re.findall(r"`(\w+)`", row)}
-    plumbing = {"command_line", "scan_options", "faults", "progress", "says", "places"}
+    plumbing = {"command_line", "verbs", "scan_options", "faults", "progress", "says", "places"}
     assert modules - plumbing - rows == {"audit_text", "drift_text", "draft_text", "ask_text", "scan_text"}
     assert set(re.findall(r"^\| \[(\w+\.txt)\]", PAGE, re.M)) == {path.name for path in (ROOT / "source").glob("*.txt")}
 

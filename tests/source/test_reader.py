@@ -151,11 +151,39 @@ def test_a_comment_of_several_lines_in_a_macro():
 
 
 def test_without_lines():
-    """The words are the same, and so is what each bracket holds."""
-    text = (C_FILES / "read.c").read_text()
-    source, without = Source.of(text), Source.of(text, has_lines=False)
+    """The words are the same but for bodies of functions, and so is what each bracket holds."""
+    text = "struct a {\n\tint b;\n};\n\nint f(struct a *a)\n{\n\tif (a) {\n\t\tg();\n\t}\n}\n\nint h(int i);\n"
+    source = Source.of(text.replace("\tif (a) {\n\t\tg();\n\t}\n", ""))
+    without = Source.of(text, has_lines=False)
+    assert without.words == "struct a { int b ; } ; int f ( struct a * a ) { } int h ( int i ) ;".split()
     assert (without.words, without.behind, without.closed_by) == (source.words, source.behind, source.closed_by)
     assert set(without.lines) == {0}
+
+
+@pytest.mark.parametrize(
+    "text",
+    [
+        "typedef struct\n{\n\tint inside;\n}\ns_t;\n",
+        "struct s\n{\n\tint inside;\n};\n",
+        "int f(void)\n{\n\tif (inside) {\n}\nint g;\n",
+        "int f(void)\n{\n\tif (inside)\n\t\tg();\n} int g;\n",
+        "int f(void) {\n\tinside();\n}\n",
+    ],
+)
+def test_what_is_no_body_stays(text):
+    """Or one whose braces don't fit, or that is written in another way."""
+    assert Source.of(text, has_lines=False).words == Source.of(text).words and "inside" in Source.of(text).words
+
+
+def test_types_without_lines():
+    """They are those of the facts: to look into functions adds none."""
+    text = (C_FILES / "read.c").read_text() + "struct read *found(int i);\n"
+    kinds = ("STM", "GLB", "FRT", "TDF")
+    both = [
+        [(words[0], *words[4:]) for words in (line.split("\t") for line in lines) if words[0] in kinds]
+        for lines in (reader.types_of(text), reader.facts_of(text))
+    ]
+    assert both[0] == both[1] and {words[0] for words in both[0]} == set(kinds)
 
 
 def test_branches_of_directives():

@@ -117,6 +117,18 @@ def test_a_library(wqsource, tree, tmp_path):
     assert files == ["drivers/md/thin.c drivers/md/library/library.c drivers/md/buffer.c drivers/md/library/library.h"]
 
 
+@pytest.mark.parametrize("name", ["drivers/nvme/core", "drivers/md/thin", "drivers/block/own"])
+def test_the_same_draft_by_several_processes(wqsource, tree, tmp_path, name):
+    """The first one, while they look through the tree, and the next one, when all is in the cache."""
+    drafts = [
+        wqsource("draft", "--module", name, "--tree", tree, "--cache", tmp_path / jobs, "--jobs", jobs)
+        for jobs in ("1", "4", "1", "4", "16")
+    ]
+    # (standard error may say how far it is)
+    assert drafts[0].status == 0 and "\nitem " in drafts[0].out
+    assert {draft[:2] for draft in drafts} == {drafts[0][:2]}
+
+
 def test_what_is_printed(scanned):
     ran = scanned()
     assert ran.status == 1
