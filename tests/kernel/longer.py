@@ -36,11 +36,11 @@ ENDS_BY_ANSWER = "nfs4_delegreturn_release", "rpc_async_schedule"
 # What a machine has and the guest hasn't: programs by their names, and a shell.
 AS_A_MACHINE = "$busybox --install -s /bin\nexport PATH=/bin\nmkdir -p /run\nsh /nfs-hang.sh {how}\n"
 # How the script is called; the memory of its guest; and what it says of kthreadd, of rpciod's rescuer and of fsync, while
-# no worker can be created and later.
+# no worker can be created and later, as patterns.
 BY_THREADS = "", "1024M", ["goes on", "HANGS", "HANGS", "returned"]
 BY_MEMORY = "memory", "192M", ["HANGS", "HANGS", "HANGS", "returned"]
-# (in 6.12 the server, which is in the guest, doesn't answer then)
-BY_MEMORY_6_12 = "memory", "192M", ["HANGS", "goes on", "HANGS", "returned"]
+# (in 6.12 the server, which is in the guest, doesn't always answer then, and the rescuer may be idle)
+BY_MEMORY_6_12 = "memory", "192M", ["HANGS", "HANGS|goes on", "HANGS", "returned"]
 RECLAIM = "nfs-reclaim.sh"
 SEEDS = "1-20"
 PARTS = "reclaim", "attached", "md", "nfs"
@@ -85,7 +85,8 @@ def attached(series, how, memory, wanted):
         words += ["nfsv4", "nfsd"]
         console = drivers.run(words, timeout=drivers.SECONDS, capture_output=True).stdout.decode("latin-1")
     said = re.findall(r"^(?:kthreadd, which|the rescuer of rpciod, which|fsync of) .*: (.*)$", console, re.MULTILINE)
-    drivers.tell(said == wanted, name, console[-6000:])
+    is_said = len(said) == len(wanted) and all(map(re.fullmatch, wanted, said))
+    drivers.tell(is_said, f"{name}: {', '.join(said)}", console[-6000:])
 
 
 def listed_stack(console, thread):
