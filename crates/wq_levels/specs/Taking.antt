@@ -1,5 +1,5 @@
--- Removing vertices from a wait graph: a vertex is removed once all of its arcs are
--- gone, and the arcs that lead to it go with it.
+-- Removing vertices from a wait graph, as in a topological sort: a vertex is removed once all of its arcs are gone, and
+-- the arcs that lead to it go with it.
 use Rattle.std.specs.Prelude.{◌≡◌, ◌↔◌, ℕ, ◌+◌, ◌-◌, ◌<◌, ◌==◌, cond, max, List, [], ◌∷◌, ◌++◌, length, map, flat_map}
 use Rattle.std.specs.Prelude.{replicate, fold, count_by, slice_index, slice_index_or, slice_set, Contains}
 use Rattle.std.specs.List.{range_with_len}
@@ -43,8 +43,8 @@ tails_by_head graph =
 
 -- ---- under way
 
--- for each vertex, how many of its arcs aren't gone, and its rank by those that are; and the vertices whose arcs are
--- all gone, in the order in which that happened
+-- for each vertex, how many of its arcs are left, and its rank by those that are gone; and the vertices without arcs
+-- left, in the order in which they lost the last one
 pub record Taking : Type 0 where
   pub remaining : List ℕ
   pub ranks : List ℕ
