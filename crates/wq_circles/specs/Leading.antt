@@ -9,7 +9,7 @@ pub record Leads (R : ℕ → ℕ → Type 0) (v w : ℕ) : Type 0 where
   pub chain : IsChain R (v ∷ others)
   pub ends : last_of v others ≡ w
 
--- v and w are the same vertex, or each leads to the other
+-- v and w are together: they are the same vertex, or each leads to the other (they are strongly connected)
 abbrev pub AreTogether : (ℕ → ℕ → Type 0) → ℕ → ℕ → Type 0
 AreTogether R v w = (v ≡ w) ⊎ (Leads R v w × Leads R w v)
 
