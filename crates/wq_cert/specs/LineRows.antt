@@ -130,7 +130,7 @@ StandsInRun names before StepLine =
     × All (IsStepOf (length names)) steps
     × (before ≡ count_words (codes "run") m ∷ map (step_line names) steps)
 
--- these lines are `circle N`, all its arcs, and these lines of a run
+-- `before` is `circle N` with all its arcs, and then the lines `run`
 pub record IsBehindArcs (names : List (List ℕ)) (before run : List (List (List ℕ))) : Type 0 where
   pub arcs : List (ℕ × ℕ)
   pub words_are : before ≡ circle_line arcs ∷ (map (arc_line names) arcs ++ run)

@@ -47,7 +47,7 @@ abbrev pub part_lines : List (List ℕ) → List (List Target) → List ℕ → 
 part_lines names waits kept =
     (codes "unsure" ∷ decimal (length kept) ∷ []) ∷ map (unsure_line names) (filter_map (unsure_at waits) kept)
 
--- the unsure part of the reading that keeps the unsure flushes at these places; there is one if a flush is unsure
+-- the unsure part of the reading that keeps the unsure flushes at these places, if any flush is unsure
 abbrev pub part_text : List (List ℕ) → List (List Target) → List ℕ → List ℕ
 part_text names waits kept = if has_unsure waits then flat_map line_text (part_lines names waits kept) else []
 

@@ -14,7 +14,7 @@ use Rattle.wq_cert.specs.RunText.{step_item}
 abbrev pub IsArcOf : ℕ → ℕ × ℕ → Type 0
 IsArcOf items arc = (arc.0 < items) × (arc.1 < items)
 
--- a step is of one of this many items, and on a workqueue below 4,096 if it names one; no helper makes it
+-- a step of one of this many items, on a workqueue below 4,096 if it names one, and not by a helper
 abbrev pub IsStepOf : ℕ → Step → Type 0
 IsStepOf items step = (step_item step < items) × (names_far_lane step ≡ false) × (¬ IsHelp step)
 

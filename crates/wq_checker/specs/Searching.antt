@@ -11,7 +11,7 @@ use Rattle.wq_core.specs.Held.{Machine}
 use Rattle.wq_checker.specs.declared.falling.DeclaredFlush.{DeclaredFlush}
 use Rattle.wq_checker.specs.Falling.{Falls, Declares}
 
--- this is the first flush, by place, of those that `Of` has and that don't fall
+-- of the flushes that `Of` has and that don't fall, this is the first by place
 pub record IsFirstOf (d : Declaration) (a : Assignment) (Of : ℕ → Target → Type 0) (flush : DeclaredFlush)
     : Type 0 where
   pub there : Of flush.item flush.target

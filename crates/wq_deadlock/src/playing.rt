@@ -49,8 +49,8 @@ fn holder<A: Allocator>(core: &Core<A>, q: LaneId) -> Option<ItemId>
     core.holder(flush.whole, flush.target, flush.mark)
 }
 
-/// After a step of lane `q`, forgets that the lanes are stuck that the step may let move. Returns the lowest of these
-/// lanes and `q`.
+/// Marks the lanes that a step of lane `q` may let move as no longer known to be stuck. Returns the lowest of them and
+/// `q`.
 fn release_after<A: Allocator>(stuck: &mut Stuck<'_, A>, q: LaneId, step: &Step) -> u16
     requires { (p i : ℕ) → step.now ≡ Finish p i → i < length stuck.old.waiting }
     ensures after { IsAfter stuck.old step.now stuck.new }

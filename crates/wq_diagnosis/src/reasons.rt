@@ -47,7 +47,7 @@ fn called_words<A: Allocator + Copy>(
     name_words(alloc, workqueue_name(assigned, names, item))
 }
 
-/// The words that a workqueue runs an item.
+/// Says that a workqueue runs an item.
 fn runs_words<A: Allocator + Copy>(
     alloc: A,
     declared: &Declaration<'_, A>,
@@ -63,7 +63,7 @@ fn runs_words<A: Allocator + Copy>(
     messages::runs(alloc, &workqueue, &item)
 }
 
-/// The words that nothing is pending on a workqueue (if `pending`) or runs on it; or that there is no workqueue with
+/// Says that nothing is pending on a workqueue (if `pending`) or runs on it; or that there is no workqueue with
 /// this number.
 fn nothing_words<A: Allocator + Copy>(
     alloc: A,
@@ -85,7 +85,7 @@ fn nothing_words<A: Allocator + Copy>(
     }
 }
 
-/// The words that another item comes first on a workqueue.
+/// Says that another item comes first on a workqueue.
 fn first_words<A: Allocator + Copy>(
     alloc: A,
     declared: &Declaration<'_, A>,
@@ -103,7 +103,7 @@ fn first_words<A: Allocator + Copy>(
     messages::isnt_first(alloc, &item, &workqueue, &first)
 }
 
-/// The words that an item runs on a workqueue and waits.
+/// Says that an item runs on a workqueue and waits.
 fn waiting_words<A: Allocator + Copy>(
     alloc: A,
     assigned: &Assigned<'_, '_, A>,
@@ -125,7 +125,7 @@ fn waiting_words<A: Allocator + Copy>(
     messages::runner_waits_for_all(alloc, &item, &workqueue, &target, &called)
 }
 
-/// The words that an item runs on a workqueue and declares no such flush.
+/// Says that an item runs on a workqueue and declares no such flush.
 fn undeclared_words<A: Allocator + Copy>(
     alloc: A,
     declared: &Declaration<'_, A>,
@@ -159,7 +159,7 @@ fn flushes_of<A: Allocator + Copy>(declared: &Declaration<'_, A>, item: ItemId) 
     }
 }
 
-/// The words that an item runs on a workqueue and has made all of its waits.
+/// Says that an item runs on a workqueue and has made all of its waits.
 fn made_words<A: Allocator + Copy>(
     alloc: A,
     declared: &Declaration<'_, A>,
@@ -177,7 +177,7 @@ fn made_words<A: Allocator + Copy>(
     messages::has_made_all(alloc, &item, &workqueue, flushes.as_bytes())
 }
 
-/// The words that an item runs on a workqueue and doesn't wait.
+/// Says that an item runs on a workqueue and doesn't wait.
 fn awake_words<A: Allocator + Copy>(
     alloc: A,
     declared: &Declaration<'_, A>,
@@ -193,7 +193,7 @@ fn awake_words<A: Allocator + Copy>(
     messages::doesnt_wait(alloc, &item, &workqueue)
 }
 
-/// The words that an entry of an item is unfinished or, if `whole`, one on its workqueue.
+/// Says that an entry of an item is unfinished or, if `whole`, one on its workqueue.
 fn unfinished_words<A: Allocator + Copy>(
     alloc: A,
     assigned: &Assigned<'_, '_, A>,

@@ -21,8 +21,8 @@ pub(crate) fn letters<A: Allocator + Copy>(alloc: A, word: &[u8]) -> Result<Stri
 }
 
 /// The edit distance of two words, if they are alike: how many letters have to be inserted, deleted, replaced or
-/// swapped with the next one to get from one to the other. Words are alike if these are at most one in three letters
-/// (one in a short word) and fewer than there are letters.
+/// swapped with the next one to get from one to the other. For example, it is 1 for `flsuh` and `flush`. Words
+/// are alike if it is at most one in three letters (one in a short word) and less than the number of letters.
 pub(crate) fn edits_between<A: Allocator + Copy>(
     alloc: A,
     word: &str,

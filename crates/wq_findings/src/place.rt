@@ -8,7 +8,7 @@ ghost use Rattle.wq_findings.specs.Shown.{place_text};
 
 use std::alloc::{AllocError, Allocator};
 
-/// Appends the numbers of a place, each after a colon. The only error is out of memory (20).
+/// Appends the numbers of a place, each after a colon, as `:12:3`. The only error is out of memory (20).
 pub fn put_place<A: Allocator + Copy>(
     alloc: A,
     out: &mut Vec<u8, A>,

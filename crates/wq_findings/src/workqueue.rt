@@ -16,7 +16,7 @@ use wq_text::{Line, Text, number};
 pub struct Workqueue<'a> {
     /// The number of the workqueue.
     pub number: u32,
-    /// The name of the workqueue, or no byte.
+    /// The name of the workqueue; empty if it has none.
     pub name: Quoted<'a>,
 }
 

@@ -1,4 +1,4 @@
-//! The number of a lane: of a workqueue.
+//! The number of a lane, which is a workqueue.
 //!
 //! Each call takes constant time.
 ghost use Rattle.std.specs.Prelude.{◌≡◌, ℕ};

@@ -34,8 +34,8 @@ fn without_lead(bytes: &[u8]) -> &[u8]
     bytes.split_at(lead(bytes)).1
 }
 
-/// The comment of a line: what follows its first `#`, from the first byte that is neither a `#` nor a blank. Empty if
-/// the line has no comment.
+/// The comment of a line: what follows its first `#`, from the first byte that is neither a `#` nor a blank, as `x` in
+/// `item a ## x`. Empty if the line has no comment.
 pub fn comment_body<'a>(line: &Line<'a>) -> &'a [u8]
     ensures { result.now ≡ comment_body line.now.bytes }
 {

@@ -61,7 +61,8 @@ fn is_name(bytes: &[u8]) -> bool
     !bytes.is_empty() && bytes.len() <= MAX_NAME && are_printable(bytes)
 }
 
-/// The name that the line of a workqueue gives it; empty if it gives none.
+/// The name that the line of a workqueue gives it, as `nvme-wq` in `wq 0 a # nvme-wq, for resets`; empty if it gives
+/// none.
 pub fn name_on<'a>(line: &Line<'a>) -> &'a [u8]
     ensures { result.now ≡ name_on line.now.bytes }
 {
