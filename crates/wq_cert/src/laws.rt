@@ -302,8 +302,8 @@ pub fn a_run_text_is_within_the_limits()
         length (run_text t.names steps) ≤ max_certificate }
 {}
 
-/// The text of a run that isn't too long, read as one that may have an unsure part, says its steps. An unsure part,
-/// which is printed if some flush is unsure, says which of these are kept, too, if their places are in order and, of
+/// The text of a run that isn't too long, read as one that may have an unsure part, says its steps. An unsure part is
+/// printed if some flush is unsure. It also says which unsure flushes are kept, if their places are in order and, of
 /// several flushes declared in the same words, the first ones are kept.
 pub fn a_run_text_with_an_unsure_part_is_read_back()
     ensures without { (t : Table) (steps : List Step) → IsTable t → All (IsStepOf (length t.names)) steps →

@@ -66,8 +66,8 @@ fn put_chain_line<A: Allocator + Copy>(
 
 /// The text of a plan: the number of workqueues, the items of each, and the arcs of a waiting chain.
 ///
-/// The groups must be those of the table's items, and each must have a workqueue. The chain must have fewer than 2^32 -
-/// 1 arcs, between items of the table. The only error is out of memory (20).
+/// The groups must be those of the table's items, and each must have a workqueue. The chain must have fewer than
+/// 4,294,967,295 arcs, between items of the table. The only error is out of memory (20).
 pub fn plan_text<A: Allocator + Copy>(
     alloc: A,
     table: &ItemTable<'_, A>,

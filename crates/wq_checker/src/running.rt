@@ -1,8 +1,9 @@
 //! How a list of steps ends.
 //!
 //! The ends are those of "The command `replay`" in docs/FORMAT.md. The steps are made on the core machine from the
-//! empty state, by the rules of "Steps". This takes the time of the machine's steps, and O(items + flushes +
-//! workqueues) time and memory beside it.
+//! empty state, by the rules of "Steps". This takes the time of the machine's steps and, beside it,
+//!
+//!   O(items + flushes + workqueues) time and memory.
 
 ghost use Rattle.std.specs.Prelude.{◌≡◌, ◌<◌, ◌↔◌, IsTrue, IfOk, OnErr, IfErr, length};
 ghost use Rattle.wq_groups.specs.Declaration.{declaration_of};

@@ -1,7 +1,7 @@
 //! The text of a diagnosis, and the diagnoses of the texts of a command.
 //!
 //! The form is that of "Diagnoses" in docs/FORMAT.md. A call takes the time and the memory of searching the text for
-//! the fault and, if it is a declaration, of reading it again, mended.
+//! the fault and, for a declaration, those of reading it again, mended.
 
 ghost use Rattle.std.specs.Prelude.{◌≡◌, ◌∷◌, codes, map, option_map, ℕ, IfOk};
 ghost use Rattle.wq_diagnosis.specs.Diagnosis.{head, shown_lines, IsDiagnosis};

@@ -15,7 +15,7 @@ use Rattle.wq_names.specs.Comments.{comment_body}
 abbrev pub max_comment : ℕ
 max_comment = 256
 
--- the comment of a line with these bytes, cut after the most bytes that are shown
+-- the comment of a line with these bytes, cut to `max_comment` bytes
 abbrev pub comment_of : List ℕ → List ℕ
 comment_of bytes = take max_comment (comment_body bytes)
 

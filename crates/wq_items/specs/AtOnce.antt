@@ -60,8 +60,7 @@ is_whole (Unsure name target whole) = are_names (name ∷ target ∷ [])
 is_whole (Ordered []) = false
 is_whole (Ordered (name ∷ others)) = are_names (name ∷ others)
 
--- how what the words of a line seem to say relates to what the line says: it is the same if the directive is whole;
--- otherwise the line has a fault
+-- what a line says, given what its words seem to say: the same if the directive is whole, otherwise a fault
 abbrev pub Foretells : Option (Option Directive) → Result (Option Directive) DeclError → Type 0
 Foretells None said = ¬ IsOk said
 Foretells (Some None) said = said ≡ Ok None

@@ -5,7 +5,7 @@ use Rattle.std.specs.List.{list_any, count_by}
 use Rattle.wq_items.specs.declared.target.Target.{Target}
 use Rattle.wq_items.specs.Table.{Table, places}
 
--- this place is one of the places
+-- this place is in the list
 abbrev pub is_among : List ℕ → ℕ → Bool
 is_among kept place = list_any (λ (p : ℕ). p == place) kept
 

@@ -105,8 +105,9 @@ fn words_unjudged<'a>(line: &Line<'a>) -> Option<Option<Directive<'a>>>
     }
 }
 
-/// What a line says if it has enough words and all of them are names: a directive, or `Some(None)` if no word comes
-/// before its comment. `None` if it has a fault that its number of words shows.
+/// What a line says if no word is missing and all words after the first are names: a directive, or `Some(None)` if no
+/// word comes before its comment. `None` if the line has a fault in any case, by its first word or by how many words it
+/// has.
 fn line_unjudged<'a>(line: &Line<'a>) -> Option<Option<Directive<'a>>>
     ensures { Foretells result (reading line.now) }
 {

@@ -5,8 +5,8 @@
 //! comment. The rules are those of "Lines, words and numbers" in docs/FORMAT.md, a format of this project's own. Going
 //! through the lines and words of a text takes linear time.
 //!
-//! `put` and the calls beside it print certificates and the answers of commands: each call appends exactly the bytes it
-//! is given. A word may hold any bytes; the caller decides which it may hold.
+//! `put` and the calls beside it print certificates and the answers of commands. Contracts say byte by byte what each
+//! call appends. A word may be any bytes; the caller decides which it may hold.
 #![tactic(auto)]
 
 pub mod laws;

@@ -89,7 +89,7 @@ impl<'a> Line<'a> {
         Words::of(self.start, self.text, self.len)
     }
 
-    /// The words after the first, if the line begins with `word` and a space: of `item a # x`, the word `a` after `item`.
+    /// The words after the first, if the line begins with `word` and a space: for `item`, the word `a` of `item a # x`.
     /// Otherwise `None`, even if the first word is `word`.
     pub fn words_after(&self, word: &[u8]) -> Option<Words<'a>>
         requires some { 0 < length word.now }
