@@ -65,7 +65,7 @@ pub fn a_text_without_norescuer_lines_is_that_of_an_assignment()
 {}
 
 /// All certificates that are too long are refused in the same way, and the bytes up to the first one too many show it:
-/// what comes after them isn't read.
+/// what comes after them makes no difference.
 pub fn a_long_certificate_is_refused_by_its_prefix()
     ensures answer { (names : List (List ℕ)) (p : Partition) (text : List ℕ) → max_certificate < length text →
         answer_of names p text ≡ Err (BadCertLine 0) }
