@@ -3,6 +3,7 @@
 import collections
 import os
 import pathlib
+import re
 import sys
 
 import hypothesis
@@ -25,6 +26,10 @@ hypothesis.settings.register_profile("gate", deadline=None, derandomize=True, da
 hypothesis.settings.load_profile("gate")
 
 Ran = collections.namedtuple("Ran", "status out err")
+HOW_FAR = re.compile(
+    r"^wqsource: (?:(?:reading (?:C|types)|scanning): \d+ of \d+ .*|looking (?:for what belongs to|through) .*|putting together \d+ .*)\n",
+    re.MULTILINE,
+)
 Drafted = collections.namedtuple("Drafted", "items flushes open")
 
 
@@ -74,11 +79,11 @@ def drafted(read):
 
 @pytest.fixture
 def wqsource():
-    """wqsource(words ..): starts it."""
+    """wqsource(words ..): starts it. What it says of how far it is, where the machine is slow, is left out."""
 
     def start(*words, cwd=ROOT, env=None):
         ran = programs.run([str(ROOT / "source" / "wqsource"), *map(str, words)], cwd=cwd, env=env, capture_output=True)
-        return Ran(ran.returncode, ran.stdout.decode(), ran.stderr.decode())
+        return Ran(ran.returncode, ran.stdout.decode(), HOW_FAR.sub("", ran.stderr.decode()))
 
     return start
 
