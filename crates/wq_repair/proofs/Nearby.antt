@@ -37,12 +37,12 @@ module _ (graph : List (List WaitArc)) (at : List ℕ) where
   module _ (asked : List (Option ℕ)) (some own words : List ℕ) (are_own : AreOwn some own) (v : ℕ) (told : IsTold asked some words v) where
     pub led_to-told : AreLedTo graph at own words → (p : ℕ) × IsAsked asked v p × LeadEitherWay graph at v p
     led_to-told are =
-        let (p, home, k, has, is) = told in
+        let (p, home, (k, has, is)) = told in
         let (q, bit, further) = are v k has in
         (p, home, inl (subst (Leads v) (sym (are_own q k bit) ∙ is) further))
 
     pub leading-told : AreLeading graph at own words → (p : ℕ) × IsAsked asked v p × LeadEitherWay graph at v p
     leading-told are =
-        let (p, home, k, has, is) = told in
+        let (p, home, (k, has, is)) = told in
         let (q, bit, further) = are v k has in
         (p, home, inr (subst (λ x. Leads x v) (sym (are_own q k bit) ∙ is) further))

@@ -13,18 +13,18 @@ loop-group-preserved g c =
     let at = c.args.vertices.now in
     let ranks = c.args.ranks.now in
     let i = c.loop-group.group in
-    let rank = slice_index ranks c.from-rank.result in
-    let rank_is : slice_index ranks i ≡ rank = ap (slice_index ranks) (sym c.from-rank.ensures) in
+    let rank = slice_index ranks c.from-in-loop-group.result in
+    let rank_is : slice_index ranks i ≡ rank = ap (slice_index ranks) (sym c.from-in-loop-group.ensures) in
     record {
       low = λ k lt. elim (cases_eq k i) [
-        | inl last ↦ omega (arith, ap (slice_index ranks) last, rank_is, c.if-RANKS-le-rank.false)
+        | inl last ↦ omega (arith, ap (slice_index ranks) last, rank_is, c.if-rank-ge-RANKS.false)
         | inr other ↦ c.loop-group.invariant.low k (omega (arith, lt, other))
       ];
       same = λ k lt. elim (cases_eq k i) [
         | inl last ↦
             ap (λ (x : ℕ). slice_index ranks (slice_index at x)) last
-            ∙ ap (λ (x : ℕ). slice_index ranks (slice_index at x)) (sym c.from-vertex.ensures)
-            ∙ ap (slice_index ranks) (sym c.from-2.ensures) ∙ c.if-ranks-from-ne-rank.false ∙ sym rank_is ∙ ap (slice_index ranks) (sym last)
+            ∙ ap (λ (x : ℕ). slice_index ranks (slice_index at x)) (sym c.from-in-loop-group-2.ensures)
+            ∙ ap (slice_index ranks) (sym c.from-else-rank-ge-RANKS.ensures) ∙ c.if-ranks-from-2.false ∙ sym rank_is ∙ ap (slice_index ranks) (sym last)
         | inr other ↦ c.loop-group.invariant.same k (omega (arith, lt, other))
       ];
       fall = λ k h lt arc. elim (cases_eq k i) [
@@ -42,7 +42,7 @@ returns g c =
     let graph = c.args.graph.now in
     let count : c.vertices-groups.result ≡ length graph = c.vertices-groups.ensures.vertices in
     λ yes. record {
-      one_each = omega (arith, c.if-len-ranks-ne-from.false, c.from.ensures, count);
+      one_each = omega (arith, c.if-ranks-from.false, c.from.ensures, count);
       low = λ k lt. c.loop-group.invariant.low k (omega (arith, lt, count, c.loop-group-test.false));
       fall = λ k h arc. c.loop-group.invariant.fall k h (omega (arith, arc-from graph k h arc, count, c.loop-group-test.false)) arc;
       same = λ k lt. c.loop-group.invariant.same k (omega (arith, lt, count, c.loop-group-test.false));

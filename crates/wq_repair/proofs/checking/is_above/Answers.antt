@@ -5,7 +5,7 @@ use Rattle.wq_repair.proofs.NeededFound.{HeadBelow-last}
 use Rattle.wq_repair.proofs.checking.is_above.Goals as goal
 
 pub loop-arc-preserved : goal.loop-arc-preserved
-loop-arc-preserved g c =
+loop-arc-preserved c =
     let arcs = c.args.arcs.now in
     let ranks = c.args.ranks.now in
     let i = c.loop-arc.arc-index in
@@ -16,5 +16,5 @@ loop-arc-preserved g c =
     ]
 
 pub returns : goal.returns
-returns g c = λ yes h any.
+returns c = λ yes h any.
     c.loop-arc.invariant h (any.0, any.1, omega (arith, any.2, c.loop-arc-test.false), any.3, any.4)

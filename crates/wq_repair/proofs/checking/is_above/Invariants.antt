@@ -5,4 +5,4 @@ use Rattle.wq_repair.proofs.checking.is_above.Given as goal
 
 -- those so far are lower
 abbrev pub invariant-loop-arc : goal.invariant-loop-arc
-invariant-loop-arc g l = (h : ℕ) → HeadBelow l.arcs l.arc-index h → slice_index l.ranks h < l.rank
+invariant-loop-arc l = (h : ℕ) → HeadBelow l.arcs l.arc-index h → slice_index l.ranks h < l.rank
