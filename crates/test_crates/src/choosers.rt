@@ -2,7 +2,7 @@
 //!
 //! Three items are on a workqueue that has a rescuer, and the first flushes the second. So one of the two has to leave.
 //! If a choice isn't right, each item is tried in turn: the first and the third stay, and the second leaves. The
-//! expected workqueues were worked out by hand from "The command `repair`" in docs/FORMAT.md.
+//! expected workqueues were worked out by hand from "The first repair" in docs/REPAIR.md.
 
 use crate::declared::{assigned, declared};
 use std::alloc::{AllocError, Allocator, Global};

@@ -53,7 +53,7 @@ struct Together<A: Allocator> {
 }
 
 /// These groups and the homes of their lanes, if they have one already. `homes` has the home of each lane.
-fn together<A: Allocator + Copy>(
+fn beside_homes<A: Allocator + Copy>(
     alloc: A,
     lane_of: &[u16],
     homes: &[Option<u16>],
@@ -85,6 +85,20 @@ fn together<A: Allocator + Copy>(
     })
 }
 
+/// All these lead to what only one of the two leads to.
+fn lead_to_both<A: Allocator + Copy>(
+    leading: &mut [Numbers<A>],
+    all: &Numbers<A>,
+    home: u16,
+    group: u16,
+) {
+    for set in leading.iter_mut() {
+        if set.has(home) != set.has(group) {
+            set.insert_all(all);
+        }
+    }
+}
+
 /// Two vertices become one, of which neither leads to the other: a group, and its home.
 fn merge<A: Allocator + Copy>(
     alloc: A,
@@ -103,11 +117,7 @@ fn merge<A: Allocator + Copy>(
     }
     all.insert(home);
     all.insert(group);
-    for set in leading.iter_mut() {
-        if set.has(home) != set.has(group) {
-            set.insert_all(&all);
-        }
-    }
+    lead_to_both(leading, &all, home, group);
     Ok(())
 }
 
@@ -120,7 +130,7 @@ fn keep_some<A: Allocator + Copy>(
     parts: &mut Parts<A>,
     groups: &[u16],
 ) -> Result<(), AllocError> {
-    let mut asked = together(alloc, lane_of, homes, groups)?;
+    let mut asked = beside_homes(alloc, lane_of, homes, groups)?;
     let waits = parts.waits(alloc, graph)?;
     let mut leading = parts.leading(alloc, &waits, asked.vertices.as_slice())?;
     let mut place = asked.first;
