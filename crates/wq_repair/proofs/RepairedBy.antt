@@ -16,9 +16,9 @@ use Rattle.wq_repair.proofs.Marks.{IsMarked-below}
 use Rattle.wq_repair.proofs.Readied.{fine-staying, apart-staying, held-leaving, IsMinimal-placed, movable_needed}
 
 -- the groups of one list that aren't in another, where both lists are known by other names
-pub Marks-but_not : (one first other second both : List Bool) (n : ℕ) → first ≡ one → second ≡ other → length one ≡ n →
+pub Marks-but_not : (one other first second both : List Bool) (n : ℕ) → first ≡ one → second ≡ other → length one ≡ n →
     Marks (IsButNot first second) (length first) both → Marks (IsButNot one other) n both
-Marks-but_not one first other second both n same also long is =
+Marks-but_not one other first second both n same also long is =
     subst (λ (k : ℕ). Marks (IsButNot one other) k both) long
     (subst (λ (xs : List Bool). Marks (IsButNot xs other) (length xs) both) same
     (subst (λ (ys : List Bool). Marks (IsButNot first ys) (length first) both) also is))
@@ -38,9 +38,6 @@ IsTried-as old s {ys = ys} {n = n} same long is = subst (Marks (IsTried old s) n
 
 pub marked-as : {xs ys : List Bool} → xs ≡ ys → (g : ℕ) → IsMarked xs g → IsMarked ys g
 marked-as same g marked = subst (λ (zs : List Bool). IsMarked zs g) same marked
-
-pub given-as : {P : Type 0} {xs ys : List Bool} {q : ℕ} → xs ≡ ys → P ⊎ IsMarked ys q → P ⊎ IsMarked xs q
-given-as {P = P} {q = q} same either = subst (λ (zs : List Bool). P ⊎ IsMarked zs q) (sym same) either
 
 pub placed-as : {old new : Workqueues} {given stays leaves xs ys zs : List Bool} {ranks rs : List ℕ} → xs ≡ given → ys ≡ stays → zs ≡ leaves → rs ≡ ranks
     → ArePlacedBy old xs ys zs rs new → ArePlacedBy old given stays leaves ranks new

@@ -29,7 +29,7 @@ ranks_of_groups-requires-clause-one_each g c =
     let assignment : IsAssignment d.groups ws.assignment =
     subst (λ (x : Workqueues). IsAssignment d.groups x.assignment) c.workqueues_of-workqueues.ensures.is
     c.workqueues_of-workqueues.ensures.assignment.assignment in
-    let ranking : AreRanks c.in_ok-graph.graph c.in-Ranks.ranks.items = rw c.in-Ranks.is at c.in_ok-rank.ensures.ranking in
+    let ranking : AreRanks c.in_ok-graph.graph c.in-Ranks.ranks.items = rw c.in-Ranks.is at c.in_ok-ranks.ensures.ranking in
     let are : AreRanks (rescued_graph d ws) c.in-Ranks.ranks.items =
     subst (λ (graph : List (List WaitArc)). AreRanks graph c.in-Ranks.ranks.items) c.in_ok-graph.ensures.graph ranking in
     ap length c.as_slice.ensures.value ∙ are.one_each ∙ length-rescued_graph d ws declaration assignment
@@ -44,7 +44,7 @@ returns-in-Ranks-clause-some g c =
     let assignment : IsAssignment d.groups ws.assignment =
     subst (λ (x : Workqueues). IsAssignment d.groups x.assignment) c.workqueues_of-workqueues.ensures.is
     c.workqueues_of-workqueues.ensures.assignment.assignment in
-    let ranking : AreRanks c.in_ok-graph.graph c.in-Ranks.ranks.items = rw c.in-Ranks.is at c.in_ok-rank.ensures.ranking in
+    let ranking : AreRanks c.in_ok-graph.graph c.in-Ranks.ranks.items = rw c.in-Ranks.is at c.in_ok-ranks.ensures.ranking in
     let are : AreRanks (rescued_graph d ws) c.in-Ranks.ranks.items =
     subst (λ (graph : List (List WaitArc)). AreRanks graph c.in-Ranks.ranks.items) c.in_ok-graph.ensures.graph ranking in
     let number : c.len-groups.result ≡ d.groups = c.len-groups.ensures.len ∙ ap (λ (p : Partition). p.groups) c.groups.ensures.is in
@@ -52,14 +52,14 @@ returns-in-Ranks-clause-some g c =
     record {
       of_lanes = c.in-Ranks.ranks.items;
       are = are;
-      one_each = c.in_ok-of_groups.ensures.one_each ∙ number;
+      one_each = c.in_ok-of_groups-in-Ranks.ensures.one_each ∙ number;
       exactly = λ v lt.
-          c.in_ok-of_groups.ensures.ranks v (omega (arith, lt, number))
+          c.in_ok-of_groups-in-Ranks.ensures.ranks v (omega (arith, lt, number))
           ∙ ap (λ (xs : List ℕ). slice_index xs (slice_index c.assignment.result.now.lane_of_group v)) c.as_slice.ensures.value
           ∙ ap (λ (x : Assignment). slice_index c.in-Ranks.ranks.items (group_lane x v)) lanes;
     }
 
 pub returns-in-Circle-clause-none : goal.returns-in-Circle-clause-none
 returns-in-Circle-clause-none g c =
-    let has = HasCircle-walked c.in_ok-graph.graph c.vertices-vertices.ensures.graph c.in-Circle.field-0.items (rw c.in-Circle.is at c.in_ok-rank.ensures.ranking) in
+    let has = HasCircle-walked c.in_ok-graph.graph c.vertices-vertices.ensures.graph c.in-Circle.field-0.items (rw c.in-Circle.is at c.in_ok-ranks.ensures.ranking) in
     subst (λ (graph : List (List WaitArc)). Circle (HasArc graph)) c.in_ok-graph.ensures.graph has.0

@@ -1,4 +1,4 @@
-use Rattle.std.proofs.Common.{◌≡◌, ℕ, ◌+◌, ◌<◌, ◌≤◌, Bool, List, length, sym, ap, subst, ◌∙◌, arith}
+use Rattle.std.proofs.Common.{◌≡◌, ℕ, ◌+◌, ◌<◌, ◌≤◌, ◌++◌, Bool, List, length, sym, ap, subst, ◌∙◌, arith}
 use Rattle.std.proofs.lemmas.Bool.{false≢true}
 use Rattle.wq_groups.specs.Assignment.{Assignment}
 use Rattle.wq_groups.specs.DeclaredGroups.{declared_waits}
@@ -15,7 +15,8 @@ ranks_of_start-requires g c = (c.args.old.now, c.requires.ready.0, c.args.scope.
 
 pub loop-group-init : goal.loop-group-init
 loop-group-init g c =
-    let fixed : c.extend_from_slice.new.self.items ≡ c.args.fixed.now = c.in_ok-extend_from_slice.ensures.items in
+    let fixed : c.extend_from_slice.new.self.items ≡ c.args.fixed.now =
+    c.in_ok-extend_from_slice.ensures.items ∙ ap (λ (xs : List Bool). xs ++ c.args.fixed.now) c.new-stays.ensures.items in
     let few : c.args.start.now.workqueues.assignment.lanes ≤ 4096 =
     omega (arith, c.workqueues_of-few.ensures.assignment.few, ap (λ (ws : Workqueues). ws.assignment.lanes) c.workqueues_of-few.ensures.is) in
     record {

@@ -27,7 +27,7 @@ returns-in-Some-clause-settled g c =
     let more : c.as_slice-2.result.now ≡ set s.stays c.args.group true =
     c.as_slice-2.ensures.value ∙ c.in_ok-stays.ensures
     ∙ ap (λ (xs : List Bool). set xs c.args.group true) (c.as_slice.ensures.value ∙ ap (λ (x : Settled). x.stays) c.settled.view_is) in
-    let found = rw c.in-Some.is at c.in_ok-ranks_if.ensures.some in
+    let found = rw c.in-Some.is at c.in_ok-ranks.ensures.some in
     λ graph fixed tried trial marked has is.
     subst (λ (xs : List Bool). IsSettled graph c.args.assignment.now fixed tried (c.args.group + 1) (record { stays = xs; ranks = c.in-Some.ranks.items }))
     (sym (sym c.as_slice-2.ensures.value ∙ more))
@@ -42,7 +42,7 @@ returns-in-None-clause-settled g c =
     let more : c.as_slice-2.result.now ≡ set s.stays c.args.group true =
     c.as_slice-2.ensures.value ∙ c.in_ok-stays.ensures
     ∙ ap (λ (xs : List Bool). set xs c.args.group true) (c.as_slice.ensures.value ∙ ap (λ (x : Settled). x.stays) c.settled.view_is) in
-    let found = rw c.in-None.is at c.in_ok-ranks_if.ensures.none in
+    let found = rw c.in-None.is at c.in_ok-ranks.ensures.none in
     λ graph fixed tried trial marked has is.
     IsSettled-circle d c.workqueues_of-few.ensures.declaration c.args.needed.now fixed tried graph trial c.args.assignment.now c.workqueues_of-few.ensures.few
     c.args.group c.requires.group marked s is

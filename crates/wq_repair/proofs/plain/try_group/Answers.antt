@@ -19,7 +19,8 @@ homes_of-requires-clause-few g c =
     omega (arith, ap length (c.as_slice.ensures.value ∙ ap (λ (x : Settled). x.stays) c.settled.view_is), c.requires.stays, c.workqueues_of-few.ensures.few)
 
 pub returns-in-None-clause-stays : goal.returns-in-None-clause-stays
-returns-in-None-clause-stays g c = length-set c.args.settled.now.stays _ true ∙ c.requires.stays
+returns-in-None-clause-stays g c =
+    length-set c.settled.inside.stays.items c.from-in-None.result true ∙ ap (λ (x : Settled). length x.stays) c.settled.view_is ∙ c.requires.stays
 
 pub returns-in-None-clause-settled : goal.returns-in-None-clause-settled
 returns-in-None-clause-settled g c =
@@ -32,12 +33,13 @@ returns-in-None-clause-settled g c =
     let lane : c.from.result ≡ group_lane a i = omega (arith, read, c.get-lane.ensures, c.from.ensures) in
     let none : slice_index_or homes (group_lane a i) None ≡ None = subst (λ (q : ℕ). slice_index_or homes q None ≡ None) lane c.in-None.is in
     λ graph fixed tried trial marked is.
-    subst (λ (n : ℕ). IsSettled graph a fixed tried (i + 1) (record { stays = set s.stays n true; ranks = s.ranks })) (sym c.from-2.ensures)
+    subst (λ (x : Settled). IsSettled graph a fixed tried (i + 1) (record { stays = set x.stays c.from-in-None.result true; ranks = x.ranks })) (sym c.settled.view_is)
+    (subst (λ (n : ℕ). IsSettled graph a fixed tried (i + 1) (record { stays = set s.stays n true; ranks = s.ranks })) (sym c.from-in-None.ensures)
     (IsSettled-first graph a fixed tried i s is (omega (arith, c.requires.group, trial.of.long)) marked
     (λ h stay same. (
       let home = are.all h stay in
       none-some home.0 (sym none ∙ ap (λ (q : ℕ). slice_index_or homes q None) (sym same) ∙ home.1)
-    )))
+    ))))
 
 pub returns-in-Some-clause-settled : goal.returns-in-Some-clause-settled
 returns-in-Some-clause-settled g c =

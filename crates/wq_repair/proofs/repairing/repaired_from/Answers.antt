@@ -12,7 +12,6 @@ use Rattle.wq_repair.proofs.RepairedBy.{
   Marks-but_not,
   IsTried-as,
   marked-as,
-  given-as,
   below-as,
   placed-as,
   hosted-as,
@@ -147,7 +146,8 @@ place-requires-clause-fine g c =
     let are_leaving : Marks (IsButNot s.movable all.stays) d.groups leaves = Marks-but_not s.movable all.stays c.as_slice-2.result.now c.as_slice-3.result.now leaves d.groups
     (c.as_slice-2.ensures.value ∙ ap (λ (x : Scope). x.movable) c.scope.view_is)
     (c.as_slice-3.ensures.value ∙ ap (λ (x : Settled). x.stays) c.all.view_is) ready.are_movable.one_each c.in_ok-leaves.ensures in
-    λ v stay. given-as (c.as_slice-4.ensures.value ∙ ap (λ (x : Scope). x.given) c.scope.view_is)
+    λ v stay. subst (λ (zs : List Bool). IsRescued c.args.old.now (lane_in c.args.old.now v) ⊎ IsMarked zs (lane_in c.args.old.now v))
+    (sym (c.as_slice-4.ensures.value ∙ ap (λ (x : Scope). x.given) c.scope.view_is))
     (fine-by c.workqueues_of-few.ensures.declaration ready are_tried c.in_ok-all.ensures are_leaving v (marked-as (c.as_slice-5.ensures.value ∙ ap (λ (x : Settled). x.stays) c.all.view_is) v stay))
 
 pub returns : goal.returns

@@ -56,7 +56,7 @@ settle-requires-clause-fixed g c =
     let are_fixed : Marks (IsButNot s.needed s.movable) d.groups fixed = Marks-but_not s.needed s.movable c.as_slice-2.result.now c.as_slice-3.result.now fixed d.groups
     (c.as_slice-2.ensures.value ∙ ap (λ (x : Scope). x.needed) c.scope.view_is)
     (c.as_slice-3.ensures.value ∙ ap (λ (x : Scope). x.movable) c.scope.view_is) ready.one_each c.in_ok-fixed.ensures in
-    subst (Marks (IsButNot s.needed s.movable) d.groups) (sym c.as_slice-10.ensures.value) are_fixed
+    subst (Marks (IsButNot s.needed s.movable) d.groups) (sym c.as_slice-else-branch.ensures.value) are_fixed
 
 pub settle-requires-clause-tried : goal.settle-requires-clause-tried
 settle-requires-clause-tried g c = c.requires.tried.one_each
@@ -100,9 +100,9 @@ returns-else-branch g c =
     let of : IsGraphOfNeeded d s.needed c.in_ok-graph.graph = graph-by c.workqueues_of-few.ensures.declaration ready.one_each c.scope.view_is c.as_slice.ensures.value c.in_ok-graph.ensures in
     IfOk-weaker c.settle.result _ _ (λ settled all. record {
       graph = c.in_ok-graph.graph;
-      fixed = c.as_slice-10.result.now;
+      fixed = c.as_slice-else-branch.result.now;
       of = of;
-      are_fixed = subst (Marks (IsButNot s.needed s.movable) d.groups) (sym c.as_slice-10.ensures.value) are_fixed;
+      are_fixed = subst (Marks (IsButNot s.needed s.movable) d.groups) (sym c.as_slice-else-branch.ensures.value) are_fixed;
       is = all c.in_ok-graph.graph (IsTrial-ready c.workqueues_of-few.ensures.declaration ready c.requires.tried of
-          (subst (Marks (IsButNot s.needed s.movable) d.groups) (sym c.as_slice-10.ensures.value) are_fixed));
+          (subst (Marks (IsButNot s.needed s.movable) d.groups) (sym c.as_slice-else-branch.ensures.value) are_fixed));
     }) c.settle.ensures
