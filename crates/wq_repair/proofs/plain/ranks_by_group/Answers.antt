@@ -59,7 +59,7 @@ returns-in-Ranks-clause-some g c =
           ∙ ap (λ (x : Assignment). slice_index c.in-Ranks.ranks.items (group_lane x v)) lanes;
     }
 
-pub returns-in-Circle-clause-none : goal.returns-in-Circle-clause-none
-returns-in-Circle-clause-none g c =
+pub returns-clause-none : goal.returns-clause-none
+returns-clause-none g c =
     let has = HasCircle-walked c.in_ok-graph.graph c.vertices-vertices.ensures.graph c.in-Circle.field-0.items (rw c.in-Circle.is at c.in_ok-ranks.ensures.ranking) in
     subst (λ (graph : List (List WaitArc)). Circle (HasArc graph)) c.in_ok-graph.ensures.graph has.0

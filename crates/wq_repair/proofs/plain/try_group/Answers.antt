@@ -1,6 +1,7 @@
 use Rattle.std.proofs.Common.{◌≡◌, ◌+◌, ◌∙◌, ◌<◌, ℕ, Bool, Option, List, true, length, set, refl, sym, ap, subst, arith}
 use Rattle.std.specs.Prelude.{None, Some, slice_index_or}
 use Rattle.std.proofs.Math.ListN.{length-set}
+use Rattle.std.proofs.lemmas.List.{get_or_default}
 use Rattle.std.proofs.lemmas.Option.{none-some}
 use Rattle.std.proofs.lemmas.Result.{IfOk-weaker}
 use Rattle.wq_groups.specs.Assignment.{group_lane}
@@ -18,12 +19,8 @@ pub homes_of-requires-clause-few : goal.homes_of-requires-clause-few
 homes_of-requires-clause-few g c =
     omega (arith, ap length (c.as_slice.ensures.value ∙ ap (λ (x : Settled). x.stays) c.settled.view_is), c.requires.stays, c.workqueues_of-few.ensures.few)
 
-pub returns-in-None-clause-stays : goal.returns-in-None-clause-stays
-returns-in-None-clause-stays g c =
-    length-set c.settled.inside.stays.items c.from-in-None.result true ∙ ap (λ (x : Settled). length x.stays) c.settled.view_is ∙ c.requires.stays
-
-pub returns-in-None-clause-settled : goal.returns-in-None-clause-settled
-returns-in-None-clause-settled g c =
+pub returns-clause-settled : goal.returns-clause-settled
+returns-clause-settled g c =
     let a = c.args.assignment.now in
     let i = c.args.group in
     let s = c.args.settled.now in
@@ -31,7 +28,10 @@ returns-in-None-clause-settled g c =
     let are : AreHomes a s.stays homes = subst (λ (xs : List Bool). AreHomes a xs homes) (c.as_slice.ensures.value ∙ ap (λ (x : Settled). x.stays) c.settled.view_is) c.in_ok-homes.ensures in
     let read : group_lane a i ≡ c.lane.result = lane-read a a i c.new.result c.lane.result refl c.new.ensures c.lane.ensures in
     let lane : c.from.result ≡ group_lane a i = omega (arith, read, c.get-lane.ensures, c.from.ensures) in
-    let none : slice_index_or homes (group_lane a i) None ≡ None = subst (λ (q : ℕ). slice_index_or homes q None ≡ None) lane c.in-None.is in
+    let within : group_lane a i < a.lanes = lane-within a a i refl c.lanes-lanes.ensures.within (omega (arith, c.requires.group, c.requires.assigned)) in
+    let at : slice_index_or homes c.from.result None ≡ c.index.result.now =
+    get_or_default homes c.from.result None c.index.result.now (omega (arith, lane, within, are.one_each)) ∙ sym c.index.ensures in
+    let none : slice_index_or homes (group_lane a i) None ≡ None = subst (λ (q : ℕ). slice_index_or homes q None ≡ None) lane (at ∙ c.in-None.is) in
     λ graph fixed tried trial marked is.
     subst (λ (x : Settled). IsSettled graph a fixed tried (i + 1) (record { stays = set x.stays c.from-in-None.result true; ranks = x.ranks })) (sym c.settled.view_is)
     (subst (λ (n : ℕ). IsSettled graph a fixed tried (i + 1) (record { stays = set s.stays n true; ranks = s.ranks })) (sym c.from-in-None.ensures)
@@ -50,7 +50,10 @@ returns-in-Some-clause-settled g c =
     let are : AreHomes a s.stays homes = subst (λ (xs : List Bool). AreHomes a xs homes) (c.as_slice.ensures.value ∙ ap (λ (x : Settled). x.stays) c.settled.view_is) c.in_ok-homes.ensures in
     let read : group_lane a i ≡ c.lane.result = lane-read a a i c.new.result c.lane.result refl c.new.ensures c.lane.ensures in
     let lane : c.from.result ≡ group_lane a i = omega (arith, read, c.get-lane.ensures, c.from.ensures) in
-    let home : IsHomeOf homes (group_lane a i) c.in-Some.field-0 = subst (λ (q : ℕ). slice_index_or homes q None ≡ Some c.in-Some.field-0) lane c.in-Some.is in
+    let within : group_lane a i < a.lanes = lane-within a a i refl c.lanes-lanes.ensures.within (omega (arith, c.requires.group, c.requires.assigned)) in
+    let at : slice_index_or homes c.from.result None ≡ c.index.result.now =
+    get_or_default homes c.from.result None c.index.result.now (omega (arith, lane, within, are.one_each)) ∙ sym c.index.ensures in
+    let home : IsHomeOf homes (group_lane a i) c.in-Some.field-0 = subst (λ (q : ℕ). slice_index_or homes q None ≡ Some c.in-Some.field-0) lane (at ∙ c.in-Some.is) in
     let on = are.on (group_lane a i) c.in-Some.field-0 home in
     IfOk-weaker c.try_beside.result _ _ (λ done all graph fixed tried trial marked is.
     all graph fixed tried trial marked (record { group = c.in-Some.field-0; marked = on.0; beside = on.1 }) is) c.try_beside.ensures.settled

@@ -88,8 +88,8 @@ returns-then-branch g c =
           (subst (λ (a : Assignment). IsSettled graph a fixed tried (length graph) (record { stays = c.as_slice-8.result.now; ranks = c.as_slice-9.result.now })) c.assignment-assignment.ensures settled));
     }
 
-pub returns-else-branch : goal.returns-else-branch
-returns-else-branch g c =
+pub returns : goal.returns
+returns g c =
     let d = declared_waits c.args.start.now.declared in
     let s = c.args.scope.now in
     let ready = c.requires.ready.1 in
