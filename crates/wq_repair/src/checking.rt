@@ -212,7 +212,15 @@ fn is_right<A: Allocator + Copy>(
         return Ok(false);
     }
     let vain = but_not(alloc, tried, stays)?;
-    are_in_vain(alloc, graph, assignment, homes, vertices, ranks, vain.as_slice())
+    are_in_vain(
+        alloc,
+        graph,
+        assignment,
+        homes,
+        vertices,
+        ranks,
+        vain.as_slice(),
+    )
 }
 
 /// Whether a choice is right: no group that may stay (`tried`) and doesn't could, and ranks fall along all waits.

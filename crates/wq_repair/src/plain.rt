@@ -82,7 +82,12 @@ fn ranks_by_group<A: Allocator + Copy>(
     match rank(alloc, &graph)? {
         Ranked::Ranks(ranks) => {
             let groups = assigned.groups().len();
-            let of_groups = ranks_of_groups(alloc, workqueues.assignment(), ranks.as_slice(), groups)?;
+            let of_groups = ranks_of_groups(
+                alloc,
+                workqueues.assignment(),
+                ranks.as_slice(),
+                groups,
+            )?;
             Ok(Some(of_groups))
         }
         Ranked::Circle(_) => Ok(None),

@@ -37,8 +37,8 @@ returns-clause-settled g c =
     (subst (λ (n : ℕ). IsSettled graph a fixed tried (i + 1) (record { stays = set s.stays n true; ranks = s.ranks })) (sym c.from-in-None.ensures)
     (IsSettled-first graph a fixed tried i s is (omega (arith, c.requires.group, trial.of.long)) marked
     (λ h stay same. (
-      let home = are.all h stay in
-      none-some home.0 (sym none ∙ ap (λ (q : ℕ). slice_index_or homes q None) (sym same) ∙ home.1)
+    let home = are.all h stay in
+    none-some home.0 (sym none ∙ ap (λ (q : ℕ). slice_index_or homes q None) (sym same) ∙ home.1)
     ))))
 
 pub returns-in-Some-clause-settled : goal.returns-in-Some-clause-settled

@@ -153,15 +153,15 @@ place-requires-clause-fine g c =
 pub returns : goal.returns
 returns g c =
     IfOk-weaker c.place.result _ _ (λ new both names is.
-      let d = declared_waits c.args.start.now.declared in
-      let s = c.args.scope.now in
-      let ready = is in
-      let all = c.in_ok-all.all in
-      let leaves = c.in_ok-leaves.leaves.items in
-      let are_tried = IsTried-as c.args.old.now c.args.scope.now c.as_slice.ensures.value ready.are_movable.one_each c.in_ok-tried.ensures in
-      let are_leaving : Marks (IsButNot s.movable all.stays) d.groups leaves = Marks-but_not s.movable all.stays c.as_slice-2.result.now c.as_slice-3.result.now leaves d.groups
+    let d = declared_waits c.args.start.now.declared in
+    let s = c.args.scope.now in
+    let ready = is in
+    let all = c.in_ok-all.all in
+    let leaves = c.in_ok-leaves.leaves.items in
+    let are_tried = IsTried-as c.args.old.now c.args.scope.now c.as_slice.ensures.value ready.are_movable.one_each c.in_ok-tried.ensures in
+    let are_leaving : Marks (IsButNot s.movable all.stays) d.groups leaves = Marks-but_not s.movable all.stays c.as_slice-2.result.now c.as_slice-3.result.now leaves d.groups
     (c.as_slice-2.ensures.value ∙ ap (λ (x : Scope). x.movable) c.scope.view_is)
     (c.as_slice-3.ensures.value ∙ ap (λ (x : Settled). x.stays) c.all.view_is) ready.are_movable.one_each c.in_ok-leaves.ensures in
-      IsMinimal-by c.workqueues_of-few.ensures.declaration is are_tried c.in_ok-all.ensures are_leaving new
-      (placed-as (c.as_slice-4.ensures.value ∙ ap (λ (x : Scope). x.given) c.scope.view_is) (c.as_slice-5.ensures.value ∙ ap (λ (x : Settled). x.stays) c.all.view_is) c.as_slice-6.ensures.value (c.as_slice-7.ensures.value ∙ ap (λ (x : Settled). x.ranks) c.all.view_is) both.0)
-      (hosted-as c.args.old.now new (c.as_slice-8.ensures.value ∙ ap (λ (x : Scope). x.movable) c.scope.view_is) c.as_slice-6.ensures.value both.1)) c.place.ensures
+    IsMinimal-by c.workqueues_of-few.ensures.declaration is are_tried c.in_ok-all.ensures are_leaving new
+    (placed-as (c.as_slice-4.ensures.value ∙ ap (λ (x : Scope). x.given) c.scope.view_is) (c.as_slice-5.ensures.value ∙ ap (λ (x : Settled). x.stays) c.all.view_is) c.as_slice-6.ensures.value (c.as_slice-7.ensures.value ∙ ap (λ (x : Settled). x.ranks) c.all.view_is) both.0)
+    (hosted-as c.args.old.now new (c.as_slice-8.ensures.value ∙ ap (λ (x : Scope). x.movable) c.scope.view_is) c.as_slice-6.ensures.value both.1)) c.place.ensures
