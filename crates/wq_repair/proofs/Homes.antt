@@ -1,5 +1,7 @@
 -- Homes of lanes, and the vertices of groups that stay there.
-use Rattle.std.proofs.Common.{◌≡◌, ◌≢◌, ℕ, ◌+◌, ◌<◌, ◌⊎◌, inl, inr, Bool, List, [], ◌∷◌, ◌++◌, length, get_or, set, replicate, refl, sym, ap, subst, ◌∙◌, arith, get_or-set_same, get_or-set_other, length-append}
+use Rattle.std.proofs.Common.{◌≡◌, ◌≢◌, ℕ, ◌+◌, ◌<◌, ◌⊎◌, inl, inr, Bool, List, [], ◌∷◌, ◌++◌, length, get_or, set}
+use Rattle.std.proofs.Common.{replicate, refl, sym, ap, subst, ◌∙◌, arith, get_or-set_same, get_or-set_other}
+use Rattle.std.proofs.Common.{length-append}
 use Rattle.std.specs.Prelude.{Option, Some, None, IfNone, slice_index, slice_index_or}
 use Rattle.std.specs.List.{All}
 use Rattle.std.proofs.Math.ListN.{length-set, length-replicate}
@@ -28,15 +30,21 @@ no_home n homes is q v home =
     absurd cc
 
 -- one more is asked for
-pub asked-cases : (xs : List (Option ℕ)) (o : Option ℕ) (n : ℕ) → length xs ≡ n → (k v : ℕ) → slice_index_or (xs ++ o ∷ []) k None ≡ Some v
+pub asked-cases : (xs : List (Option ℕ)) (o : Option ℕ) (n : ℕ) → length xs ≡ n → (k v : ℕ)
+    → slice_index_or (xs ++ o ∷ []) k None ≡ Some v
     → (slice_index_or xs k None ≡ Some v) ⊎ ((k ≡ n) × (o ≡ Some v))
 asked-cases xs o n long k v is = elim (cases_lt k (n + 1)) [
   | inr past ↦
-      let none : slice_index_or (xs ++ o ∷ []) k None ≡ None = get_or_past (xs ++ o ∷ []) k None (omega (arith, past, length-append xs (o ∷ []), long)) in
+      let none : slice_index_or (xs ++ o ∷ []) k None ≡ None =
+      get_or_past (xs ++ o ∷ []) k None (omega (arith, past, length-append xs (o ∷ []), long)) in
       let bad : None ≡ Some v = sym none ∙ is in
       absurd cc
   | inl lt ↦ elim (cases_eq k n) [
-    | inl last ↦ inr (last, sym (get_or_push xs o None n long) ∙ ap (λ (x : ℕ). slice_index_or (xs ++ o ∷ []) x None) (sym last) ∙ is)
+    | inl last ↦ inr (
+      last,
+      sym (get_or_push xs o None n long)
+          ∙ ap (λ (x : ℕ). slice_index_or (xs ++ o ∷ []) x None) (sym last) ∙ is,
+    )
     | inr other ↦ inl (sym (get_or_append_left xs (o ∷ []) None k (omega (arith, lt, other, long))) ∙ is)
   ]
 ]
@@ -47,7 +55,8 @@ pub record AreHomesBelow (old : Assignment) (stays : List Bool) (n : ℕ) (homes
   pub on : (q v : ℕ) → IsHomeOf homes q v → IsMarked stays v × (group_lane old v ≡ q)
   pub all : (g : ℕ) → g < n → IsMarked stays g → (v : ℕ) × IsHomeOf homes (group_lane old g) v
 
-module _ (old : Assignment) (stays : List Bool) (g : ℕ) (homes : List (Option ℕ)) (is : AreHomesBelow old stays g homes) where
+module _ (old : Assignment) (stays : List Bool) (g : ℕ) (homes : List (Option ℕ))
+    (is : AreHomesBelow old stays g homes) where
   pub AreHomesBelow-skip : (¬ IsMarked stays g) → AreHomesBelow old stays (g + 1) homes
   AreHomesBelow-skip not = record {
     one_each = is.one_each;
@@ -58,7 +67,8 @@ module _ (old : Assignment) (stays : List Bool) (g : ℕ) (homes : List (Option 
     ];
   }
 
-  pub AreHomesBelow-set : IsMarked stays g → (lane : ℕ) → group_lane old g ≡ lane → lane < length homes → AreHomesBelow old stays (g + 1) (set homes lane (Some g))
+  pub AreHomesBelow-set : IsMarked stays g → (lane : ℕ) → group_lane old g ≡ lane → lane < length homes
+      → AreHomesBelow old stays (g + 1) (set homes lane (Some g))
   AreHomesBelow-set marked lane on below = record {
     one_each = length-set homes lane (Some g) ∙ is.one_each;
     on = holds;
@@ -74,7 +84,8 @@ module _ (old : Assignment) (stays : List Bool) (g : ℕ) (homes : List (Option 
       holds : (q v : ℕ) → IsHomeOf (set homes lane (Some g)) q v → IsMarked stays v × (group_lane old v ≡ q)
       holds q v home = elim (cases_eq q lane) [
         | inl same ↦
-            let v_is : g ≡ v = some_same g v (sym own ∙ ap (λ (x : ℕ). slice_index_or (set homes lane (Some g)) x None) (sym same) ∙ home) in
+            let v_is : g ≡ v = some_same g v (sym own
+            ∙ ap (λ (x : ℕ). slice_index_or (set homes lane (Some g)) x None) (sym same) ∙ home) in
             (subst (IsMarked stays) v_is marked, ap (group_lane old) (sym v_is) ∙ on ∙ sym same)
         | inr other ↦ is.on q v (sym (kept q other) ∙ home)
       ]
@@ -91,14 +102,16 @@ module _ (old : Assignment) (stays : List Bool) (g : ℕ) (homes : List (Option 
       ]
 
 -- the vertices of the first n groups
-pub record AreVerticesBelow (old : Assignment) (stays : List Bool) (homes : List (Option ℕ)) (n : ℕ) (at : List ℕ) : Type 0 where
+pub record AreVerticesBelow (old : Assignment) (stays : List Bool) (homes : List (Option ℕ)) (n : ℕ)
+    (at : List ℕ) : Type 0 where
   pub one_each : length at ≡ n
   pub home : (g : ℕ) → g < n → IsMarked stays g → IsHomeOf homes (group_lane old g) (slice_index at g)
   pub alone : (g : ℕ) → g < n → (¬ IsMarked stays g) → slice_index at g ≡ g
 
 -- one more
 pub AreVerticesBelow-push : (old : Assignment) (stays : List Bool) (homes : List (Option ℕ)) (n v : ℕ) (at : List ℕ)
-    → AreVerticesBelow old stays homes n at → (IsMarked stays n → IsHomeOf homes (group_lane old n) v) → ((¬ IsMarked stays n) → v ≡ n)
+    → AreVerticesBelow old stays homes n at → (IsMarked stays n → IsHomeOf homes (group_lane old n) v)
+    → ((¬ IsMarked stays n) → v ≡ n)
     → AreVerticesBelow old stays homes (n + 1) (at ++ v ∷ [])
 AreVerticesBelow-push old stays homes n v at is home alone = record {
   one_each = omega (arith, length-append at (v ∷ []), is.one_each);
@@ -110,7 +123,8 @@ AreVerticesBelow-push old stays homes n v at is home alone = record {
         subst (IsHomeOf homes (group_lane old g)) (sym (kept g earlier)) (is.home g earlier marked)
   ];
   alone = λ g lt not. elim (cases_eq g n) [
-    | inl last ↦ ap (slice_index (at ++ v ∷ [])) last ∙ own ∙ alone (subst (λ (x : ℕ). ¬ IsMarked stays x) last not) ∙ sym last
+    | inl last ↦ ap (slice_index (at ++ v ∷ [])) last ∙ own ∙ alone (subst (λ (x : ℕ). ¬ IsMarked stays x) last not)
+        ∙ sym last
     | inr before ↦ let earlier : g < n = omega (arith, lt, before) in kept g earlier ∙ is.alone g earlier not
   ];
 }
@@ -121,10 +135,12 @@ AreVerticesBelow-push old stays homes n v at is home alone = record {
     kept : (k : ℕ) → k < n → slice_index (at ++ v ∷ []) k ≡ slice_index at k
     kept k lt = get_or_append_left at (v ∷ []) 0 k (omega (arith, lt, is.one_each))
 
-module _ (old : Assignment) (stays : List Bool) (homes : List (Option ℕ)) (at : List ℕ) (are_homes : AreHomes old stays homes)
+module _ (old : Assignment) (stays : List Bool) (homes : List (Option ℕ)) (at : List ℕ)
+    (are_homes : AreHomes old stays homes)
     (are : AreVertices old stays homes at) where
   -- the vertex of a group that stays is a group that stays on its lane
-  pub home_is : (g : ℕ) → IsMarked stays g → IsMarked stays (slice_index at g) × (group_lane old (slice_index at g) ≡ group_lane old g)
+  pub home_is : (g : ℕ) → IsMarked stays g → IsMarked stays
+      (slice_index at g) × (group_lane old (slice_index at g) ≡ group_lane old g)
   home_is g marked = are_homes.on (group_lane old g) (slice_index at g) (are.home g marked)
 
   pub vertex_below : (g : ℕ) → g < length stays → slice_index at g < length stays
@@ -134,14 +150,20 @@ module _ (old : Assignment) (stays : List Bool) (homes : List (Option ℕ)) (at 
   ]
 
   pub vertices-within : All (λ (v : ℕ). v < length stays) at
-  vertices-within k e lt = subst (λ (x : ℕ). x < length stays) (get_or_default at k 0 e lt) (vertex_below k (omega (arith, lt, are.one_each)))
+  vertices-within k e lt = subst (λ (x : ℕ). x < length stays) (get_or_default at k 0 e lt)
+      (vertex_below k (omega (arith, lt, are.one_each)))
 
   -- two groups are at one vertex only if both stay on one lane
   pub apart : (g h : ℕ) → g < length stays → h < length stays → slice_index at g ≡ slice_index at h
       → (g ≡ h) ⊎ (IsMarked stays g × IsMarked stays h × (group_lane old g ≡ group_lane old h))
   apart g h g_is h_is same = elim (cases_marked stays g) [
     | inl g_stays ↦ elim (cases_marked stays h) [
-      | inl h_stays ↦ inr (g_stays, h_stays, sym (home_is g g_stays).1 ∙ ap (group_lane old) same ∙ (home_is h h_stays).1)
+      | inl h_stays ↦ inr (
+        g_stays,
+        h_stays,
+        sym (home_is g g_stays).1 ∙ ap (group_lane old) same
+            ∙ (home_is h h_stays).1,
+      )
       | inr not ↦ absurd (not (subst (IsMarked stays) (same ∙ are.alone h h_is not) (home_is g g_stays).0))
     ]
     | inr not ↦ elim (cases_marked stays h) [
@@ -151,6 +173,7 @@ module _ (old : Assignment) (stays : List Bool) (homes : List (Option ℕ)) (at 
   ]
 
   -- all that stay on a lane are at one vertex
-  pub together : (g h : ℕ) → IsMarked stays g → IsMarked stays h → group_lane old g ≡ group_lane old h → slice_index at g ≡ slice_index at h
+  pub together : (g h : ℕ) → IsMarked stays g → IsMarked stays h → group_lane old g ≡ group_lane old h
+      → slice_index at g ≡ slice_index at h
   together g h g_stays h_stays same = some_same (slice_index at g) (slice_index at h)
       (sym (are.home g g_stays) ∙ ap (λ (q : ℕ). slice_index_or homes q None) same ∙ are.home h h_stays)

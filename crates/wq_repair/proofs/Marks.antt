@@ -24,7 +24,8 @@ cases_marked marks k = elim (cases_Bool (get_or marks k false)) [ inl is ↦ inl
 pub none-marked : (n k : ℕ) → ¬ IsMarked (replicate n false) k
 none-marked n k marked = elim (cases_lt k n) [
   | inl lt ↦ false≢true (sym (get_or-replicate n k false false lt) ∙ marked)
-  | inr past ↦ false≢true (sym (get_or_past (replicate n false) k false (omega (arith, past, length-replicate n false))) ∙ marked)
+  | inr past ↦ false≢true (sym (get_or_past (replicate n false) k false
+      (omega (arith, past, length-replicate n false))) ∙ marked)
 ]
 
 -- a list with one mark more at its end
@@ -37,9 +38,19 @@ module _ (xs : List Bool) (b : Bool) (n : ℕ) (long : length xs ≡ n) where
 
   pub marked-cases : (k : ℕ) → IsMarked (xs ++ b ∷ []) k → IsMarked xs k ⊎ ((k ≡ n) × (b ≡ true))
   marked-cases k marked = elim (cases_eq k n) [
-    | inl last ↦ inr (last, sym (get_or_push xs b false n long) ∙ ap (λ (x : ℕ). get_or (xs ++ b ∷ []) x false) (sym last) ∙ marked)
+    | inl last ↦ inr (
+      last,
+      sym (get_or_push xs b false n long)
+          ∙ ap (λ (x : ℕ). get_or (xs ++ b ∷ []) x false) (sym last) ∙ marked,
+    )
     | inr other ↦
-        let lt : k < n = omega (arith, IsMarked-below (xs ++ b ∷ []) k marked, length-append xs (b ∷ []), long, other) in
+        let lt : k < n = omega (
+          arith,
+          IsMarked-below (xs ++ b ∷ []) k marked,
+          length-append xs (b ∷ []),
+          long,
+          other,
+        ) in
         inl (sym (get_or_append_left xs (b ∷ []) false k (omega (arith, lt, long))) ∙ marked)
   ]
 

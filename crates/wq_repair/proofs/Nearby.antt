@@ -34,7 +34,8 @@ module _ (graph : List (List WaitArc)) (at : List ℕ) where
     ]
 
   -- what the words tell of vertices and their homes
-  module _ (asked : List (Option ℕ)) (some own words : List ℕ) (are_own : AreOwn some own) (v : ℕ) (told : IsTold asked some words v) where
+  module _ (asked : List (Option ℕ)) (some own words : List ℕ) (are_own : AreOwn some own) (v : ℕ)
+      (told : IsTold asked some words v) where
     pub led_to-told : AreLedTo graph at own words → (p : ℕ) × IsAsked asked v p × LeadEitherWay graph at v p
     led_to-told are =
         let (p, home, (k, has, is)) = told in

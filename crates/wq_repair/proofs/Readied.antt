@@ -118,7 +118,11 @@ module _ (d : Declaration) (old : Workqueues) (names : List ℕ) (s : Scope) (st
     module _ (few : start.assignment.lanes ≤ 4096) (ranks : List ℕ) (of_groups : AreRanksOfGroups d start ranks)
         (fixed tried : List Bool) (are_fixed : Marks (IsButNot s.needed s.movable) d.groups fixed) where
       lane_start : (g : ℕ) → g < d.groups → lane_in start g < length (rescued_graph d start)
-      lane_start g is = omega (arith, ready.by.within g (below g is), length-rescued_graph d start declaration IsAssignment-start)
+      lane_start g is = omega (
+        arith,
+        ready.by.within g (below g is),
+        length-rescued_graph d start declaration IsAssignment-start,
+      )
 
       sound : IsGraph (rescued_graph d start)
       sound = IsGraph-rescued_graph d start declaration IsAssignment-start few
@@ -126,17 +130,26 @@ module _ (d : Declaration) (old : Workqueues) (names : List ℕ) (s : Scope) (st
       low-start : (g : ℕ) → g < length graph → slice_index ranks g < 4096
       low-start g lt =
           let is : g < d.groups = omega (arith, lt, of.long) in
-          let rank_below = AreRanks-few (rescued_graph d start) of_groups.of_lanes sound of_groups.are (lane_in start g) 0
+          let rank_below = AreRanks-few (rescued_graph d start) of_groups.of_lanes sound of_groups.are
+          (lane_in start g) 0
           (omega (arith, lane_start g is, of_groups.are.one_each)) in
-          omega (arith, of_groups.exactly g is, rank_below, length-rescued_graph d start declaration IsAssignment-start, few)
+          omega (
+            arith,
+            of_groups.exactly g is,
+            rank_below,
+            length-rescued_graph d start declaration IsAssignment-start,
+            few,
+          )
 
       fall-start : (g h : ℕ) → HasArc graph g h → slice_index ranks h < slice_index ranks g
       fall-start g h has =
           let parts = (of.arcs g h).0 has in
           let g_is = waiting-below d declaration g h parts.2 in
           let h_is = awaited-below d declaration g h parts.2 in
-          let arc = group_arc d start declaration IsAssignment-start g h parts.2 (ready.rescued g g_is parts.0) (ready.rescued h h_is parts.1) in
-          let falls = AreRanks-fall (rescued_graph d start) of_groups.of_lanes sound of_groups.are (lane_in start g) (lane_in start h) (lane_start g g_is) arc in
+          let arc = group_arc d start declaration IsAssignment-start g h parts.2 (ready.rescued g g_is parts.0)
+          (ready.rescued h h_is parts.1) in
+          let falls = AreRanks-fall (rescued_graph d start) of_groups.of_lanes sound of_groups.are (lane_in start g)
+          (lane_in start h) (lane_start g g_is) arc in
           omega (arith, falls, of_groups.exactly g g_is, of_groups.exactly h h_is)
 
       lane-fixed : (g : ℕ) → IsMarked fixed g → (g < d.groups) × (lane_in start g ≡ lane_in old g)
@@ -178,9 +191,11 @@ module _ (d : Declaration) (old : Workqueues) (names : List ℕ) (s : Scope) (st
       leaves_parts g lt marked = (are_leaving.exactly g lt).0 marked
 
       pub apart-staying : (g : ℕ) → IsMarked settled.stays g → ¬ IsMarked leaves g
-      apart-staying g stay leaving = (leaves_parts g (marked_below leaves g are_leaving.one_each leaving) leaving).1 stay
+      apart-staying g stay leaving = (leaves_parts g (marked_below leaves g are_leaving.one_each leaving) leaving).1
+          stay
 
-      unmovable-stays : (g : ℕ) → g < d.groups → IsMarked s.needed g → (¬ IsMarked s.movable g) → IsMarked settled.stays g
+      unmovable-stays : (g : ℕ) → g < d.groups → IsMarked s.needed g → (¬ IsMarked s.movable g)
+          → IsMarked settled.stays g
       unmovable-stays g lt needs unmovable = is.within.kept g ((are_fixed.exactly g lt).1 (needs, unmovable))
 
       -- a group that needs a rescuer stays, or leaves
@@ -194,15 +209,19 @@ module _ (d : Declaration) (old : Workqueues) (names : List ℕ) (s : Scope) (st
       ]
 
       -- the lane of a group that stays has a rescuer, or is given one
-      fixed-fine : (g : ℕ) → g < d.groups → IsMarked s.needed g → (¬ IsMarked s.movable g) → IsRescued old (lane_in old g) ⊎ IsMarked s.given (lane_in old g)
-      fixed-fine g lt needs unmovable = ready.by.only g (below g lt) unmovable (subst (IsRescued start) (ready.by.stay g (below g lt) unmovable) (ready.rescued g lt needs))
+      fixed-fine : (g : ℕ) → g < d.groups → IsMarked s.needed g → (¬ IsMarked s.movable g)
+          → IsRescued old (lane_in old g) ⊎ IsMarked s.given (lane_in old g)
+      fixed-fine g lt needs unmovable = ready.by.only g (below g lt) unmovable
+          (subst (IsRescued start) (ready.by.stay g (below g lt) unmovable) (ready.rescued g lt needs))
 
-      pub fine-staying : (g : ℕ) → IsMarked settled.stays g → IsRescued old (lane_in old g) ⊎ IsMarked s.given (lane_in old g)
+      pub fine-staying : (g : ℕ) → IsMarked settled.stays g
+          → IsRescued old (lane_in old g) ⊎ IsMarked s.given (lane_in old g)
       fine-staying g stay =
           let lt = marked_below settled.stays g stays_long stay in
           elim (is.within.only g stay) [
             | inl of_fixed ↦ (let parts = (are_fixed.exactly g lt).0 of_fixed in fixed-fine g lt parts.0 parts.1)
-            | inr of_tried ↦ elim ((are_tried.exactly g lt).0 of_tried).1 [ inl given ↦ inr given | inr rescued ↦ inl rescued ]
+            | inr of_tried ↦ elim ((are_tried.exactly g lt).0 of_tried).1
+                [ inl given ↦ inr given | inr rescued ↦ inl rescued ]
           ]
 
       others : (g : ℕ) → g < d.groups → IsMarked s.needed g → (¬ IsMarked leaves g) → IsRescued old (lane_in old g) ⊎ IsMarked s.given (lane_in old g)
@@ -225,7 +244,8 @@ module _ (d : Declaration) (old : Workqueues) (names : List ℕ) (s : Scope) (st
         ]
       ]
 
-      tried_or_not : (g : ℕ) → g < d.groups → IsMarked s.movable g → IsMarked tried g ⊎ (IsBare old (lane_in old g) × (¬ IsMarked s.given (lane_in old g)))
+      tried_or_not : (g : ℕ) → g < d.groups → IsMarked s.movable g
+          → IsMarked tried g ⊎ (IsBare old (lane_in old g) × (¬ IsMarked s.given (lane_in old g)))
       tried_or_not g lt movable = elim (cases_marked s.given (lane_in old g)) [
         | inl marked ↦ inl ((are_tried.exactly g lt).1 (movable, inl marked))
         | inr not ↦ elim (cases_rescued old (lane_in old g)) [
@@ -234,22 +254,40 @@ module _ (d : Declaration) (old : Workqueues) (names : List ℕ) (s : Scope) (st
         ]
       ]
 
-      pub held-leaving : (g : ℕ) → g < d.groups → IsMarked leaves g → (h : ℕ) × (h < d.groups) × (lane_in old h ≡ lane_in old g) × (¬ IsMarked leaves h)
+      pub held-leaving : (g : ℕ) → g < d.groups → IsMarked leaves g
+          → (h : ℕ) × (h < d.groups) × (lane_in old h ≡ lane_in old g) × (¬ IsMarked leaves h)
       held-leaving g lt leaving = elim (tried_or_not g lt (leaves_parts g lt leaving).0) [
         | inl of_tried ↦ (
-            let found = is.held g (in_graph g lt) of_tried in
-            (found.group, marked_below settled.stays found.group stays_long found.marked, found.beside, apart-staying found.group found.marked)
+            let found = is.held g (in_graph g lt) of_tried in (
+              found.group,
+              marked_below settled.stays found.group stays_long found.marked,
+              found.beside,
+              apart-staying found.group found.marked,
+            )
             )
         | inr not ↦ elim (all_or_one (λ (k : ℕ). (k < d.groups) → lane_in old k ≡ lane_in old g → IsMarked s.needed k)
             (λ (k : ℕ). (k < d.groups) × (lane_in old k ≡ lane_in old g) × (¬ IsMarked s.needed k)) (on_lane (lane_in old g)) d.groups) [
               | inr one_out ↦ (
-                  let k : ℕ = one_out.0 in
-                  (k, one_out.1, one_out.2.1, λ k_leaves. one_out.2.2 (movable_needed k one_out.1 (leaves_parts k one_out.1 k_leaves).0))
+                  let k : ℕ = one_out.0 in (
+                    k,
+                    one_out.1,
+                    one_out.2.1,
+                    λ k_leaves.
+                        one_out.2.2 (movable_needed k one_out.1 (leaves_parts k one_out.1 k_leaves).0),
+                  )
                   )
               | inl all ↦ absurd (not.1 ((ready.are_given.exactly (lane_in old g) (lane_below g lt)).1 (record {
                 bare = not.0;
-                named = (ready.are_lanes.exactly (lane_in old g) (lane_below g lt)).1 (record { group = g; is_group = lt; named = movable_named g lt (leaves_parts g lt leaving).0; on = refl });
-                all = λ k k_lt on. (let k_is : k < d.groups = omega (arith, k_lt, ready.one_each) in all k k_is k_is on);
+                named = (ready.are_lanes.exactly (lane_in old g) (lane_below g lt)).1
+                    (record {
+                      group = g;
+                      is_group = lt;
+                      named = movable_named g lt (leaves_parts g lt leaving).0;
+                      on =
+                          refl;
+                    });
+                all = λ k k_lt on. (let k_is : k < d.groups =
+                    omega (arith, k_lt, ready.one_each) in all k k_is k_is on);
               })))
             ]
       ]
@@ -267,11 +305,13 @@ module _ (d : Declaration) (old : Workqueues) (names : List ℕ) (s : Scope) (st
         in_vain : (g : ℕ) → WasInVain graph old.assignment settled.stays g → IsTriedInVain d old new s.needed g
         in_vain g vain = record {
           at = vain.at;
-          together = λ h k h_is k_is h_needs k_needs same. elim (vain.together h k (in_graph h h_is) (in_graph k k_is) same) [
-            | inl one_group ↦ inl one_group
-            | inr two ↦ inr (stays_or_is g h h_is two.0, stays_or_is g k k_is two.1, two.2)
-          ];
-          circle = Circle-map (ArcBetween graph vain.at) (VerticesWait d s.needed vain.at) (λ v. v) (VerticesWait-between vain.at) vain.circle;
+          together = λ h k h_is k_is h_needs k_needs same.
+              elim (vain.together h k (in_graph h h_is) (in_graph k k_is) same) [
+                | inl one_group ↦ inl one_group
+                | inr two ↦ inr (stays_or_is g h h_is two.0, stays_or_is g k k_is two.1, two.2)
+              ];
+          circle = Circle-map (ArcBetween graph vain.at) (VerticesWait d s.needed vain.at) (λ v. v)
+              (VerticesWait-between vain.at) vain.circle;
         }
 
         why : (g : ℕ) → g < d.groups → IsMarked leaves g → (IsBare old (lane_in old g) × (¬ IsMarked s.given (lane_in old g))) ⊎ IsTriedInVain d old new s.needed g
@@ -287,19 +327,26 @@ module _ (d : Declaration) (old : Workqueues) (names : List ℕ) (s : Scope) (st
           one_each = are_leaving.one_each;
           first = ready.first;
           next = needed_next;
-          movable = λ g lt marked. let movable = (leaves_parts g lt marked).0 in (movable_named g lt movable, movable_needed g lt movable);
+          movable = λ g lt marked. let movable =
+              (leaves_parts g lt marked).0 in (movable_named g lt movable, movable_needed g lt movable);
           why = why;
           others = others;
           fall = λ g h waits needs. is.fall g h ((of.arcs g h).1 (needs, needed_next g h waits needs, waits));
         }
 
-        ranked : (g : ℕ) → g < d.groups → IsMarked s.needed g → rank_on s.needed new.assignment.lane_of_group settled.ranks (lane_in new g) d.groups ≡ slice_index settled.ranks g
+        ranked : (g : ℕ) → g < d.groups → IsMarked s.needed g
+            → rank_on s.needed new.assignment.lane_of_group settled.ranks
+            (lane_in new g) d.groups ≡ slice_index settled.ranks g
         ranked g lt needs = rank_on-same s.needed new.assignment.lane_of_group settled.ranks g needs same d.groups lt
           where
-            same : (h : ℕ) → IsMarked s.needed h → slice_index new.assignment.lane_of_group h ≡ slice_index new.assignment.lane_of_group g → slice_index settled.ranks h ≡ slice_index settled.ranks g
+            same : (h : ℕ) → IsMarked s.needed h
+                → slice_index new.assignment.lane_of_group h ≡ slice_index new.assignment.lane_of_group g
+                → slice_index settled.ranks h ≡ slice_index settled.ranks g
             same h h_needs lane =
                 let h_is = marked_below s.needed h ready.one_each h_needs in
-                placed.ranked h g (omega (arith, h_is, are_leaving.one_each)) (omega (arith, lt, are_leaving.one_each)) (stays_or_leaves h h_is h_needs) (stays_or_leaves g lt needs) lane
+                placed.ranked h g (omega (arith, h_is, are_leaving.one_each))
+                (omega (arith, lt, are_leaving.one_each)) (stays_or_leaves h h_is h_needs)
+                (stays_or_leaves g lt needs) lane
 
         -- a group that moved leaves, and comes to a lane that held nobody, or a group that may move
         hosted : AreHosted old s.movable leaves new → (g : ℕ) → g < d.groups → HasMoved old new g
@@ -316,10 +363,14 @@ module _ (d : Declaration) (old : Workqueues) (names : List ℕ) (s : Scope) (st
 
         pub IsMinimal-placed : AreHosted old s.movable leaves new → IsMinimal d old names s.needed new
         IsMinimal-placed are_hosted = record {
-          compared = IsToBeCompared-placed d old new names ready.lanes s.needed s.given settled.stays leaves settled.ranks ready.assignment ready.are_lanes ready.one_each ready.are_given leaving-placed placed;
-          changes = AreChangesNeeded-placed d old new names ready.lanes s.needed s.given settled.stays leaves settled.ranks ready.assignment ready.are_lanes ready.one_each ready.are_given leaving-placed placed;
+          compared = IsToBeCompared-placed d old new names ready.lanes s.needed s.given settled.stays leaves
+              settled.ranks ready.assignment ready.are_lanes ready.one_each ready.are_given leaving-placed placed;
+          changes = AreChangesNeeded-placed d old new names ready.lanes s.needed s.given settled.stays leaves
+              settled.ranks ready.assignment ready.are_lanes ready.one_each ready.are_given leaving-placed placed;
           number = λ (q : ℕ). rank_on s.needed new.assignment.lane_of_group settled.ranks q d.groups;
-          falls = FallsAlongWaits-placed d old new names ready.lanes s.needed s.given settled.stays leaves settled.ranks ready.assignment ready.are_lanes ready.one_each ready.are_given leaving-placed placed declaration
+          falls = FallsAlongWaits-placed d old new names ready.lanes s.needed s.given settled.stays leaves
+              settled.ranks ready.assignment ready.are_lanes ready.one_each ready.are_given leaving-placed placed
+              declaration
               (λ (q : ℕ). rank_on s.needed new.assignment.lane_of_group settled.ranks q d.groups) ranked;
           few = omega (arith, placed.few, are_leaving.one_each);
           bare = placed.bare;

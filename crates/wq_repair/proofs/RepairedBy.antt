@@ -33,45 +33,60 @@ graph-by {d = d} {s = s} {graph = graph} declaration long view same is =
     (IsGraphOfNeeded-without d declaration s.needed long)
 
 -- the same of lists that are known by other names
-pub IsTried-as : (old : Workqueues) (s : Scope) {xs ys : List Bool} {n m : ℕ} → xs ≡ ys → m ≡ n → Marks (IsTried old s) m ys → Marks (IsTried old s) n xs
-IsTried-as old s {ys = ys} {n = n} same long is = subst (Marks (IsTried old s) n) (sym same) (subst (λ (k : ℕ). Marks (IsTried old s) k ys) long is)
+pub IsTried-as : (old : Workqueues) (s : Scope) {xs ys : List Bool} {n m : ℕ} → xs ≡ ys → m ≡ n
+    → Marks (IsTried old s) m ys → Marks (IsTried old s) n xs
+IsTried-as old s {ys = ys} {n = n} same long is =
+    subst (Marks (IsTried old s) n) (sym same) (subst (λ (k : ℕ). Marks (IsTried old s) k ys) long is)
 
 pub marked-as : {xs ys : List Bool} → xs ≡ ys → (g : ℕ) → IsMarked xs g → IsMarked ys g
 marked-as same g marked = subst (λ (zs : List Bool). IsMarked zs g) same marked
 
-pub placed-as : {old new : Workqueues} {given stays leaves xs ys zs : List Bool} {ranks rs : List ℕ} → xs ≡ given → ys ≡ stays → zs ≡ leaves → rs ≡ ranks
+pub placed-as : {old new : Workqueues} {given stays leaves xs ys zs : List Bool} {ranks rs : List ℕ} → xs ≡ given
+    → ys ≡ stays → zs ≡ leaves → rs ≡ ranks
     → ArePlacedBy old xs ys zs rs new → ArePlacedBy old given stays leaves ranks new
-placed-as {old = old} {new = new} {given = given} {stays = stays} {leaves = leaves} {ys = ys} {zs = zs} {rs = rs} one two three four placed =
+placed-as {old = old} {new = new} {given = given} {stays = stays} {leaves = leaves} {ys = ys} {zs = zs} {rs = rs} one
+    two three four placed =
     subst (λ (k : List ℕ). ArePlacedBy old given stays leaves k new) four
     (subst (λ (k : List Bool). ArePlacedBy old given stays k rs new) three
     (subst (λ (k : List Bool). ArePlacedBy old given k zs rs new) two
     (subst (λ (k : List Bool). ArePlacedBy old k ys zs rs new) one placed)))
 
-pub hosted-as : (old new : Workqueues) {movable leaves xs zs : List Bool} → xs ≡ movable → zs ≡ leaves → AreHosted old xs zs new → AreHosted old movable leaves new
+pub hosted-as : (old new : Workqueues) {movable leaves xs zs : List Bool} → xs ≡ movable → zs ≡ leaves
+    → AreHosted old xs zs new → AreHosted old movable leaves new
 hosted-as old new {movable = movable} {zs = zs} one two hosted =
-    subst (λ (k : List Bool). AreHosted old movable k new) two (subst (λ (k : List Bool). AreHosted old k zs new) one hosted)
+    subst (λ (k : List Bool). AreHosted old movable k new) two
+    (subst (λ (k : List Bool). AreHosted old k zs new) one hosted)
 
 -- of what is settled
-module _ {d : Declaration} {old : Workqueues} {s : Scope} {tried : List Bool} {settled : Settled} (is : IsSettledIn d old s tried settled) where
+module _ {d : Declaration} {old : Workqueues} {s : Scope} {tried : List Bool} {settled : Settled}
+    (is : IsSettledIn d old s tried settled) where
   pub stays_long-by : length settled.stays ≡ d.groups
   stays_long-by = is.is.one_each ∙ is.of.long
 
   pub ranks_long-by : length settled.ranks ≡ d.groups
   ranks_long-by = is.is.ranks ∙ is.of.long
 
-  pub below-as : {rs : List ℕ} → rs ≡ settled.ranks → (most : ℕ) → most ≡ 4096 → (g : ℕ) → g < length rs → slice_index rs g < most
+  pub below-as : {rs : List ℕ} → rs ≡ settled.ranks → (most : ℕ) → most ≡ 4096 → (g : ℕ) → g < length rs
+      → slice_index rs g < most
   below-as {rs = rs} same most is_most g lt =
-      omega (arith, is.is.low g (omega (arith, lt, ap length same, is.is.ranks)), ap (λ (xs : List ℕ). slice_index xs g) same, is_most)
+      omega (
+        arith,
+        is.is.low g (omega (arith, lt, ap length same, is.is.ranks)),
+        ap (λ (xs : List ℕ). slice_index xs g) same,
+        is_most,
+      )
 
 module _ {d : Declaration} {old : Workqueues} {names : List ℕ} {s : Scope} {start : Workqueues} {tried : List Bool}
-    (declaration : IsDeclaration d) (ready : IsReady d old names s start) (are_tried : Marks (IsTried old s) d.groups tried) where
+    (declaration : IsDeclaration d) (ready : IsReady d old names s start)
+    (are_tried : Marks (IsTried old s) d.groups tried) where
   -- what is tried
   pub IsTrial-ready : {fixed : List Bool} {graph : List (List WaitArc)} → IsGraphOfNeeded d s.needed graph
       → Marks (IsButNot s.needed s.movable) d.groups fixed → IsTrial d s.needed fixed tried graph
   IsTrial-ready {fixed = fixed} of are_fixed = record {
     long = ready.one_each;
     of = of;
-    fixed_needed = λ g marked. ((are_fixed.exactly g (omega (arith, IsMarked-below fixed g marked, are_fixed.one_each))).0 marked).0;
+    fixed_needed = λ g marked. ((are_fixed.exactly g
+        (omega (arith, IsMarked-below fixed g marked, are_fixed.one_each))).0 marked).0;
     tried_needed = λ g marked.
         let lt : g < d.groups = omega (arith, IsMarked-below tried g marked, are_tried.one_each) in
         movable_needed d old names s start declaration ready g lt ((are_tried.exactly g lt).0 marked).0;
@@ -80,15 +95,19 @@ module _ {d : Declaration} {old : Workqueues} {names : List ℕ} {s : Scope} {st
   module _ {settled : Settled} {leaves : List Bool} (is : IsSettledIn d old s tried settled)
       (are_leaving : Marks (IsButNot s.movable settled.stays) d.groups leaves) where
     pub fine-by : (g : ℕ) → IsMarked settled.stays g → IsRescued old (lane_in old g) ⊎ IsMarked s.given (lane_in old g)
-    fine-by = fine-staying d old names s start declaration ready is.graph is.of is.fixed tried leaves settled is.are_fixed are_tried is.is are_leaving
+    fine-by = fine-staying d old names s start declaration ready is.graph is.of is.fixed tried leaves settled
+        is.are_fixed are_tried is.is are_leaving
 
     pub apart-by : (g : ℕ) → IsMarked settled.stays g → ¬ IsMarked leaves g
-    apart-by = apart-staying d old names s start declaration ready is.graph is.of is.fixed tried leaves settled is.are_fixed are_tried is.is are_leaving
+    apart-by = apart-staying d old names s start declaration ready is.graph is.of is.fixed tried leaves settled
+        is.are_fixed are_tried is.is are_leaving
 
     pub held-by : (g : ℕ) → g < d.groups → IsMarked leaves g → (h : ℕ) × (h < d.groups) ×
         (lane_in old h ≡ lane_in old g) × (¬ IsMarked leaves h)
-    held-by = held-leaving d old names s start declaration ready is.graph is.of is.fixed tried leaves settled is.are_fixed are_tried is.is are_leaving
+    held-by = held-leaving d old names s start declaration ready is.graph is.of is.fixed tried leaves settled
+        is.are_fixed are_tried is.is are_leaving
 
     pub IsMinimal-by : (new : Workqueues) → ArePlacedBy old s.given settled.stays leaves settled.ranks new
         → AreHosted old s.movable leaves new → IsMinimal d old names s.needed new
-    IsMinimal-by = IsMinimal-placed d old names s start declaration ready is.graph is.of is.fixed tried leaves settled is.are_fixed are_tried is.is are_leaving
+    IsMinimal-by = IsMinimal-placed d old names s start declaration ready is.graph is.of is.fixed tried leaves settled
+        is.are_fixed are_tried is.is are_leaving

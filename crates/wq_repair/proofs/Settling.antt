@@ -1,5 +1,6 @@
 -- Which groups were tried in vain, and what ranks say of those that stay.
-use Rattle.std.proofs.Common.{◌≡◌, ℕ, ◌+◌, ◌<◌, ◌≤◌, ◌⊎◌, inl, inr, Bool, true, false, not, List, [], ◌∷◌, length, map, set, refl, sym, ap, subst, ◌∙◌, arith, get_or-set_same, get_or-set_other}
+use Rattle.std.proofs.Common.{◌≡◌, ℕ, ◌+◌, ◌<◌, ◌≤◌, ◌⊎◌, inl, inr, Bool, true, false, not, List, [], ◌∷◌, length}
+use Rattle.std.proofs.Common.{map, set, refl, sym, ap, subst, ◌∙◌, arith, get_or-set_same, get_or-set_other}
 use Rattle.std.specs.Prelude.{Option, None, slice_index, slice_index_or, if◌then◌else◌, ◌==◌}
 use Rattle.std.proofs.Math.ListN.{length-set}
 use Rattle.std.proofs.lemmas.Bool.{cases_eq, cases_lt, cases_Bool, eqb-true, eq-eqb, false≢true}
@@ -21,7 +22,8 @@ use Rattle.wq_repair.specs.Marks.{IsMarked}
 use Rattle.wq_repair.specs.Near.{LeadsTo, LeadEitherWay}
 use Rattle.wq_repair.specs.Ready.{IsGraphOfNeeded, IsTrial, AreRanksOfGroups}
 use Rattle.wq_repair.specs.Together.{ArcBetween}
-use Rattle.wq_repair.specs.Settled.{Settled, IsHomeOf, AreHomes, AreVertices, HaveRanks, AreInVain, IsWithin, StaysOr, WasInVain, HasStaying, IsSettled, IsSettledBy, vertices_placed}
+use Rattle.wq_repair.specs.Settled.{Settled, IsHomeOf, AreHomes, AreVertices, HaveRanks, AreInVain, IsWithin, StaysOr}
+use Rattle.wq_repair.specs.Settled.{WasInVain, HasStaying, IsSettled, IsSettledBy, vertices_placed}
 use Rattle.wq_repair.proofs.Joining.{Circle-closed}
 use Rattle.wq_repair.proofs.Rescuers.{waiting-below, awaited-below}
 use Rattle.wq_repair.proofs.Judged.{group_arc, GroupsWait-arc, length-rescued_graph, IsGraph-rescued_graph}
@@ -36,7 +38,8 @@ arc-from graph v w arc = elim (cases_lt v (length graph)) [
 ]
 
 -- a group leads to the home of its lane, or that to it: with it at the home there is a circle
-module _ (graph : List (List WaitArc)) (sound : IsGraph graph) (old : Assignment) (stays : List Bool) (homes : List (Option ℕ)) (at : List ℕ)
+module _ (graph : List (List WaitArc)) (sound : IsGraph graph) (old : Assignment) (stays : List Bool)
+    (homes : List (Option ℕ)) (at : List ℕ)
     (long : length stays ≡ length graph) (are_homes : AreHomes old stays homes) (are : AreVertices old stays homes at)
     (g v : ℕ) (g_is : g < length stays) (out : ¬ IsMarked stays g) (home : IsHomeOf homes (group_lane old g) v) where
   abbrev moved : ℕ → ℕ
@@ -68,13 +71,17 @@ module _ (graph : List (List WaitArc)) (sound : IsGraph graph) (old : Assignment
     from = between.from;
     to = between.to;
     arc = between.arc;
-    leaves = new_of between.from (omega (arith, arc-from graph between.from between.to between.arc, long)) ∙ ap moved between.leaves;
-    leads = new_of between.to (omega (arith, HasArc-below graph sound between.from between.to between.arc, long)) ∙ ap moved between.leads;
+    leaves = new_of between.from (omega (arith, arc-from graph between.from between.to between.arc, long))
+        ∙ ap moved between.leaves;
+    leads = new_of between.to (omega (arith, HasArc-below graph sound between.from between.to between.arc, long))
+        ∙ ap moved between.leads;
   }
 
   circle : LeadEitherWay graph at g v → Circle (ArcBetween graph new)
-  circle (inl leads) = Circle-closed (ArcBetween graph at) (ArcBetween graph new) g v keeps g leads.others v leads.chain leads.step (to_v ∙ sym to_g)
-  circle (inr leads) = Circle-closed (ArcBetween graph at) (ArcBetween graph new) g v keeps v leads.others g leads.chain leads.step (to_g ∙ sym to_v)
+  circle (inl leads) = Circle-closed (ArcBetween graph at)
+      (ArcBetween graph new) g v keeps g leads.others v leads.chain leads.step (to_v ∙ sym to_g)
+  circle (inr leads) = Circle-closed (ArcBetween graph at)
+      (ArcBetween graph new) g v keeps v leads.others g leads.chain leads.step (to_g ∙ sym to_v)
 
   -- only the group itself is at its vertex
   only_g : (h : ℕ) → h < length stays → slice_index at h ≡ g → h ≡ g
@@ -86,7 +93,11 @@ module _ (graph : List (List WaitArc)) (sound : IsGraph graph) (old : Assignment
   -- what is at the home stays on the lane
   at_home : (h : ℕ) → h < length stays → slice_index at h ≡ v → IsMarked stays h × (group_lane old h ≡ group_lane old g)
   at_home h is same = elim (cases_marked stays h) [
-    | inl marked ↦ (marked, sym (home_is old stays homes at are_homes are h marked).1 ∙ ap (group_lane old) same ∙ v_is.1)
+    | inl marked ↦ (
+      marked,
+      sym (home_is old stays homes at are_homes are h marked).1 ∙ ap (group_lane old) same
+          ∙ v_is.1,
+    )
     | inr not ↦ absurd (not (subst (IsMarked stays) (sym same ∙ are.alone h is not) v_is.0))
   ]
 
@@ -121,37 +132,41 @@ module _ (graph : List (List WaitArc)) (sound : IsGraph graph) (old : Assignment
   }
 
 -- a choice that is right
-pub IsSettled-checked : (graph : List (List WaitArc)) (old : Assignment) (fixed tried vain : List Bool) (s : Settled) (homes : List (Option ℕ)) (at : List ℕ)
+pub IsSettled-checked : (graph : List (List WaitArc)) (old : Assignment) (fixed tried vain : List Bool) (s : Settled)
+    (homes : List (Option ℕ)) (at : List ℕ)
     → IsGraph graph → length s.stays ≡ length graph → IsWithin fixed tried s.stays → length tried ≡ length graph
     → AreHomes old s.stays homes → AreVertices old s.stays homes at → HaveRanks graph at s.ranks
     → ((g : ℕ) → g < length graph → IsMarked tried g → (¬ IsMarked s.stays g) → IsMarked vain g)
     → AreInVain graph old homes at vain → IsSettled graph old fixed tried (length graph) s
-IsSettled-checked graph old fixed tried vain s homes at sound long within tried_long are_homes are ranks all in_vain = record {
-  one_each = long;
-  within = within;
-  ranks = ranks.one_each;
-  low = ranks.low;
-  fall = ranks.fall;
-  same = λ g h g_stays h_stays lane.
-      sym (ranks.same g (omega (arith, IsMarked-below s.stays g g_stays, long)))
-      ∙ ap (slice_index s.ranks) (together old s.stays homes at are_homes are g h g_stays h_stays lane)
-      ∙ ranks.same h (omega (arith, IsMarked-below s.stays h h_stays, long));
-  vain = λ g lt marked out.
-      let leads = in_vain g (all g lt marked out) in
-      WasInVain-leads graph sound old s.stays homes at long are_homes are g leads.0 (omega (arith, lt, long)) out leads.1 leads.2;
-  held = λ g lt marked. elim (cases_marked s.stays g) [
-    | inl stay ↦ record { group = g; marked = stay; beside = refl }
-    | inr out ↦
-        let leads = in_vain g (all g lt marked out) in
-        let home = are_homes.on (group_lane old g) leads.0 leads.1 in
-        record { group = leads.0; marked = home.0; beside = home.1 }
-  ];
-}
+IsSettled-checked graph old fixed tried vain s homes at sound long within tried_long are_homes are ranks all in_vain =
+    record {
+      one_each = long;
+      within = within;
+      ranks = ranks.one_each;
+      low = ranks.low;
+      fall = ranks.fall;
+      same = λ g h g_stays h_stays lane.
+          sym (ranks.same g (omega (arith, IsMarked-below s.stays g g_stays, long)))
+          ∙ ap (slice_index s.ranks) (together old s.stays homes at are_homes are g h g_stays h_stays lane)
+          ∙ ranks.same h (omega (arith, IsMarked-below s.stays h h_stays, long));
+      vain = λ g lt marked out.
+          let leads = in_vain g (all g lt marked out) in
+          WasInVain-leads graph sound old s.stays homes at long are_homes are g leads.0
+          (omega (arith, lt, long)) out leads.1 leads.2;
+      held = λ g lt marked. elim (cases_marked s.stays g) [
+        | inl stay ↦ record { group = g; marked = stay; beside = refl }
+        | inr out ↦
+            let leads = in_vain g (all g lt marked out) in
+            let home = are_homes.on (group_lane old g) leads.0 leads.1 in
+            record { group = leads.0; marked = home.0; beside = home.1 }
+      ];
+    }
 
 -- ---- one group after the other
 
 -- a group that was tried in vain still was if more stay
-WasInVain-more : (graph : List (List WaitArc)) (old : Assignment) (stays more : List Bool) (g : ℕ) → ((h : ℕ) → IsMarked stays h → IsMarked more h)
+WasInVain-more : (graph : List (List WaitArc)) (old : Assignment) (stays more : List Bool) (g : ℕ)
+    → ((h : ℕ) → IsMarked stays h → IsMarked more h)
     → WasInVain graph old stays g → WasInVain graph old more g
 WasInVain-more graph old stays more g kept vain = record {
   at = vain.at;
@@ -173,7 +188,9 @@ module _ (stays : List Bool) (g : ℕ) where
 
   pub kept-with : (h : ℕ) → IsMarked stays h → IsMarked (set stays g true) h
   kept-with h marked = elim (cases_eq h g) [
-    | inl same ↦ subst (IsMarked (set stays g true)) (sym same) (get_or-set_same stays g true false (subst (λ (x : ℕ). x < length stays) same (IsMarked-below stays h marked)))
+    | inl same ↦ subst (IsMarked (set stays g true)) (sym same)
+        (get_or-set_same stays g true false (subst (λ (x : ℕ). x < length stays) same
+        (IsMarked-below stays h marked)))
     | inr other ↦ get_or-set_other stays g h true false other ∙ marked
   ]
 
@@ -186,7 +203,8 @@ module _ (stays : List Bool) (g : ℕ) where
     | inr other ↦ inr (sym (get_or-set_other stays g h true false other) ∙ marked)
   ]
 
-module _ (graph : List (List WaitArc)) (old : Assignment) (fixed tried : List Bool) (g : ℕ) (s : Settled) (is : IsSettled graph old fixed tried g s)
+module _ (graph : List (List WaitArc)) (old : Assignment) (fixed tried : List Bool) (g : ℕ) (s : Settled)
+    (is : IsSettled graph old fixed tried g s)
     (g_is : g < length graph) where
   abbrev more : List Bool
   more = set s.stays g true
@@ -220,7 +238,8 @@ module _ (graph : List (List WaitArc)) (old : Assignment) (fixed tried : List Bo
   }
 
   -- it is tried in vain
-  pub IsSettled-vain : ((¬ IsMarked s.stays g) → WasInVain graph old s.stays g) → HasStaying old s.stays g → IsSettled graph old fixed tried (g + 1) s
+  pub IsSettled-vain : ((¬ IsMarked s.stays g) → WasInVain graph old s.stays g) → HasStaying old s.stays g
+      → IsSettled graph old fixed tried (g + 1) s
   IsSettled-vain vain held = record {
     one_each = is.one_each;
     within = is.within;
@@ -229,7 +248,8 @@ module _ (graph : List (List WaitArc)) (old : Assignment) (fixed tried : List Bo
     fall = is.fall;
     same = is.same;
     vain = λ h lt marked out. elim (before h lt) [
-      | inl last ↦ subst (WasInVain graph old s.stays) (sym last) (vain (subst (λ (x : ℕ). ¬ IsMarked s.stays x) last out))
+      | inl last ↦ subst (WasInVain graph old s.stays) (sym last)
+          (vain (subst (λ (x : ℕ). ¬ IsMarked s.stays x) last out))
       | inr earlier ↦ is.vain h earlier marked out
     ];
     held = λ h lt marked. elim (before h lt) [
@@ -242,9 +262,15 @@ module _ (graph : List (List WaitArc)) (old : Assignment) (fixed tried : List Bo
   module _ (marked_g : IsMarked tried g) (ranks : List ℕ) (long : length ranks ≡ length graph)
       (low : (h : ℕ) → h < length graph → slice_index ranks h < 4096)
       (fall : (h k : ℕ) → HasArc graph h k → slice_index ranks k < slice_index ranks h)
-      (same : (h k : ℕ) → IsMarked (set s.stays g true) h → IsMarked (set s.stays g true) k → group_lane old h ≡ group_lane old k → slice_index ranks h ≡ slice_index ranks k) where
+      (same : (h k : ℕ) → IsMarked (set s.stays g true) h → IsMarked (set s.stays g true) k
+      → group_lane old h ≡ group_lane old k → slice_index ranks h ≡ slice_index ranks k) where
     staying-more : (h : ℕ) → HasStaying old s.stays h → HasStaying old more h
-    staying-more h has = record { group = has.group; marked = kept-with s.stays g has.group has.marked; beside = has.beside }
+    staying-more h has = record {
+      group = has.group;
+      marked = kept-with s.stays g has.group has.marked;
+      beside =
+          has.beside;
+    }
 
     pub IsSettled-stays : IsSettled graph old fixed tried (g + 1) (record { stays = set s.stays g true; ranks = ranks })
     IsSettled-stays = record {
@@ -276,7 +302,8 @@ module _ (graph : List (List WaitArc)) (old : Assignment) (fixed tried : List Bo
       → IsSettled graph old fixed tried (g + 1) (record { stays = set s.stays g true; ranks = s.ranks })
   IsSettled-first marked none = IsSettled-stays marked s.ranks is.ranks is.low is.fall same
     where
-      same : (h k : ℕ) → IsMarked more h → IsMarked more k → group_lane old h ≡ group_lane old k → slice_index s.ranks h ≡ slice_index s.ranks k
+      same : (h k : ℕ) → IsMarked more h → IsMarked more k → group_lane old h ≡ group_lane old k
+          → slice_index s.ranks h ≡ slice_index s.ranks k
       same h k h_stays k_stays lane = elim (was-with s.stays g h h_stays) [
         | inl h_last ↦ elim (was-with s.stays g k k_stays) [
           | inl k_last ↦ ap (slice_index s.ranks) (h_last ∙ sym k_last)
@@ -290,8 +317,10 @@ module _ (graph : List (List WaitArc)) (old : Assignment) (fixed tried : List Bo
 
 -- ---- vertices as lanes
 
-module _ (d : Declaration) (declaration : IsDeclaration d) (needed fixed tried stays : List Bool) (graph : List (List WaitArc)) (trial : IsTrial d needed fixed tried graph)
-    (old : Assignment) (homes : List (Option ℕ)) (at : List ℕ) (few : d.groups ≤ 4096) (stays_long : length stays ≡ d.groups)
+module _ (d : Declaration) (declaration : IsDeclaration d) (needed fixed tried stays : List Bool)
+    (graph : List (List WaitArc)) (trial : IsTrial d needed fixed tried graph)
+    (old : Assignment) (homes : List (Option ℕ)) (at : List ℕ) (few : d.groups ≤ 4096)
+    (stays_long : length stays ≡ d.groups)
     (stays_needed : (g : ℕ) → IsMarked stays g → IsMarked needed g)
     (are_homes : AreHomes old stays homes) (are : AreVertices old stays homes at) where
   abbrev ws : Workqueues
@@ -301,12 +330,17 @@ module _ (d : Declaration) (declaration : IsDeclaration d) (needed fixed tried s
   at_long = are.one_each ∙ stays_long
 
   below_at : (g : ℕ) → g < d.groups → slice_index at g < d.groups
-  below_at g lt = omega (arith, vertex_below old stays homes at are_homes are g (omega (arith, lt, stays_long)), stays_long)
+  below_at g lt = omega (
+    arith,
+    vertex_below old stays homes at are_homes are g (omega (arith, lt, stays_long)),
+    stays_long,
+  )
 
   assignment : IsAssignment d.groups ws.assignment
   assignment = record {
     one_each = at_long;
-    within = λ k e lt. subst (λ (x : ℕ). x < length at) (get_or_default at k 0 e lt) (omega (arith, below_at k (omega (arith, lt, at_long)), at_long));
+    within = λ k e lt. subst (λ (x : ℕ). x < length at) (get_or_default at k 0 e lt)
+        (omega (arith, below_at k (omega (arith, lt, at_long)), at_long));
   }
 
   lanes_few : ws.assignment.lanes ≤ 4096
@@ -332,7 +366,8 @@ module _ (d : Declaration) (declaration : IsDeclaration d) (needed fixed tried s
   needed-rescued : (g : ℕ) → g < d.groups → IsRescued ws (slice_index at g) → IsMarked needed g
   needed-rescued g lt rescued =
       let there : IsMarked needed (slice_index at g) =
-      not_false (slice_index_or needed (slice_index at g) false) (sym (bare-at (slice_index at g) (below_at g lt)) ∙ rescued) in
+      not_false (slice_index_or needed (slice_index at g) false)
+      (sym (bare-at (slice_index at g) (below_at g lt)) ∙ rescued) in
       elim (cases_marked stays g) [
         | inl marked ↦ stays_needed g marked
         | inr out ↦ subst (IsMarked needed) (are.alone g (omega (arith, lt, stays_long)) out) there
@@ -345,7 +380,14 @@ module _ (d : Declaration) (declaration : IsDeclaration d) (needed fixed tried s
       let h_is = awaited-below d declaration wait.group wait.awaited wait.waits in
       let needs = needed-rescued wait.group g_is (subst (IsRescued ws) (sym wait.from) wait.rescued) in
       let also = needed-rescued wait.awaited h_is (subst (IsRescued ws) (sym wait.to) wait.also) in
-      record { from = wait.group; to = wait.awaited; arc = (trial.of.arcs wait.group wait.awaited).1 (needs, also, wait.waits); leaves = wait.from; leads = wait.to }
+      record {
+        from = wait.group;
+        to = wait.awaited;
+        arc =
+            (trial.of.arcs wait.group wait.awaited).1 (needs, also, wait.waits);
+        leaves = wait.from;
+        leads = wait.to;
+      }
 
   pub Circle-between : Circle (HasArc (rescued_graph d ws)) → Circle (ArcBetween graph at)
   Circle-between circle = Circle-map (HasArc (rescued_graph d ws)) (ArcBetween graph at) (λ v. v) between circle
@@ -372,20 +414,25 @@ module _ (d : Declaration) (declaration : IsDeclaration d) (needed fixed tried s
         let parts = (trial.of.arcs g h).0 arc in
         let g_is = waiting-below d declaration g h parts.2 in
         let h_is = awaited-below d declaration g h parts.2 in
-        let between_lanes = group_arc d ws declaration assignment g h parts.2 (rescued-at g g_is parts.0) (rescued-at h h_is parts.1) in
-        let falls = AreRanks-fall (rescued_graph d ws) of_groups.of_lanes sound of_groups.are (slice_index at g) (slice_index at h)
+        let between_lanes = group_arc d ws declaration assignment g h parts.2 (rescued-at g g_is parts.0)
+        (rescued-at h h_is parts.1) in
+        let falls = AreRanks-fall (rescued_graph d ws) of_groups.of_lanes sound of_groups.are (slice_index at g)
+        (slice_index at h)
         (omega (arith, below_at g g_is, lanes_long)) between_lanes in
         omega (arith, falls, of_groups.exactly g g_is, of_groups.exactly h h_is)
 
-    pub same-placed : (g h : ℕ) → IsMarked stays g → IsMarked stays h → group_lane old g ≡ group_lane old h → slice_index ranks g ≡ slice_index ranks h
+    pub same-placed : (g h : ℕ) → IsMarked stays g → IsMarked stays h → group_lane old g ≡ group_lane old h
+        → slice_index ranks g ≡ slice_index ranks h
     same-placed g h g_stays h_stays lane =
         of_groups.exactly g (omega (arith, IsMarked-below stays g g_stays, stays_long))
         ∙ ap (slice_index of_groups.of_lanes) (together old stays homes at are_homes are g h g_stays h_stays lane)
         ∙ sym (of_groups.exactly h (omega (arith, IsMarked-below stays h h_stays, stays_long)))
 
 -- group g is tried, where others stay on its lane
-module _ (d : Declaration) (declaration : IsDeclaration d) (needed fixed tried : List Bool) (graph : List (List WaitArc)) (trial : IsTrial d needed fixed tried graph)
-    (old : Assignment) (few : d.groups ≤ 4096) (g : ℕ) (g_is : g < d.groups) (marked_g : IsMarked tried g) (s : Settled) (is : IsSettled graph old fixed tried g s) where
+module _ (d : Declaration) (declaration : IsDeclaration d) (needed fixed tried : List Bool)
+    (graph : List (List WaitArc)) (trial : IsTrial d needed fixed tried graph)
+    (old : Assignment) (few : d.groups ≤ 4096) (g : ℕ) (g_is : g < d.groups) (marked_g : IsMarked tried g)
+    (s : Settled) (is : IsSettled graph old fixed tried g s) where
   more_long : length (set s.stays g true) ≡ d.groups
   more_long = length-set s.stays g true ∙ is.one_each ∙ trial.of.long
 
@@ -402,27 +449,35 @@ module _ (d : Declaration) (declaration : IsDeclaration d) (needed fixed tried :
   g_below_graph = omega (arith, g_is, trial.of.long)
 
   -- that makes no circle
-  pub IsSettled-ranked : (ranks : List ℕ) → IsSettledBy old needed (set s.stays g true) (λ (ws : Workqueues). AreRanksOfGroups d ws ranks)
+  pub IsSettled-ranked : (ranks : List ℕ) → IsSettledBy old needed (set s.stays g true)
+      (λ (ws : Workqueues). AreRanksOfGroups d ws ranks)
       → IsSettled graph old fixed tried (g + 1) (record { stays = set s.stays g true; ranks = ranks })
   IsSettled-ranked ranks by =
       let more : List Bool = set s.stays g true in
       IsSettled-stays graph old fixed tried g s is g_below_graph marked_g ranks
-      (long-placed d declaration needed fixed tried more graph trial old by.homes by.vertices few more_long more_needed by.are_homes by.are_vertices ranks by.holds)
-      (low-placed d declaration needed fixed tried more graph trial old by.homes by.vertices few more_long more_needed by.are_homes by.are_vertices ranks by.holds)
-      (fall-placed d declaration needed fixed tried more graph trial old by.homes by.vertices few more_long more_needed by.are_homes by.are_vertices ranks by.holds)
-      (same-placed d declaration needed fixed tried more graph trial old by.homes by.vertices few more_long more_needed by.are_homes by.are_vertices ranks by.holds)
+      (long-placed d declaration needed fixed tried more graph trial old by.homes by.vertices few more_long
+      more_needed by.are_homes by.are_vertices ranks by.holds)
+      (low-placed d declaration needed fixed tried more graph trial old by.homes by.vertices few more_long more_needed
+      by.are_homes by.are_vertices ranks by.holds)
+      (fall-placed d declaration needed fixed tried more graph trial old by.homes by.vertices few more_long
+      more_needed by.are_homes by.are_vertices ranks by.holds)
+      (same-placed d declaration needed fixed tried more graph trial old by.homes by.vertices few more_long
+      more_needed by.are_homes by.are_vertices ranks by.holds)
 
   -- that makes a circle
-  pub IsSettled-circle : IsSettledBy old needed (set s.stays g true) (λ (ws : Workqueues). Circle (HasArc (rescued_graph d ws)))
+  pub IsSettled-circle : IsSettledBy old needed (set s.stays g true)
+      (λ (ws : Workqueues). Circle (HasArc (rescued_graph d ws)))
       → HasStaying old s.stays g → IsSettled graph old fixed tried (g + 1) s
   IsSettled-circle by held =
       let more : List Bool = set s.stays g true in
       IsSettled-vain graph old fixed tried g s is g_below_graph (λ out. record {
         at = by.vertices;
         together = λ h k h_is k_is same.
-            elim (apart old more by.homes by.vertices by.are_homes by.are_vertices h k (omega (arith, h_is, more_long, trial.of.long)) (omega (arith, k_is, more_long, trial.of.long)) same) [
+            elim (apart old more by.homes by.vertices by.are_homes by.are_vertices h k
+            (omega (arith, h_is, more_long, trial.of.long)) (omega (arith, k_is, more_long, trial.of.long)) same) [
               | inl one ↦ inl one
               | inr two ↦ inr (was-with s.stays g h two.0, was-with s.stays g k two.1, two.2)
             ];
-        circle = Circle-between d declaration needed fixed tried more graph trial old by.homes by.vertices few more_long more_needed by.are_homes by.are_vertices by.holds;
+        circle = Circle-between d declaration needed fixed tried more graph trial old by.homes by.vertices few
+            more_long more_needed by.are_homes by.are_vertices by.holds;
       }) held

@@ -3,7 +3,8 @@
 //! It is made if the choice of `wq_choice` is wrong. For each group that may stay the graph of all is ranked anew, so
 //! with g groups and w waits it takes time in g * (g + w), and memory in g + w.
 
-ghost use Rattle.std.specs.Prelude.{◌≡◌, ◌+◌, ◌<◌, ◌≤◌, ℕ, Bool, List, true, length, slice_index, slice_set, IfOk, IfSome, IfNone};
+ghost use Rattle.std.specs.Prelude.{◌≡◌, ◌+◌, ◌<◌, ◌≤◌, ℕ, Bool, List, true, length, slice_index, slice_set};
+ghost use Rattle.std.specs.Prelude.{IfOk, IfSome, IfNone};
 ghost use Rattle.std.specs.List.{All};
 ghost use Rattle.wq_groups.specs.DeclaredGroups.{declared_waits};
 ghost use Rattle.wq_items.specs.Chain.{Circle};
@@ -106,10 +107,10 @@ fn ranks_if<A: Allocator + Copy>(
     requires assigned { length assignment.now.lane_of_group ≡ start.now.declared.partition.groups }
     requires needed { length needed.now ≡ start.now.declared.partition.groups }
     requires stays { length stays.now ≡ start.now.declared.partition.groups }
-    ensures some { IfOk result (λ ranks. IfSome ranks (λ ranks. IsSettledBy assignment.now needed.now stays.now (λ ws. AreRanksOfGroups
-        (declared_waits start.now.declared) ws ranks.items))) }
-    ensures none { IfOk result (λ ranks. IfNone ranks (IsSettledBy assignment.now needed.now stays.now (λ ws. Circle
-        (HasArc (rescued_graph (declared_waits start.now.declared) ws))))) }
+    ensures some { IfOk result (λ ranks. IfSome ranks (λ ranks. IsSettledBy assignment.now needed.now stays.now
+        (λ ws. AreRanksOfGroups (declared_waits start.now.declared) ws ranks.items))) }
+    ensures none { IfOk result (λ ranks. IfNone ranks (IsSettledBy assignment.now needed.now stays.now
+        (λ ws. Circle (HasArc (rescued_graph (declared_waits start.now.declared) ws))))) }
 {
     let _few = workqueues_of(start);
     let homes = homes_of(alloc, assignment, stays)?;

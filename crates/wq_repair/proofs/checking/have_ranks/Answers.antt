@@ -24,14 +24,16 @@ loop-group-preserved g c =
         | inl last ↦
             ap (λ (x : ℕ). slice_index ranks (slice_index at x)) last
             ∙ ap (λ (x : ℕ). slice_index ranks (slice_index at x)) (sym c.from-in-loop-group-2.ensures)
-            ∙ ap (slice_index ranks) (sym c.from-else-rank-ge-RANKS.ensures) ∙ c.if-ranks-from-2.false ∙ sym rank_is ∙ ap (slice_index ranks) (sym last)
+            ∙ ap (slice_index ranks) (sym c.from-else-rank-ge-RANKS.ensures) ∙ c.if-ranks-from-2.false ∙ sym rank_is
+            ∙ ap (slice_index ranks) (sym last)
         | inr other ↦ c.loop-group.invariant.same k (omega (arith, lt, other))
       ];
       fall = λ k h lt arc. elim (cases_eq k i) [
         | inl last ↦
             let here : HasArc graph i h = subst (λ (x : ℕ). HasArc graph x h) last arc in
             let lower : slice_index ranks h < rank =
-            c.is_above.ensures c.if-not-is_above.false h (subst (Any (λ (b : WaitArc). b.head ≡ h)) (sym c.arcs.ensures) here) in
+            c.is_above.ensures c.if-not-is_above.false h
+            (subst (Any (λ (b : WaitArc). b.head ≡ h)) (sym c.arcs.ensures) here) in
             omega (arith, lower, rank_is, ap (slice_index ranks) last)
         | inr other ↦ c.loop-group.invariant.fall k h (omega (arith, lt, other)) arc
       ];
@@ -44,6 +46,7 @@ returns g c =
     λ yes. record {
       one_each = omega (arith, c.if-ranks-from.false, c.from.ensures, count);
       low = λ k lt. c.loop-group.invariant.low k (omega (arith, lt, count, c.loop-group-test.false));
-      fall = λ k h arc. c.loop-group.invariant.fall k h (omega (arith, arc-from graph k h arc, count, c.loop-group-test.false)) arc;
+      fall = λ k h arc. c.loop-group.invariant.fall k h
+          (omega (arith, arc-from graph k h arc, count, c.loop-group-test.false)) arc;
       same = λ k lt. c.loop-group.invariant.same k (omega (arith, lt, count, c.loop-group-test.false));
     }

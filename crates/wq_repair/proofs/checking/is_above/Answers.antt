@@ -12,7 +12,8 @@ loop-arc-preserved c =
     let a : WaitArc = c.arc-item.result in
     λ h below. elim (HeadBelow-last arcs i a c.loop-arc-test.true c.arc-item.is h below) [
       | inl before ↦ c.loop-arc.invariant h before
-      | inr same ↦ subst (λ (x : ℕ). slice_index ranks x < c.args.rank) (sym same) (omega (arith, c.if-rank-ranks.false, ap (slice_index ranks) c.from.ensures))
+      | inr same ↦ subst (λ (x : ℕ). slice_index ranks x < c.args.rank) (sym same)
+          (omega (arith, c.if-rank-ranks.false, ap (slice_index ranks) c.from.ensures))
     ]
 
 pub returns : goal.returns

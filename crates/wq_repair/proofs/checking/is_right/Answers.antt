@@ -15,7 +15,8 @@ have_ranks-requires-clause-one_each g c = c.requires.vertices.one_each ∙ c.req
 pub have_ranks-requires-clause-within : goal.have_ranks-requires-clause-within
 have_ranks-requires-clause-within g c =
     subst (λ (n : ℕ). All (λ (v : ℕ). v < n) c.args.vertices.now) c.requires.stays
-    (vertices-within c.args.assignment.now c.args.stays.now c.args.homes.now c.args.vertices.now c.requires.homes c.requires.vertices)
+    (vertices-within c.args.assignment.now c.args.stays.now c.args.homes.now c.args.vertices.now c.requires.homes
+    c.requires.vertices)
 
 pub but_not-requires : goal.but_not-requires
 but_not-requires g c = c.requires.stays ∙ sym c.requires.tried
@@ -29,21 +30,26 @@ are_in_vain-requires-clause-one_each g c = c.requires.vertices.one_each ∙ c.re
 pub are_in_vain-requires-clause-within : goal.are_in_vain-requires-clause-within
 are_in_vain-requires-clause-within g c =
     subst (λ (n : ℕ). All (λ (v : ℕ). v < n) c.args.vertices.now) c.requires.stays
-    (vertices-within c.args.assignment.now c.args.stays.now c.args.homes.now c.args.vertices.now c.requires.homes c.requires.vertices)
+    (vertices-within c.args.assignment.now c.args.stays.now c.args.homes.now c.args.vertices.now c.requires.homes
+    c.requires.vertices)
 
 pub are_in_vain-requires-clause-ranks : goal.are_in_vain-requires-clause-ranks
 are_in_vain-requires-clause-ranks g c = (c.have_ranks.ensures c.if-not-have_ranks.false).one_each
 
 pub are_in_vain-requires-clause-groups : goal.are_in_vain-requires-clause-groups
-are_in_vain-requires-clause-groups g c = ap length c.as_slice.ensures.value ∙ c.in_ok-vain.ensures.one_each ∙ c.requires.tried
+are_in_vain-requires-clause-groups g c = ap length c.as_slice.ensures.value ∙ c.in_ok-vain.ensures.one_each
+    ∙ c.requires.tried
 
 pub returns : goal.returns
 returns g c =
     let vain = c.in_ok-vain.vain.items in
     IfOk-weaker c.are_in_vain.result _ _ (λ is sound yes fixed within.
-    IsSettled-checked c.args.graph.now c.args.assignment.now fixed c.args.tried.now vain (record { stays = c.args.stays.now; ranks = c.args.ranks.now })
-    c.args.homes.now c.args.vertices.now c.vertices-groups.ensures.graph c.requires.stays within c.requires.tried c.requires.homes c.requires.vertices
+    IsSettled-checked c.args.graph.now c.args.assignment.now fixed c.args.tried.now
+    vain (record { stays = c.args.stays.now; ranks = c.args.ranks.now })
+    c.args.homes.now c.args.vertices.now c.vertices-groups.ensures.graph c.requires.stays within c.requires.tried
+    c.requires.homes c.requires.vertices
     (c.have_ranks.ensures c.if-not-have_ranks.false)
     (λ v lt marked out. (c.in_ok-vain.ensures.exactly v (omega (arith, lt, c.requires.tried))).1 (marked, out))
-    (subst (AreInVain c.args.graph.now c.args.assignment.now c.args.homes.now c.args.vertices.now) c.as_slice.ensures.value (sound yes)))
+    (subst (AreInVain c.args.graph.now c.args.assignment.now c.args.homes.now c.args.vertices.now)
+    c.as_slice.ensures.value (sound yes)))
     c.are_in_vain.ensures

@@ -32,7 +32,8 @@ loop-group-preserved g c =
     let i = c.loop-group.group in
     let stays = c.args.stays.now in
     let homes = c.args.homes.now in
-    let read : group_lane a i ≡ c.lane.result = lane-read a a i c.new.result c.lane.result refl (omega (arith, c.new.ensures)) c.lane.ensures in
+    let read : group_lane a i ≡ c.lane.result =
+    lane-read a a i c.new.result c.lane.result refl (omega (arith, c.new.ensures)) c.lane.ensures in
     let at : c.from.result ≡ group_lane a i = omega (arith, read, c.get-lane.ensures, c.from.ensures) in
     subst (AreVerticesBelow a stays homes (i + 1)) (sym c.in_ok-push-2.ensures.items)
     (AreVerticesBelow-push a stays homes i c.unwrap.result c.loop-group.vertices.items c.loop-group.invariant
@@ -42,7 +43,8 @@ loop-group-preserved g c =
 pub returns : goal.returns
 returns g c =
     let is = c.loop-group.invariant in
-    let long : c.loop-group.group ≡ length c.args.stays.now = omega (arith, c.loop-group-test.false, c.loop-group.auto.group-end) in
+    let long : c.loop-group.group ≡ length c.args.stays.now =
+    omega (arith, c.loop-group-test.false, c.loop-group.auto.group-end) in
     record {
       one_each = omega (arith, is.one_each, long);
       home = λ h marked. is.home h (omega (arith, IsMarked-below c.args.stays.now h marked, long)) marked;

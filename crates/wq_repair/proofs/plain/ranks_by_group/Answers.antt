@@ -29,11 +29,14 @@ ranks_of_groups-requires-clause-one_each g c =
     let assignment : IsAssignment d.groups ws.assignment =
     subst (λ (x : Workqueues). IsAssignment d.groups x.assignment) c.workqueues_of-workqueues.ensures.is
     c.workqueues_of-workqueues.ensures.assignment.assignment in
-    let ranking : AreRanks c.in_ok-graph.graph c.in-Ranks.ranks.items = rw c.in-Ranks.is at c.in_ok-ranks.ensures.ranking in
+    let ranking : AreRanks c.in_ok-graph.graph c.in-Ranks.ranks.items =
+    rw c.in-Ranks.is at c.in_ok-ranks.ensures.ranking in
     let are : AreRanks (rescued_graph d ws) c.in-Ranks.ranks.items =
-    subst (λ (graph : List (List WaitArc)). AreRanks graph c.in-Ranks.ranks.items) c.in_ok-graph.ensures.graph ranking in
+    subst (λ (graph : List (List WaitArc)). AreRanks graph c.in-Ranks.ranks.items) c.in_ok-graph.ensures.graph
+    ranking in
     ap length c.as_slice.ensures.value ∙ are.one_each ∙ length-rescued_graph d ws declaration assignment
-    ∙ sym (ap (λ (x : Assignment). x.lanes) c.assignment.ensures ∙ ap (λ (x : Workqueues). x.assignment.lanes) c.workqueues_of-workqueues.ensures.is)
+    ∙ sym (ap (λ (x : Assignment). x.lanes) c.assignment.ensures
+    ∙ ap (λ (x : Workqueues). x.assignment.lanes) c.workqueues_of-workqueues.ensures.is)
 
 pub returns-in-Ranks-clause-some : goal.returns-in-Ranks-clause-some
 returns-in-Ranks-clause-some g c =
@@ -44,22 +47,28 @@ returns-in-Ranks-clause-some g c =
     let assignment : IsAssignment d.groups ws.assignment =
     subst (λ (x : Workqueues). IsAssignment d.groups x.assignment) c.workqueues_of-workqueues.ensures.is
     c.workqueues_of-workqueues.ensures.assignment.assignment in
-    let ranking : AreRanks c.in_ok-graph.graph c.in-Ranks.ranks.items = rw c.in-Ranks.is at c.in_ok-ranks.ensures.ranking in
+    let ranking : AreRanks c.in_ok-graph.graph c.in-Ranks.ranks.items =
+    rw c.in-Ranks.is at c.in_ok-ranks.ensures.ranking in
     let are : AreRanks (rescued_graph d ws) c.in-Ranks.ranks.items =
-    subst (λ (graph : List (List WaitArc)). AreRanks graph c.in-Ranks.ranks.items) c.in_ok-graph.ensures.graph ranking in
-    let number : c.len-groups.result ≡ d.groups = c.len-groups.ensures.len ∙ ap (λ (p : Partition). p.groups) c.groups.ensures.is in
-    let lanes : c.assignment.result.now ≡ ws.assignment = c.assignment.ensures ∙ ap (λ (x : Workqueues). x.assignment) c.workqueues_of-workqueues.ensures.is in
+    subst (λ (graph : List (List WaitArc)). AreRanks graph c.in-Ranks.ranks.items) c.in_ok-graph.ensures.graph
+    ranking in
+    let number : c.len-groups.result ≡ d.groups = c.len-groups.ensures.len
+    ∙ ap (λ (p : Partition). p.groups) c.groups.ensures.is in
+    let lanes : c.assignment.result.now ≡ ws.assignment = c.assignment.ensures
+    ∙ ap (λ (x : Workqueues). x.assignment) c.workqueues_of-workqueues.ensures.is in
     record {
       of_lanes = c.in-Ranks.ranks.items;
       are = are;
       one_each = c.in_ok-of_groups-in-Ranks.ensures.one_each ∙ number;
       exactly = λ v lt.
           c.in_ok-of_groups-in-Ranks.ensures.ranks v (omega (arith, lt, number))
-          ∙ ap (λ (xs : List ℕ). slice_index xs (slice_index c.assignment.result.now.lane_of_group v)) c.as_slice.ensures.value
+          ∙ ap (λ (xs : List ℕ). slice_index xs (slice_index c.assignment.result.now.lane_of_group v))
+          c.as_slice.ensures.value
           ∙ ap (λ (x : Assignment). slice_index c.in-Ranks.ranks.items (group_lane x v)) lanes;
     }
 
 pub returns-clause-none : goal.returns-clause-none
 returns-clause-none g c =
-    let has = HasCircle-walked c.in_ok-graph.graph c.vertices-vertices.ensures.graph c.in-Circle.field-0.items (rw c.in-Circle.is at c.in_ok-ranks.ensures.ranking) in
+    let has = HasCircle-walked c.in_ok-graph.graph c.vertices-vertices.ensures.graph c.in-Circle.field-0.items
+    (rw c.in-Circle.is at c.in_ok-ranks.ensures.ranking) in
     subst (λ (graph : List (List WaitArc)). Circle (HasArc graph)) c.in_ok-graph.ensures.graph has.0

@@ -20,18 +20,26 @@ vertices_of-requires-clause-homes g c =
 
 pub vertices_as_lanes-requires-clause-one_each : goal.vertices_as_lanes-requires-clause-one_each
 vertices_as_lanes-requires-clause-one_each g c =
-    c.requires.needed ∙ sym c.requires.stays ∙ sym c.in_ok-vertices.ensures.one_each ∙ sym (ap length c.as_slice-2.ensures.value)
+    c.requires.needed ∙ sym c.requires.stays ∙ sym c.in_ok-vertices.ensures.one_each
+    ∙ sym (ap length c.as_slice-2.ensures.value)
 
 pub vertices_as_lanes-requires-clause-few : goal.vertices_as_lanes-requires-clause-few
 vertices_as_lanes-requires-clause-few g c =
-    omega (arith, ap length c.as_slice-2.ensures.value, c.in_ok-vertices.ensures.one_each, c.requires.stays, c.workqueues_of-few.ensures.few)
+    omega (
+      arith,
+      ap length c.as_slice-2.ensures.value,
+      c.in_ok-vertices.ensures.one_each,
+      c.requires.stays,
+      c.workqueues_of-few.ensures.few,
+    )
 
 pub vertices_as_lanes-requires-clause-within : goal.vertices_as_lanes-requires-clause-within
 vertices_as_lanes-requires-clause-within g c =
     let homes = c.in_ok-homes.homes.items in
     let vertices = c.in_ok-vertices.vertices.items in
     let are : AreVertices c.args.assignment.now c.args.stays.now homes vertices =
-    subst (λ xs. AreVertices c.args.assignment.now c.args.stays.now xs vertices) c.as_slice.ensures.value c.in_ok-vertices.ensures in
+    subst (λ xs. AreVertices c.args.assignment.now c.args.stays.now xs vertices) c.as_slice.ensures.value
+    c.in_ok-vertices.ensures in
     subst (λ (xs : List ℕ). All (λ (v : ℕ). v < length xs) xs) (sym c.as_slice-2.ensures.value)
     (subst (λ (n : ℕ). All (λ (v : ℕ). v < n) vertices) (sym are.one_each)
     (vertices-within c.args.assignment.now c.args.stays.now homes vertices c.in_ok-homes.ensures are))
@@ -52,13 +60,18 @@ returns-clause-some g c =
     let vertices = c.in_ok-vertices.vertices.items in
     let are : AreVertices old stays homes vertices =
     subst (λ xs. AreVertices old stays xs vertices) c.as_slice.ensures.value c.in_ok-vertices.ensures in
-    let placed : c.in_ok-placed.placed ≡ vertices_placed needed vertices = c.in_ok-placed.ensures ∙ ap (vertices_placed needed) c.as_slice-2.ensures.value in
+    let placed : c.in_ok-placed.placed ≡ vertices_placed needed vertices = c.in_ok-placed.ensures
+    ∙ ap (vertices_placed needed) c.as_slice-2.ensures.value in
     let found =
-    subst (λ (ws : Workqueues). IfOk c.ranks_by_group.result (λ r. IfSome r (λ ranks. AreRanksOfGroups d ws ranks.items))) placed
-    (subst (λ (m : Assigned). IfOk c.ranks_by_group.result (λ r. IfSome r (λ ranks. AreRanksOfGroups (declared_waits m.declared) m.workqueues ranks.items))) c.with_workqueues-merged.ensures
+    subst (λ (ws : Workqueues). IfOk c.ranks_by_group.result
+    (λ r. IfSome r (λ ranks. AreRanksOfGroups d ws ranks.items))) placed
+    (subst (λ (m : Assigned). IfOk c.ranks_by_group.result
+    (λ r. IfSome r (λ ranks. AreRanksOfGroups (declared_waits m.declared) m.workqueues ranks.items)))
+    c.with_workqueues-merged.ensures
     c.ranks_by_group.ensures.some) in
     IfOk-weaker c.ranks_by_group.result _ _ (λ r some. IfSome_then r some (λ ranks is.
-    record { homes = homes; vertices = vertices; are_homes = c.in_ok-homes.ensures; are_vertices = are; holds = is })) found
+    record { homes = homes; vertices = vertices; are_homes = c.in_ok-homes.ensures; are_vertices = are; holds = is }))
+    found
 
 pub returns-clause-none : goal.returns-clause-none
 returns-clause-none g c =
@@ -71,10 +84,21 @@ returns-clause-none g c =
     let vertices = c.in_ok-vertices.vertices.items in
     let are : AreVertices old stays homes vertices =
     subst (λ xs. AreVertices old stays xs vertices) c.as_slice.ensures.value c.in_ok-vertices.ensures in
-    let placed : c.in_ok-placed.placed ≡ vertices_placed needed vertices = c.in_ok-placed.ensures ∙ ap (vertices_placed needed) c.as_slice-2.ensures.value in
+    let placed : c.in_ok-placed.placed ≡ vertices_placed needed vertices = c.in_ok-placed.ensures
+    ∙ ap (vertices_placed needed) c.as_slice-2.ensures.value in
     let found =
-    subst (λ (ws : Workqueues). IfOk c.ranks_by_group.result (λ r. IfNone r (Circle (HasArc (rescued_graph d ws))))) placed
-    (subst (λ (m : Assigned). IfOk c.ranks_by_group.result (λ r. IfNone r (Circle (HasArc (rescued_graph (declared_waits m.declared) m.workqueues))))) c.with_workqueues-merged.ensures
+    subst (λ (ws : Workqueues). IfOk c.ranks_by_group.result (λ r. IfNone r (Circle (HasArc (rescued_graph d ws)))))
+    placed
+    (subst (λ (m : Assigned). IfOk c.ranks_by_group.result
+    (λ r. IfNone r (Circle (HasArc (rescued_graph (declared_waits m.declared) m.workqueues)))))
+    c.with_workqueues-merged.ensures
     c.ranks_by_group.ensures.none) in
     IfOk-weaker c.ranks_by_group.result _ _ (λ r none. IfNone_then r none (λ circle.
-    record { homes = homes; vertices = vertices; are_homes = c.in_ok-homes.ensures; are_vertices = are; holds = circle })) found
+    record {
+      homes = homes;
+      vertices = vertices;
+      are_homes = c.in_ok-homes.ensures;
+      are_vertices = are;
+      holds =
+          circle;
+    })) found

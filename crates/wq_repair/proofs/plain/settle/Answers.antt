@@ -16,15 +16,23 @@ ranks_of_start-requires g c = (c.args.old.now, c.requires.ready.0, c.args.scope.
 pub loop-group-init : goal.loop-group-init
 loop-group-init g c =
     let fixed : c.extend_from_slice.new.self.items ≡ c.args.fixed.now =
-    c.in_ok-extend_from_slice.ensures.items ∙ ap (λ (xs : List Bool). xs ++ c.args.fixed.now) c.new-stays.ensures.items in
+    c.in_ok-extend_from_slice.ensures.items ∙ ap
+    (λ (xs : List Bool). xs ++ c.args.fixed.now) c.new-stays.ensures.items in
     let few : c.args.start.now.workqueues.assignment.lanes ≤ 4096 =
-    omega (arith, c.workqueues_of-few.ensures.assignment.few, ap (λ (ws : Workqueues). ws.assignment.lanes) c.workqueues_of-few.ensures.is) in
+    omega (
+      arith,
+      c.workqueues_of-few.ensures.assignment.few,
+      ap (λ (ws : Workqueues). ws.assignment.lanes) c.workqueues_of-few.ensures.is,
+    ) in
     record {
       one_each = ap length fixed ∙ c.requires.fixed.one_each;
       settled = λ graph trial.
-          subst (λ (xs : List Bool). IsSettled graph c.args.old.now.assignment c.args.fixed.now c.args.tried.now 0 (record { stays = xs; ranks = c.in_ok-ranks.ranks.items })) (sym fixed)
-          (IsSettled-start (declared_waits c.args.start.now.declared) c.args.old.now c.requires.ready.0 c.args.scope.now c.args.start.now.workqueues
-          c.workqueues_of-few.ensures.declaration c.requires.ready.1 graph trial.of few c.in_ok-ranks.ranks.items c.in_ok-ranks.ensures
+          subst (λ (xs : List Bool). IsSettled graph c.args.old.now.assignment c.args.fixed.now c.args.tried.now 0
+          (record { stays = xs; ranks = c.in_ok-ranks.ranks.items })) (sym fixed)
+          (IsSettled-start (declared_waits c.args.start.now.declared) c.args.old.now c.requires.ready.0
+          c.args.scope.now c.args.start.now.workqueues
+          c.workqueues_of-few.ensures.declaration c.requires.ready.1 graph trial.of few c.in_ok-ranks.ranks.items
+          c.in_ok-ranks.ensures
           c.args.fixed.now c.args.tried.now c.requires.fixed);
     }
 
@@ -32,7 +40,8 @@ pub loop-group-preserved-then-not-is_tried : goal.loop-group-preserved-then-not-
 loop-group-preserved-then-not-is_tried g c = record {
   one_each = c.loop-group.invariant.one_each;
   settled = λ graph trial.
-      IsSettled-skip graph c.args.old.now.assignment c.args.fixed.now c.args.tried.now c.loop-group.group c.loop-group.settled
+      IsSettled-skip graph c.args.old.now.assignment c.args.fixed.now c.args.tried.now c.loop-group.group
+      c.loop-group.settled
       (c.loop-group.invariant.settled graph trial)
       (omega (arith, c.loop-group-test.true, c.requires.tried, trial.of.long))
       (λ marked. false≢true (sym c.if-not-is_tried.true ∙ marked));
@@ -60,13 +69,16 @@ loop-group-preserved g c =
       settled = λ graph trial.
           subst (λ (a : Assignment). IsSettled graph a fixed tried (i + 1) c.try_group.new.settled) c.assignment.ensures
           (c.in_ok-try_group.ensures.settled graph fixed tried
-          (subst (λ (xs : List Bool). IsTrial d xs fixed tried graph) (sym (c.as_slice.ensures.value ∙ ap (λ (x : Scope). x.needed) c.scope.view_is)) trial)
+          (subst (λ (xs : List Bool). IsTrial d xs fixed tried graph)
+          (sym (c.as_slice.ensures.value ∙ ap (λ (x : Scope). x.needed) c.scope.view_is)) trial)
           c.if-not-is_tried.false
-          (subst (λ (a : Assignment). IsSettled graph a fixed tried i c.loop-group.settled) (sym c.assignment.ensures) (c.loop-group.invariant.settled graph trial)));
+          (subst (λ (a : Assignment). IsSettled graph a fixed tried i c.loop-group.settled) (sym c.assignment.ensures)
+          (c.loop-group.invariant.settled graph trial)));
     }
 
 pub returns : goal.returns
 returns g c = λ graph trial.
-    subst (λ (n : ℕ). IsSettled graph c.args.old.now.assignment c.args.fixed.now c.args.tried.now n c.loop-group.settled)
+    subst (λ (n : ℕ). IsSettled graph c.args.old.now.assignment c.args.fixed.now c.args.tried.now n
+    c.loop-group.settled)
     (omega (arith, c.loop-group-test.false, c.loop-group.auto.group-end, c.requires.tried, trial.of.long))
     (c.loop-group.invariant.settled graph trial)

@@ -9,6 +9,7 @@ use Rattle.wq_repair.proofs.plain.settle.Given as goal
 abbrev pub invariant-loop-group : goal.invariant-loop-group
 invariant-loop-group g l = record {
   one_each : length l.settled.stays ≡ l.start.declared.partition.groups;
-  settled : (graph : List (List WaitArc)) → IsTrial (declared_waits l.start.declared) l.scope.needed l.fixed l.tried graph
+  settled : (graph : List (List WaitArc)) → IsTrial
+      (declared_waits l.start.declared) l.scope.needed l.fixed l.tried graph
       → IsSettled graph l.old.assignment l.fixed l.tried l.group l.settled;
 }

@@ -12,7 +12,12 @@ use Rattle.wq_repair.proofs.plain.try_beside.Goals as goal
 
 pub with_group-requires : goal.with_group-requires
 with_group-requires g c =
-    omega (arith, c.requires.group, c.requires.stays, ap length (c.as_slice.ensures.value ∙ ap (λ (x : Settled). x.stays) c.settled.view_is))
+    omega (
+      arith,
+      c.requires.group,
+      c.requires.stays,
+      ap length (c.as_slice.ensures.value ∙ ap (λ (x : Settled). x.stays) c.settled.view_is),
+    )
 
 pub ranks_if-requires-clause-stays : goal.ranks_if-requires-clause-stays
 ranks_if-requires-clause-stays g c =
@@ -26,14 +31,18 @@ returns-in-Some-clause-settled g c =
     let s = c.args.settled.now in
     let more : c.as_slice-2.result.now ≡ set s.stays c.args.group true =
     c.as_slice-2.ensures.value ∙ c.in_ok-stays.ensures
-    ∙ ap (λ (xs : List Bool). set xs c.args.group true) (c.as_slice.ensures.value ∙ ap (λ (x : Settled). x.stays) c.settled.view_is) in
+    ∙ ap (λ (xs : List Bool). set xs c.args.group true)
+    (c.as_slice.ensures.value ∙ ap (λ (x : Settled). x.stays) c.settled.view_is) in
     let found = rw c.in-Some.is at c.in_ok-ranks.ensures.some in
     λ graph fixed tried trial marked has is.
-    subst (λ (xs : List Bool). IsSettled graph c.args.assignment.now fixed tried (c.args.group + 1) (record { stays = xs; ranks = c.in-Some.ranks.items }))
+    subst (λ (xs : List Bool). IsSettled graph c.args.assignment.now fixed tried (c.args.group + 1)
+    (record { stays = xs; ranks = c.in-Some.ranks.items }))
     (sym (sym c.as_slice-2.ensures.value ∙ more))
-    (IsSettled-ranked d c.workqueues_of-few.ensures.declaration c.args.needed.now fixed tried graph trial c.args.assignment.now c.workqueues_of-few.ensures.few
+    (IsSettled-ranked d c.workqueues_of-few.ensures.declaration c.args.needed.now fixed tried graph trial
+    c.args.assignment.now c.workqueues_of-few.ensures.few
     c.args.group c.requires.group marked s is c.in-Some.ranks.items
-    (subst (λ (xs : List Bool). IsSettledBy c.args.assignment.now c.args.needed.now xs (λ (ws : Workqueues). AreRanksOfGroups d ws c.in-Some.ranks.items)) more found))
+    (subst (λ (xs : List Bool). IsSettledBy c.args.assignment.now c.args.needed.now xs
+    (λ (ws : Workqueues). AreRanksOfGroups d ws c.in-Some.ranks.items)) more found))
 
 pub returns-in-None-clause-settled : goal.returns-in-None-clause-settled
 returns-in-None-clause-settled g c =
@@ -41,9 +50,12 @@ returns-in-None-clause-settled g c =
     let s = c.args.settled.now in
     let more : c.as_slice-2.result.now ≡ set s.stays c.args.group true =
     c.as_slice-2.ensures.value ∙ c.in_ok-stays.ensures
-    ∙ ap (λ (xs : List Bool). set xs c.args.group true) (c.as_slice.ensures.value ∙ ap (λ (x : Settled). x.stays) c.settled.view_is) in
+    ∙ ap (λ (xs : List Bool). set xs c.args.group true)
+    (c.as_slice.ensures.value ∙ ap (λ (x : Settled). x.stays) c.settled.view_is) in
     let found = rw c.in-None.is at c.in_ok-ranks.ensures.none in
     λ graph fixed tried trial marked has is.
-    IsSettled-circle d c.workqueues_of-few.ensures.declaration c.args.needed.now fixed tried graph trial c.args.assignment.now c.workqueues_of-few.ensures.few
+    IsSettled-circle d c.workqueues_of-few.ensures.declaration c.args.needed.now fixed tried graph trial
+    c.args.assignment.now c.workqueues_of-few.ensures.few
     c.args.group c.requires.group marked s is
-    (subst (λ (xs : List Bool). IsSettledBy c.args.assignment.now c.args.needed.now xs (λ (ws : Workqueues). Circle (HasArc (rescued_graph d ws)))) more found) has
+    (subst (λ (xs : List Bool). IsSettledBy c.args.assignment.now c.args.needed.now xs
+    (λ (ws : Workqueues). Circle (HasArc (rescued_graph d ws)))) more found) has
