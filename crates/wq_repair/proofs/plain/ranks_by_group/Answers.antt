@@ -29,11 +29,10 @@ ranks_of_groups-requires-clause-one_each g c =
     let assignment : IsAssignment d.groups ws.assignment =
     subst (λ (x : Workqueues). IsAssignment d.groups x.assignment) c.workqueues_of-workqueues.ensures.is
     c.workqueues_of-workqueues.ensures.assignment.assignment in
-    let ranking : AreRanks c.in_ok-graph.graph c.in-Ranks.ranks.items =
-    rw c.in-Ranks.is at c.in_ok-ranks.ensures.ranking in
+    let ranking = rw c.in-Ranks.is at c.in_ok-ranks.ensures.ranking in
     let are : AreRanks (rescued_graph d ws) c.in-Ranks.ranks.items =
     subst (λ (graph : List (List WaitArc)). AreRanks graph c.in-Ranks.ranks.items) c.in_ok-graph.ensures.graph
-    ranking in
+    ranking.0 in
     ap length c.as_slice.ensures.value ∙ are.one_each ∙ length-rescued_graph d ws declaration assignment
     ∙ sym (ap (λ (x : Assignment). x.lanes) c.assignment.ensures
     ∙ ap (λ (x : Workqueues). x.assignment.lanes) c.workqueues_of-workqueues.ensures.is)
@@ -47,11 +46,10 @@ returns-in-Ranks-clause-some g c =
     let assignment : IsAssignment d.groups ws.assignment =
     subst (λ (x : Workqueues). IsAssignment d.groups x.assignment) c.workqueues_of-workqueues.ensures.is
     c.workqueues_of-workqueues.ensures.assignment.assignment in
-    let ranking : AreRanks c.in_ok-graph.graph c.in-Ranks.ranks.items =
-    rw c.in-Ranks.is at c.in_ok-ranks.ensures.ranking in
+    let ranking = rw c.in-Ranks.is at c.in_ok-ranks.ensures.ranking in
     let are : AreRanks (rescued_graph d ws) c.in-Ranks.ranks.items =
     subst (λ (graph : List (List WaitArc)). AreRanks graph c.in-Ranks.ranks.items) c.in_ok-graph.ensures.graph
-    ranking in
+    ranking.0 in
     let number : c.len-groups.result ≡ d.groups = c.len-groups.ensures.len
     ∙ ap (λ (p : Partition). p.groups) c.groups.ensures.is in
     let lanes : c.assignment.result.now ≡ ws.assignment = c.assignment.ensures
