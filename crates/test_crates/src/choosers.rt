@@ -85,7 +85,10 @@ fn lanes_by(alloc: Global, chooser: &Fixed) -> Result<Option<Vec<u16>>, Fail> {
 #[test]
 fn a_choice_is_taken_only_if_it_is_right(rt: HostRuntime) -> Result<(), Fail> {
     for (stays, ranks, lanes) in CHOSEN {
-        let chooser = Fixed { stays, ranks };
+        let chooser = Fixed {
+            stays: *stays,
+            ranks: *ranks,
+        };
         let found = lanes_by(rt.alloc(), &chooser)?.ok_or("no repair")?;
         assert!(rt; found.as_slice() == lanes.as_slice(), "{stays:?} {ranks:?}");
     }
