@@ -12,8 +12,6 @@
 #[cfg(test)]
 mod books;
 #[cfg(test)]
-mod choosers;
-#[cfg(test)]
 mod commands;
 #[cfg(test)]
 mod declared;
