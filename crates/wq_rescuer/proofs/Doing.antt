@@ -1,7 +1,9 @@
 -- Jobs, and what came back of them, place by place.
-use Rattle.std.proofs.Common.{◌≡◌, ℕ, zero, suc, List, [], ◌∷◌, ◌++◌, length, map, reverse, refl, sym, ap, subst, ◌∙◌}
+use Rattle.std.proofs.Common.{◌≡◌, ℕ, zero, suc, ◌+◌, List, [], ◌∷◌, ◌++◌, length, map, reverse, refl, sym, ap, subst}
+use Rattle.std.proofs.Common.{◌∙◌, arith}
 use Rattle.std.specs.Prelude.{Some, Result, slice_get}
-use Rattle.std.proofs.lemmas.List.{length-map, map-append, reverse-append, reverse-reverse}
+use Rattle.std.proofs.lemmas.List.{append-nil, append_assoc, length-append, length-map, length-reverse, map-append}
+use Rattle.std.proofs.lemmas.List.{reverse-append, reverse-reverse}
 use Rattle.wq_history.specs.declared.fault.CallError.{CallError}
 use Rattle.wq_rescuer.specs.declared.rescuing.Rescued.{Rescued}
 use Rattle.wq_rescuer.specs.Serving.{AreDone, HaveCalled, HaveServed}
@@ -76,6 +78,87 @@ map_reverse f (x ∷ xs) =
 
 some_is : {X : Type 0} (a b : X) → Some a ≡ Some b → a ≡ b
 some_is a b same = cc
+
+-- ---- threads
+
+-- of these jobs some are left; each other one has its thread, the last one first
+pub record AreStarted {J T : Type 0} (has : J → T → Type 0) (all left : List J) (threads : List T) : Type 0 where
+  pub taken : List J
+  pub all_are : all ≡ left ++ taken
+  pub each : AreDone has taken (reverse threads)
+
+pub none_started : {J T : Type 0} (has : J → T → Type 0) (all : List J) (threads : List T) → threads ≡ []
+    → AreStarted has all all threads
+none_started has all threads none = record {
+  taken = [];
+  all_are = sym (append-nil all);
+  each = subst (λ ts. AreDone has [] (reverse ts)) (sym none) tt;
+}
+
+pub started_more : {J T : Type 0} (has : J → T → Type 0) (all left rest : List J) (job : J) (threads more : List T) (thread : T)
+    → AreStarted has all left threads → left ≡ rest ++ (job ∷ []) → more ≡ threads ++ (thread ∷ []) → has job thread
+    → AreStarted has all rest more
+started_more has all left rest job threads more thread are left_is more_is one = record {
+  taken = job ∷ are.taken;
+  all_are = are.all_are ∙ ap (λ js. js ++ are.taken) left_is ∙ append_assoc rest (job ∷ []) are.taken;
+  each = subst (AreDone has (job ∷ are.taken)) (sym (ap reverse more_is ∙ reverse-append threads (thread ∷ [])))
+      (one, are.each);
+}
+
+-- so many have one
+pub started_length : {J T : Type 0} (has : J → T → Type 0) (all left : List J) (threads : List T)
+    → AreStarted has all left threads → length left + length threads ≡ length all
+started_length has all left threads are =
+    omega (arith, ap length are.all_are, length-append left are.taken, done_length has are.taken (reverse threads) are.each, length-reverse threads)
+
+pub all_started : {J T : Type 0} (has : J → T → Type 0) (all left : List J) (threads : List T)
+    → AreStarted has all left threads → left ≡ [] → AreDone has all (reverse threads)
+all_started has all left threads are none =
+    subst (λ js. AreDone has js (reverse threads)) (sym (are.all_are ∙ ap (λ js. js ++ are.taken) none)) are.each
+
+-- of these threads some are left; each other one ended, the last one first
+pub record AreJoined {T E : Type 0} (kept : T → E → Type 0) (all left : List T) (ends : List E) : Type 0 where
+  pub ended : List T
+  pub all_are : reverse all ≡ ended ++ reverse left
+  pub each : AreDone kept ended ends
+
+pub none_joined : {T E : Type 0} (kept : T → E → Type 0) (all : List T) (ends : List E) → ends ≡ []
+    → AreJoined kept all all ends
+none_joined kept all ends none = record { ended = []; all_are = refl; each = subst (AreDone kept []) (sym none) tt }
+
+pub joined_more : {T E : Type 0} (kept : T → E → Type 0) (all left rest : List T) (thread : T) (ends more : List E) (end : E)
+    → AreJoined kept all left ends → left ≡ rest ++ (thread ∷ []) → more ≡ ends ++ (end ∷ []) → kept thread end
+    → AreJoined kept all rest more
+joined_more kept all left rest thread ends more end are left_is more_is one = record {
+  ended = are.ended ++ (thread ∷ []);
+  all_are = are.all_are
+      ∙ ap (λ ts. are.ended ++ ts) (ap reverse left_is ∙ reverse-append rest (thread ∷ []))
+      ∙ sym (append_assoc are.ended (thread ∷ []) (reverse rest));
+  each = subst (AreDone kept (are.ended ++ (thread ∷ []))) (sym more_is) (done_more kept are.ended ends thread end are.each one);
+}
+
+pub joined_length : {T E : Type 0} (kept : T → E → Type 0) (all left : List T) (ends : List E)
+    → AreJoined kept all left ends → length left + length ends ≡ length all
+joined_length kept all left ends are =
+    omega (arith, ap length are.all_are, length-append are.ended (reverse left), done_length kept are.ended ends are.each, length-reverse all, length-reverse left)
+
+pub all_joined : {T E : Type 0} (kept : T → E → Type 0) (all left : List T) (ends : List E)
+    → AreJoined kept all left ends → left ≡ [] → AreDone kept (reverse all) ends
+all_joined kept all left ends are none =
+    subst (λ ts. AreDone kept ts ends)
+    (sym (are.all_are ∙ ap (λ ts. are.ended ++ reverse ts) none ∙ append-nil are.ended)) are.each
+
+-- what came back of the thread of a job came back of the job
+pub done_through : {J T E : Type 0} (has : J → T → Type 0) (kept : T → E → Type 0) (done : J → E → Type 0)
+    (so : (j : J) (t : T) (e : E) → has j t → kept t e → done j e) (js : List J) (ts : List T) (es : List E)
+    → AreDone has js ts → AreDone kept ts es → AreDone done js es
+done_through has kept done so [] [] [] a b = tt
+done_through has kept done so [] [] (e ∷ es) a b = absurd b
+done_through has kept done so [] (t ∷ ts) es a b = absurd a
+done_through has kept done so (j ∷ js) [] es a b = absurd a
+done_through has kept done so (j ∷ js) (t ∷ ts) [] a b = absurd b
+done_through has kept done so (j ∷ js) (t ∷ ts) (e ∷ es) a b =
+    (so j t e a.0 b.0, done_through has kept done so js ts es a.1 b.1)
 
 -- ---- contexts
 
