@@ -134,8 +134,43 @@ fn run_callers<
     all
 }
 
-/// Starts the contexts, and then, if each has a thread, runs the callers. It waits until the contexts have nothing left
-/// to do. It says whether each context and each caller has had a thread; if one hasn't, it is lost.
+/// Starts the contexts, and then, if each has a thread, runs the callers. It says whether each context and each caller
+/// has had a thread; if one hasn't, it is lost.
+fn start_all<
+    's,
+    E,
+    N: Naming + Send + Sync + 's,
+    A: Allocator + Send + Sync + 's,
+    R: Threads + Wait + Sync + 's,
+    B: Body + Send + Drop + 's,
+    C: Caller + Send + Drop + 's,
+>(
+    scope: &Scope<'s, E>,
+    rt: &'s R,
+    runtime: &'s WqRuntime<N, A>,
+    board: &mut Board<N, A, B, C>,
+) -> bool
+    requires no_contexts { (board.old.contexts.ends.items ≡ []) × (board.old.contexts.threads.items ≡ []) }
+    requires no_callers { (board.old.callers.ends.items ≡ []) × (board.old.callers.threads.items ≡ []) }
+    ensures started { IsTrue result → AreDone (λ job thread. (thread.promise.context ≡ job.context)
+        × (thread.promise.body.value ≡ job.body)) board.old.contexts.waiting.items
+        (reverse board.new.contexts.threads.items) }
+    ensures called { IsTrue result → AreDone (λ job end. C.did N.wiring job.caller end.caller end.result
+        (no_counts N.wiring) end.seat) board.old.callers.waiting.items board.new.callers.ends.items }
+    ensures callers_back { IsTrue result → vec_len board.new.callers.ends ≡ vec_len board.old.callers.waiting }
+    ensures lost { result ≡ false → IsOneLost (vec_len board.old.contexts.waiting) (vec_len board.old.callers.waiting)
+        (vec_len board.new.contexts.waiting + vec_len board.new.contexts.threads)
+        (vec_len board.new.callers.waiting + vec_len board.new.callers.ends) }
+    ensures none { board.new.contexts.ends.items ≡ [] }
+{
+    let contexts = &mut board.contexts;
+    if !start_contexts(scope, rt, runtime, &mut contexts.waiting, &mut contexts.threads) {
+        return false;
+    }
+    run_callers(scope, rt, runtime, &mut board.callers)
+}
+
+/// Runs the callers while the contexts serve, and waits until these have nothing left to do. It says whether each context and each caller has had a thread; if one hasn't, it is lost.
 fn run_contexts<
     's,
     E,
@@ -164,9 +199,7 @@ fn run_contexts<
         (vec_len board.new.contexts.waiting + vec_len board.new.contexts.ends)
         (vec_len board.new.callers.waiting + vec_len board.new.callers.ends) }
 {
-    let contexts = &mut board.contexts;
-    let started = start_contexts(scope, rt, runtime, &mut contexts.waiting, &mut contexts.threads);
-    let all = started && run_callers(scope, rt, runtime, &mut board.callers);
+    let all = start_all(scope, rt, runtime, board);
     let _drained = runtime.destroy(rt);
     join_all(rt, &mut board.contexts.threads, &mut board.contexts.ends);
     all
