@@ -57,6 +57,7 @@ fn start_callers<
     requires room { vec_len waiting.old ≤ vec_capacity threads.old }
     ensures all { IsTrue result → AreDone (λ job thread. thread.promise.0.value ≡ job.caller) waiting.old.items
         (reverse threads.new.items) }
+    ensures each { IsTrue result → vec_len threads.new ≡ vec_len waiting.old }
     ensures lost { result ≡ false → vec_len waiting.new + vec_len threads.new + 1 ≡ vec_len waiting.old }
     ensures left { vec_len waiting.new + vec_len threads.new ≤ vec_len waiting.old }
     ensures room { vec_capacity threads.new ≡ vec_capacity threads.old }
@@ -91,6 +92,7 @@ fn start_contexts<
     requires room { vec_len waiting.old ≤ vec_capacity threads.old }
     ensures all { IsTrue result → AreDone (λ job thread. (thread.promise.context ≡ job.context)
         × (thread.promise.body.value ≡ job.body)) waiting.old.items (reverse threads.new.items) }
+    ensures each { IsTrue result → vec_len threads.new ≡ vec_len waiting.old }
     ensures lost { result ≡ false → vec_len waiting.new + vec_len threads.new + 1 ≡ vec_len waiting.old }
     ensures left { vec_len waiting.new + vec_len threads.new ≤ vec_len waiting.old }
     ensures room { vec_capacity threads.new ≡ vec_capacity threads.old }
@@ -155,6 +157,7 @@ fn start_all<
     ensures started { IsTrue result → AreDone (λ job thread. (thread.promise.context ≡ job.context)
         × (thread.promise.body.value ≡ job.body)) board.old.contexts.waiting.items
         (reverse board.new.contexts.threads.items) }
+    ensures each { IsTrue result → vec_len board.new.contexts.threads ≡ vec_len board.old.contexts.waiting }
     ensures called { IsTrue result → AreDone (λ job end. C.did N.wiring job.caller end.caller end.result
         (no_counts N.wiring) end.seat) board.old.callers.waiting.items board.new.callers.ends.items }
     ensures callers_back { IsTrue result → vec_len board.new.callers.ends ≡ vec_len board.old.callers.waiting }

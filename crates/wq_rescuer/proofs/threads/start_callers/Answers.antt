@@ -70,3 +70,15 @@ returns-clause-left g c =
       c.args.waiting.now.ok.0,
       c.in_default.ensures.cases.0,
     )
+
+pub returns-clause-each : goal.returns-clause-each
+returns-clause-each g c yes =
+    let l = c.loop-job in
+    omega (
+      arith,
+      started_length _ c.args.waiting.now.items l.waiting.items l.threads.items l.invariant.0,
+      l.waiting.ok.0,
+      l.threads.ok.0,
+      c.args.waiting.now.ok.0,
+      c.in_default.ensures.cases.0,
+    )
