@@ -48,12 +48,20 @@ impl<J: Drop, E: Drop, P: Promise<E>, A: Allocator + Copy> Jobs<J, E, P, A> {
 }
 
 /// Those of the contexts.
-pub(crate) type ContextJobs<N, A, B> =
-    Jobs<ContextJob<N, A, B>, ContextEnd<N, A, B>, EndOfContext<B>, A>;
+pub(crate) type ContextJobs<N, A, B> = Jobs<
+    ContextJob<N, A, B>,
+    ContextEnd<N, A, B>,
+    EndOfContext<B>,
+    A,
+>;
 
 /// Those of the callers.
-pub(crate) type CallerJobs<N, A, C> =
-    Jobs<CallerJob<N, A, C>, CallerEnd<N, A, C>, EndOfCaller<C>, A>;
+pub(crate) type CallerJobs<N, A, C> = Jobs<
+    CallerJob<N, A, C>,
+    CallerEnd<N, A, C>,
+    EndOfCaller<C>,
+    A,
+>;
 
 /// All jobs.
 #[derive(Drop)]

@@ -167,7 +167,13 @@ fn start_all<
     ensures none { board.new.contexts.ends.items ≡ [] }
 {
     let contexts = &mut board.contexts;
-    if !start_contexts(scope, rt, runtime, &mut contexts.waiting, &mut contexts.threads) {
+    if !start_contexts(
+        scope,
+        rt,
+        runtime,
+        &mut contexts.waiting,
+        &mut contexts.threads,
+    ) {
         return false;
     }
     run_callers(scope, rt, runtime, &mut board.callers)
