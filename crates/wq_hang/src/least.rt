@@ -84,7 +84,7 @@ fn better_hop<A: Allocator + Copy>(
 }
 
 /// A round from an item that costs less than the least so far, and what it costs at most, if there is one.
-fn better_round<A: Allocator + Copy>(
+pub(crate) fn better_round<A: Allocator + Copy>(
     alloc: A,
     waits: &Waits<'_, A>,
     on: &Buckets<A>,

@@ -5,7 +5,7 @@
 
 ghost use Rattle.std.specs.Prelude.{◌≡◌, ◌++◌, ℕ, Some, IfOk, OnOk, IfSome, map, option_map};
 ghost use Rattle.wq_items.specs.Table.{item_named};
-ghost use Rattle.wq_changes.specs.Voice.{SaysFirstUnknown, SaysNoItem, first_unknown, meant_line, unknown_line};
+ghost use Rattle.wq_voice.specs.Unknown.{SaysFirstUnknown, SaysNoItem, first_unknown, meant_line, unknown_line};
 
 use std::alloc::{AllocError, Allocator};
 use wq_diagnosis::{Source, lines_of, put_line};
@@ -104,7 +104,7 @@ fn of_name<A: Allocator + Copy>(
 /// What is said of the first of these names that is that of no declared item. Nothing if there is none.
 ///
 /// The only error is out of memory (20).
-pub(crate) fn say_unknown<A: Allocator + Copy>(
+pub fn say_unknown<A: Allocator + Copy>(
     alloc: A,
     declaration: Source<'_>,
     declared: &Declaration<'_, A>,

@@ -1,6 +1,6 @@
 use Rattle.std.proofs.Common.{◌≡◌, drop, map}
-use Rattle.wq_changes.specs.Voice.{first_unknown}
-use Rattle.wq_changes.proofs.unknown.first_unknown.Given as goal
+use Rattle.wq_voice.specs.Unknown.{first_unknown}
+use Rattle.wq_voice.proofs.unknown.first_unknown.Given as goal
 
 -- none so far
 abbrev pub invariant-loop-name : goal.invariant-loop-name

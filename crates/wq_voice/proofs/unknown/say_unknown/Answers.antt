@@ -1,8 +1,8 @@
 use Rattle.std.proofs.Common.{◌≡◌, Some, map, refl, sym, ap, subst, ◌∙◌}
 use Rattle.std.specs.Prelude.{option_map}
 use Rattle.wq_groups.specs.DeclaredGroups.{Declared}
-use Rattle.wq_changes.specs.Voice.{SaysNoItem, first_unknown}
-use Rattle.wq_changes.proofs.unknown.say_unknown.Goals as goal
+use Rattle.wq_voice.specs.Unknown.{SaysNoItem, first_unknown}
+use Rattle.wq_voice.proofs.unknown.say_unknown.Goals as goal
 
 pub returns-in_ok-of_name-in-Some : goal.returns-in_ok-of_name-in-Some
 returns-in_ok-of_name-in-Some g c =
