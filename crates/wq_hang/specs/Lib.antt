@@ -15,4 +15,5 @@ pub mod Bounds
 pub mod Numbering
 pub mod Answer
 pub mod AnswerFor
-pub mod SearchFor
+pub mod WaysFor
+pub mod EndsFor

@@ -10,6 +10,7 @@ ghost use Rattle.wq_hang.specs.AnswerFor.{IsAnswerFor};
 
 use crate::answer::Held;
 use crate::least_for::least_walk_for;
+use crate::numbering::lane_numbers;
 use crate::running::{pending_for, run_of_walk};
 use crate::waits::Waits;
 use std::alloc::{AllocError, Allocator};
@@ -32,9 +33,11 @@ pub fn held_up<A: Allocator + Copy>(
         named.now) }
 {
     let workqueues = assigned.workqueues();
+    // The wait graph, which these are made of, is let go before the machine takes memory.
+    let numbers = lane_numbers(alloc, assigned)?;
     let core = Core::on_workqueues(alloc, assigned.table(), assigned.groups(), workqueues)?;
     let waits = Waits::new(&core, workqueues.bare());
-    match least_walk_for(alloc, &waits, named)? {
+    match least_walk_for(alloc, &waits, &numbers, named)? {
         Some(walk) => {
             let beside = pending_for(alloc, &waits, walk.named, walk.hops.as_slice())?;
             let steps = run_of_walk(alloc, &waits, walk.hops.as_slice(), beside.as_slice())?;

@@ -29,7 +29,7 @@ use wq_items::ItemId;
 pub(crate) const MOST: u32 = 4097 * (UNSURE + 4);
 
 /// So many searches share their bounds.
-const AT_A_TIME: usize = 128;
+pub(crate) const AT_A_TIME: usize = 128;
 
 /// To make bounds takes as long as so many searches.
 const TOO_FEW: usize = 4;

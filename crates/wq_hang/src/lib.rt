@@ -23,7 +23,7 @@ mod marks;
 mod needed;
 mod numbering;
 mod on_lanes;
-mod peeling;
+mod pending;
 mod rounds;
 mod running;
 mod search;

@@ -10,7 +10,7 @@ ghost use Rattle.wq_core.specs.Wiring.{items};
 ghost use Rattle.wq_hang.specs.declared.hop.Hop.{Hop};
 ghost use Rattle.wq_hang.specs.Walk.{target_beside, moves_of, run_of_walk};
 ghost use Rattle.wq_hang.specs.WalkFor.{pending_beside, pending_for};
-ghost use Rattle.wq_hang.specs.SearchFor.{IsPushedOnce};
+ghost use Rattle.wq_hang.specs.WaysFor.{IsPushedOnce};
 
 use crate::hop::Hop;
 use crate::waits::Waits;

@@ -16,7 +16,7 @@ ghost use Rattle.wq_hang.specs.declared.hop.Hop.{Hop};
 ghost use Rattle.wq_hang.specs.Walk.{max_walk_cost};
 ghost use Rattle.wq_hang.specs.Search.{AreItemsOn, IsTaken, IsSearched, with_todo, reach, reach_all, reach_lane};
 ghost use Rattle.wq_hang.specs.Search.{most_of_use, to_both, follow, expand, hop_to, AreBounds};
-ghost use Rattle.wq_hang.specs.SearchFor.{started, started_lane};
+ghost use Rattle.wq_hang.specs.WaysFor.{started, started_lane};
 
 use crate::hop::Hop;
 use crate::hop_back::unsure_part;

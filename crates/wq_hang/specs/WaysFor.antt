@@ -1,12 +1,12 @@
--- The search for walks that hold up an item: ways from items that must go on, and where rounds may begin.
+-- Ways from items that must go on: what it costs to come to each item, and to where somebody waits for it alone.
 use Rattle.std.specs.Prelude.{◌≡◌, ℕ, ◌<◌, ◌≤◌, ◌+◌, ◌⊎◌, nat_lt, Bool, true, false, List, [], ◌∷◌, ◌++◌, fold, length}
 use Rattle.std.specs.Prelude.{if◌then◌else◌, slice_index, slice_index_or, slice_set, Contains}
 use Rattle.std.specs.List.{All}
 use Rattle.wq_items.specs.declared.target.Target.{Target}
 use Rattle.wq_core.specs.Wiring.{Wiring, HasRescuer, items, lane_of, declared_by}
 use Rattle.wq_hang.specs.declared.hop.Hop.{Hop}
-use Rattle.wq_hang.specs.Walk.{IsHop, IsPath, IsRound}
-use Rattle.wq_hang.specs.Search.{Reach, hop_cost, hops_cost, step, with_lane_cost, with_todo}
+use Rattle.wq_hang.specs.Walk.{IsHop, IsPath}
+use Rattle.wq_hang.specs.Search.{IsTodo, Reach, hop_cost, hops_cost, lane_step, step, to_both, with_lane_cost, with_todo}
 
 -- ---- what one step does
 
@@ -27,6 +27,16 @@ started_lane q on s =
     if nat_lt 1 (slice_index s.lane_costs q)
     then fold (λ (r : Reach) (j : ℕ). begin_at false 1 r j) (with_lane_cost q 1 s) on
     else s
+
+-- a flush of item i, which costs so much, leads on where that costs less than the limit, if the lane of its target has a
+-- rescuer
+abbrev pub follow_below : Wiring → List (List ℕ) → ℕ → ℕ → ℕ → Reach → Target → Reach
+follow_below w on limit i cost s t =
+    if slice_index_or w.bare (lane_of w t.item) false then s else to_both w on limit i cost s t
+
+-- all flushes of item i
+abbrev pub expand_below : Wiring → List (List ℕ) → ℕ → ℕ → Reach → Reach
+expand_below w on limit i s = fold (follow_below w on limit i (slice_index s.costs i)) s (declared_by w i)
 
 -- an item is added to a list, and marked, unless it is marked
 abbrev pub IsPushedOnce : ℕ → List Bool → List ℕ → List Bool → List ℕ → Type 0
@@ -59,28 +69,42 @@ pub record IsReachedFrom (w : Wiring) (s : Reach) (i : ℕ) (h : Hop) : Type 0 w
   pub from : slice_index s.costs h.item + hop_cost h ≤ slice_index s.costs i
   pub behind : 1 < slice_index s.costs i
 
--- what it costs least to come to each item, from these; as much as the limit, if it costs no less. Each that costs less
--- begins a way, or is reached by its hop
-pub record AreWays (w : Wiring) (starts : List ℕ) (limit : ℕ) (s : Reach) : Type 0 where
+-- what holds at each time: no cost is above the limit; to come to an item costs no more than to any item of its lane;
+-- and each item that costs less than the limit begins a way, or is reached by its hop
+pub record IsReachFrom (w : Wiring) (starts : List ℕ) (limit : ℕ) (s : Reach) : Type 0 where
   pub one_each : length s.costs ≡ items w
   pub by_each : length s.by ≡ items w
+  pub lanes_each : length s.lane_costs ≡ w.lanes
   pub capped : (i : ℕ) → slice_index s.costs i ≤ limit
-  pub least : (i cost : ℕ) (hops : List Hop) → HasRescuer w (lane_of w i) → IsWayFrom w starts hops i cost
-      → slice_index s.costs i ≤ cost
+  pub lanes_capped : (q : ℕ) → slice_index s.lane_costs q ≤ limit
+  pub by_lane : (i : ℕ) → i < items w → slice_index s.costs i ≤ slice_index s.lane_costs (lane_of w i)
+  pub rescuer : (i : ℕ) → i < items w → slice_index s.costs i < limit → HasRescuer w (lane_of w i)
+  pub todo : (i : ℕ) → IsTodo s i → (i < items w) × (slice_index s.costs i < limit)
   pub reached : (i : ℕ) (d : Hop) → i < items w → slice_index s.costs i < limit
       → BeginsAt w starts i (slice_index s.costs i) ⊎ IsReachedFrom w s i (slice_index_or s.by i d)
 
--- ways that are found, and the items to which they lead
-pub record WaysFound : Type 0 where
-  pub reach : Reach
-  pub order : List ℕ
+-- the flushes of item i lead on at no more than what it costs to come there and what each costs more
+abbrev pub AreFollowed : Wiring → Reach → ℕ → Type 0
+AreFollowed w s i = (t : Target) → Contains (declared_by w i) t → HasRescuer w (lane_of w t.item)
+    → (slice_index s.costs t.item ≤ slice_index s.costs i + step t)
+    × (slice_index s.lane_costs (lane_of w t.item) ≤ slice_index s.costs i + lane_step t)
 
--- the items that cost less than the limit, and no others; none comes before one that costs less
-pub record AreInOrder (limit : ℕ) (costs order : List ℕ) : Type 0 where
-  pub within : All (λ i. (i < length costs) × (slice_index costs i < limit)) order
-  pub all : (i : ℕ) → i < length costs → slice_index costs i < limit → Contains order i
-  pub rise : (a b : ℕ) → a < b → b < length order
-      → slice_index costs (slice_index order a) ≤ slice_index costs (slice_index order b)
+-- while the search goes on: ways begin at these; and each item is to be gone on from, or its flushes are followed
+pub record AreWaysSoFar (w : Wiring) (starts : List ℕ) (limit : ℕ) (s : Reach) : Type 0 where
+  pub reach : IsReachFrom w starts limit s
+  pub begun : All (λ i. (slice_index s.costs i ≡ 0) × (slice_index s.lane_costs (lane_of w i) ≤ 1)) starts
+  pub followed : (i : ℕ) → i < items w → IsTodo s i ⊎ AreFollowed w s i
+
+-- the search is over: it costs no more to come to an item than any way there
+pub record AreWays (w : Wiring) (starts : List ℕ) (limit : ℕ) (s : Reach) : Type 0 where
+  pub reach : IsReachFrom w starts limit s
+  pub least : (i cost : ℕ) (hops : List Hop) → HasRescuer w (lane_of w i) → IsWayFrom w starts hops i cost
+      → slice_index s.costs i ≤ cost
+
+-- the items that cost less than the limit, and no others
+pub record AreNear (limit : ℕ) (costs near : List ℕ) : Type 0 where
+  pub within : All (λ i. (i < length costs) × (slice_index costs i < limit)) near
+  pub all : (i : ℕ) → i < length costs → slice_index costs i < limit → Contains near i
 
 -- the hops are a way to item i that costs no more than it costs least to come there
 pub record IsWay (w : Wiring) (starts : List ℕ) (s : Reach) (i : ℕ) (hops : List Hop) : Type 0 where
@@ -91,12 +115,13 @@ pub record IsWay (w : Wiring) (starts : List ℕ) (s : Reach) (i : ℕ) (hops : 
 -- ---- ways to where somebody waits for an item alone
 
 -- for each item what it costs to come to there, and the hop
-pub record TargetsFound : Type 0 where
+pub record PendingFound : Type 0 where
   pub costs : List ℕ
   pub by : List Hop
 
 -- item i, to which there is a way, waits by this flush for its target alone, which is on a lane with a rescuer
 pub record WaitsAlone (w : Wiring) (limit : ℕ) (s : Reach) (i : ℕ) (t : Target) : Type 0 where
+  pub item : i < items w
   pub reached : slice_index s.costs i < limit
   pub declared : Contains (declared_by w i) t
   pub alone : t.whole ≡ false
@@ -104,42 +129,20 @@ pub record WaitsAlone (w : Wiring) (limit : ℕ) (s : Reach) (i : ℕ) (t : Targ
 
 -- to come to where somebody waits for an item alone costs nothing for each of these, which are queued; and else the
 -- least that it costs to come to an item that waits for it, and its wait; as much as the limit, if that is no less
-pub record AreTargets (w : Wiring) (starts : List ℕ) (limit : ℕ) (s : Reach) (t : TargetsFound) : Type 0 where
-  pub one_each : length t.costs ≡ items w
-  pub by_each : length t.by ≡ items w
-  pub starts : All (λ i. slice_index t.costs i ≡ 0) starts
-  pub capped : (i : ℕ) → slice_index t.costs i ≤ limit
-  pub least : (i : ℕ) (f : Target) → WaitsAlone w limit s i f → slice_index t.costs f.item ≤ slice_index s.costs i + step f
-  pub by : (i : ℕ) (d : Hop) → i < items w → ¬ Contains starts i → slice_index t.costs i < limit
-      → WaitsAlone w limit s (slice_index_or t.by i d).item (slice_index_or t.by i d).flush
-      × ((slice_index_or t.by i d).flush.item ≡ i)
-      × (slice_index s.costs (slice_index_or t.by i d).item + step (slice_index_or t.by i d).flush ≤ slice_index t.costs i)
+pub record ArePending (w : Wiring) (starts : List ℕ) (limit : ℕ) (s : Reach) (p : PendingFound) : Type 0 where
+  pub one_each : length p.costs ≡ items w
+  pub by_each : length p.by ≡ items w
+  pub starts : All (λ i. slice_index p.costs i ≡ 0) starts
+  pub capped : (i : ℕ) → slice_index p.costs i ≤ limit
+  pub least : (i : ℕ) (t : Target) → WaitsAlone w limit s i t → slice_index p.costs t.item ≤ slice_index s.costs i + step t
+  pub queued : (i : ℕ) → i < items w → slice_index p.costs i ≡ 0 → Contains starts i
+  pub by : (i : ℕ) (d : Hop) → i < items w → 0 < slice_index p.costs i → slice_index p.costs i < limit
+      → WaitsAlone w limit s (slice_index_or p.by i d).item (slice_index_or p.by i d).flush
+      × ((slice_index_or p.by i d).flush.item ≡ i)
+      × (slice_index s.costs (slice_index_or p.by i d).item + step (slice_index_or p.by i d).flush ≤ slice_index p.costs i)
 
--- ---- where a round may begin
-
--- all hops of a round are of items that are reached
-abbrev pub IsRoundReached : Wiring → ℕ → List ℕ → List Hop → Type 0
-IsRoundReached w limit costs hops = IsRound w hops × All (λ (h : Hop). slice_index costs h.item < limit) hops
-
--- no item of the hops is nearer than this one
-abbrev pub IsNearest : List ℕ → List Hop → Hop → Type 0
-IsNearest costs hops h =
-    Contains hops h × ((g : Hop) → Contains hops g → slice_index costs h.item ≤ slice_index costs g.item)
-
--- the nearest items of each round are left
-abbrev pub AreLeft : Wiring → ℕ → List ℕ → List Bool → Type 0
-AreLeft w limit costs left =
-    (hops : List Hop) (h : Hop) → IsRoundReached w limit costs hops → IsNearest costs hops h
-    → slice_index_or left h.item false ≡ true
-
--- for each lane, if a hop leads to it from an item that is reached, more than it costs to come to that item
+-- for each item, if a hop waits for it alone, more than it costs to come to the item that waits
 abbrev pub AreLatest : Wiring → ℕ → List ℕ → List ℕ → Type 0
 AreLatest w limit costs latest =
-    (h : Hop) → IsHop w h → slice_index costs h.item < limit
-    → slice_index costs h.item < slice_index latest (lane_of w h.flush.item)
-
--- the same for each item, if a hop waits for it alone
-abbrev pub AreLatestAlone : Wiring → ℕ → List ℕ → List ℕ → Type 0
-AreLatestAlone w limit costs latest =
     (h : Hop) → IsHop w h → h.flush.whole ≡ false → slice_index costs h.item < limit
     → slice_index costs h.item < slice_index latest h.flush.item
