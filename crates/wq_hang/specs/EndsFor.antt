@@ -1,6 +1,6 @@
 -- How walks end that hold up an item: of all ways the least with such an end.
-use Rattle.std.specs.Prelude.{◌≡◌, ℕ, ◌<◌, ◌≤◌, ◌+◌, List, [], ◌∷◌, ◌++◌, length, Option, Some, None, slice_index, false}
-use Rattle.std.specs.Prelude.{Contains}
+use Rattle.std.specs.Prelude.{◌≡◌, ℕ, ◌<◌, ◌≤◌, ◌+◌, List, [], ◌∷◌, ◌++◌, length, Option, Some, None, slice_index}
+use Rattle.std.specs.Prelude.{false, Contains}
 use Rattle.std.specs.List.{All}
 use Rattle.wq_core.specs.Wiring.{Wiring, HasRescuer, items, lane_of}
 use Rattle.wq_hang.specs.declared.hop.Hop.{Hop}
@@ -42,15 +42,16 @@ pub record IsRoundAlone (w : Wiring) (t : ℕ) (hops : List Hop) (cost : ℕ) : 
   pub next : last.next ≡ leads.first
   pub costs : before + step last.flush ≡ cost
 
--- with a way to it the end costs no more than this: a hop to a bare lane; a round from item i; a round from where
--- somebody waits for item t alone
+-- with a way to it, a hop to a bare lane costs no more than this
 abbrev pub EndsBare : Field → ℕ → Hop → Type 0
 EndsBare f cost h = IsToBare f.wiring h × (slice_index f.ways.costs h.item + step h.flush + 1 ≤ cost)
 
+-- the same of a round from item i
 abbrev pub EndsRound : Field → ℕ → ℕ → List Hop → Type 0
 EndsRound f cost i hops =
     (0 < length hops) × IsPath f.wiring i hops i × (slice_index f.ways.costs i + hops_cost hops ≤ cost)
 
+-- the same of a round from where somebody waits for item t alone
 abbrev pub EndsAlone : Field → ℕ → ℕ → List Hop → Type 0
 EndsAlone f cost t hops =
     (t < items f.wiring) × (more : ℕ) × IsRoundAlone f.wiring t hops more
@@ -58,16 +59,16 @@ EndsAlone f cost t hops =
 
 -- ---- none costs less
 
--- no hop to a bare lane, with a way to it
+-- no hop to a bare lane does, with a way to it
 abbrev pub NoneBare : Field → ℕ → Type 0
 NoneBare f cost = (h : Hop) → IsToBare f.wiring h → cost ≤ slice_index f.ways.costs h.item + step h.flush + 1
 
--- no round from item i
+-- no round from item i does
 abbrev pub NoneFrom : Field → ℕ → ℕ → Type 0
 NoneFrom f cost i =
     (hops : List Hop) → 0 < length hops → IsPath f.wiring i hops i → cost ≤ slice_index f.ways.costs i + hops_cost hops
 
--- no round from where somebody waits for item t alone
+-- no round from where somebody waits for item t alone does
 abbrev pub NoneAlone : Field → ℕ → ℕ → Type 0
 NoneAlone f cost t =
     (hops : List Hop) (more : ℕ) → IsRoundAlone f.wiring t hops more → cost ≤ slice_index f.pending.costs t + more

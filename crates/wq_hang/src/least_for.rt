@@ -147,8 +147,7 @@ impl<A: Allocator + Copy> Field<'_, '_, A> {
         requires few { All (λ i. i < length self.now.ways.costs) few.now }
         ensures { result ≡ false → (i : ℕ) → Contains few.now i → best ≤ slice_index self.now.ways.costs i + 3 }
     {
-        few.iter()
-            .any(|item| self.ways.cost(ItemId::new(*item as u16)) + 3 < best)
+        few.iter().any(|item| self.ways.cost(ItemId::new(*item as u16)) + 3 < best)
     }
 
     /// Looks for rounds from these few items.
@@ -397,7 +396,10 @@ fn one_held_by<A: Allocator>(
     if named.contains(&first) {
         return Some(first);
     }
-    named.iter().copied().find(|item| waits.lane_of(*item) == lane)
+    named
+        .iter()
+        .copied()
+        .find(|item| waits.lane_of(*item) == lane)
 }
 
 /// A least walk for these items, whose lanes have rescuers, if there is one.
