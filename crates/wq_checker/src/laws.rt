@@ -76,8 +76,8 @@ pub fn steps_have_one_end()
         r ≡ s }
 {}
 
-/// Where items must go on, a list of steps has only one end; and it ends as without names, if all items whose lanes have
-/// a rescuer must.
+/// Where items must go on, a list of steps has only one end; and it ends as without names, if all items whose lanes
+/// have a rescuer must.
 pub fn steps_have_one_end_for_items()
     ensures one { (w : Wiring) (named : List ℕ) (steps : List Step) → (end : RunEnd) × EndsFor w named steps end }
     ensures at_most_one { (w : Wiring) (named : List ℕ) (steps : List Step) (r s : RunEnd) →

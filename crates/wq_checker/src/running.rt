@@ -220,8 +220,8 @@ fn ends_for<A: Allocator + Copy>(
     }
 }
 
-/// How a list of fewer than 4,294,967,295 steps ends on workqueues of the groups, where these items must go on. The only
-/// error is out of memory (20), which can't occur if there is no lane.
+/// How a list of fewer than 4,294,967,295 steps ends on workqueues of the groups, where these items must go on. The
+/// only error is out of memory (20), which can't occur if there is no lane.
 pub fn check_run_for<A: Allocator + Copy>(
     alloc: A,
     table: &ItemTable<'_, A>,

@@ -88,9 +88,9 @@ KeepsOwnCircles declared end out =
     (λ s. KeepsAssigned s (all_rescued (own_lanes s.partition.groups)) end out)
     (λ r. end ≡ Refused)
 
--- what is promised where the items with these names must go on, for the texts of a declaration and an assignment: `safe`
--- is printed if no run ends stuck for them, in any reading; and of two readings that differ only in unsure flushes that
--- aren't printed, in both or in neither some run ends stuck for them
+-- what is promised where the items with these names must go on, for the texts of a declaration and an assignment:
+-- `safe` is printed if no run ends stuck for them, in any reading; and of two readings that differ only in unsure
+-- flushes that aren't printed, in both or in neither some run ends stuck for them
 pub record KeepsHeldFlushes (s : Declared) (ws : Workqueues) (named : List ℕ) (end : End) (out : List ℕ)
     : Type 0 where
   pub safe : end ≡ Good → IsSafeFor (wiring_of (declared_waits s) ws) named × (out ≡ safe_text)
@@ -98,7 +98,8 @@ pub record KeepsHeldFlushes (s : Declared) (ws : Workqueues) (named : List ℕ) 
       × (out ≡ held_text s.table.names s.table.waits components waits ways)
       × (¬ IsSafeFor (wiring_of (declared_waits s) ws) named)
       × ((kept others : List ℕ)
-      → ((p : ℕ) → is_among (map (λ (b : WaitArc). b.place) (flat_map (λ arcs. arcs) components ++ waits ++ ways)) p ≡ true
+      → ((p : ℕ) → is_among (map (λ (b : WaitArc). b.place) (flat_map (λ arcs. arcs) components ++ waits ++ ways))
+          p ≡ true
       → is_among kept p ≡ is_among others p)
       → IsSafeFor (reading (wiring_of (declared_waits s) ws) kept) named
       → IsSafeFor (reading (wiring_of (declared_waits s) ws) others) named)

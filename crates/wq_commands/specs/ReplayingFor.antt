@@ -20,8 +20,8 @@ use Rattle.wq_commands.specs.Found.{AnswersIn}
 use Rattle.wq_commands.specs.Named.{FindsNamed, IfNamed}
 use Rattle.wq_commands.specs.Replaying.{replay_end, replay_words, wiring_read}
 
--- how these steps end where these items must go on is printed, in the reading that keeps these unsure flushes, or of all
--- flushes
+-- how these steps end where these items must go on is printed, in the reading that keeps these unsure flushes, or of
+-- all flushes
 pub record AnswersReplayFor (s : Declared) (ws : Workqueues) (kept : Option (List ℕ)) (steps : List Step)
     (named : List ℕ) (end : End) (out : List ℕ) : Type 0 where
   pub run_end : RunEnd

@@ -14,8 +14,8 @@ abbrev pub EndsStuckFor : Wiring → List ℕ → ℕ → List Step → Type 0
 EndsStuckFor w named n steps =
     IsRun (with_helpers w n) steps × IsStuckFor (with_helpers w n) named (end_of (with_helpers w n) steps)
 
--- with 0 to 8 helpers alike the steps are a run that ends stuck for these items; none of them needs a worker that nobody
--- can rely on; and no run that ends stuck for them, with 0 to 8 helpers, has fewer steps
+-- with 0 to 8 helpers alike the steps are a run that ends stuck for these items; none of them needs a worker that
+-- nobody can rely on; and no run that ends stuck for them, with 0 to 8 helpers, has fewer steps
 pub record IsShortestFor (w : Wiring) (named : List ℕ) (steps : List Step) : Type 0 where
   pub hangs : (n : ℕ) → n ≤ max_helpers → EndsStuckFor w named n steps
   pub alone : All (λ (step : Step). ¬ NeedsWorker w step) steps

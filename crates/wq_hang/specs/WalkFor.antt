@@ -1,5 +1,5 @@
--- Walks for items that must go on: waits by which one of them is held up. They are about flushes and lanes alone, and no
--- run is spoken of.
+-- Walks for items that must go on: waits by which one of them is held up. They are about flushes and lanes alone, and
+-- no run is spoken of.
 use Rattle.std.specs.Prelude.{◌≡◌, ℕ, ◌<◌, ◌≤◌, ◌==◌, not, if◌then◌else◌, ◌⊎◌, List, [], ◌∷◌, ◌++◌, length, filter}
 use Rattle.std.specs.Prelude.{flat_map, slice_index_or, false, Contains}
 use Rattle.wq_core.specs.Wiring.{Wiring, HasRescuer, items, lane_of}

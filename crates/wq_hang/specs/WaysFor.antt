@@ -6,7 +6,8 @@ use Rattle.wq_items.specs.declared.target.Target.{Target}
 use Rattle.wq_core.specs.Wiring.{Wiring, HasRescuer, items, lane_of, declared_by}
 use Rattle.wq_hang.specs.declared.hop.Hop.{Hop}
 use Rattle.wq_hang.specs.Walk.{IsHop, IsPath}
-use Rattle.wq_hang.specs.Search.{IsTodo, Reach, hop_cost, hops_cost, lane_step, step, to_both, with_lane_cost, with_todo}
+use Rattle.wq_hang.specs.Search.{IsTodo, Reach, hop_cost, hops_cost, lane_step, step, to_both, with_lane_cost,
+    with_todo}
 
 -- ---- what one step does
 
@@ -28,8 +29,8 @@ started_lane q on s =
     then fold (λ (r : Reach) (j : ℕ). begin_at false 1 r j) (with_lane_cost q 1 s) on
     else s
 
--- a flush of item i, which costs so much, leads on where that costs less than the limit, if the lane of its target has a
--- rescuer
+-- a flush of item i, which costs so much, leads on where that costs less than the limit, if the lane of its target has
+-- a rescuer
 abbrev pub follow_below : Wiring → List (List ℕ) → ℕ → ℕ → ℕ → Reach → Target → Reach
 follow_below w on limit i cost s t =
     if slice_index_or w.bare (lane_of w t.item) false then s else to_both w on limit i cost s t
@@ -46,8 +47,8 @@ IsPushedOnce i marks list new_marks new_list =
 
 -- ---- ways
 
--- a way that begins with item i costs so much to begin with: nothing if it is one of these, or 1 if it is on the lane of
--- one of these, which is behind it
+-- a way that begins with item i costs so much to begin with: nothing if it is one of these, or 1 if it is on the lane
+-- of one of these, which is behind it
 abbrev pub BeginsAt : Wiring → List ℕ → ℕ → ℕ → Type 0
 BeginsAt w starts i cost =
     (Contains starts i × (cost ≡ 0))
@@ -134,12 +135,14 @@ pub record ArePending (w : Wiring) (starts : List ℕ) (limit : ℕ) (s : Reach)
   pub by_each : length p.by ≡ items w
   pub starts : All (λ i. slice_index p.costs i ≡ 0) starts
   pub capped : (i : ℕ) → slice_index p.costs i ≤ limit
-  pub least : (i : ℕ) (t : Target) → WaitsAlone w limit s i t → slice_index p.costs t.item ≤ slice_index s.costs i + step t
+  pub least : (i : ℕ) (t : Target) → WaitsAlone w limit s i t
+      → slice_index p.costs t.item ≤ slice_index s.costs i + step t
   pub queued : (i : ℕ) → i < items w → slice_index p.costs i ≡ 0 → Contains starts i
   pub by : (i : ℕ) (d : Hop) → i < items w → 0 < slice_index p.costs i → slice_index p.costs i < limit
       → WaitsAlone w limit s (slice_index_or p.by i d).item (slice_index_or p.by i d).flush
       × ((slice_index_or p.by i d).flush.item ≡ i)
-      × (slice_index s.costs (slice_index_or p.by i d).item + step (slice_index_or p.by i d).flush ≤ slice_index p.costs i)
+      × (slice_index s.costs (slice_index_or p.by i d).item + step (slice_index_or p.by i d).flush ≤ slice_index p.costs
+          i)
 
 -- for each item, if a hop waits for it alone, more than it costs to come to the item that waits
 abbrev pub AreLatest : Wiring → ℕ → List ℕ → List ℕ → Type 0

@@ -19,10 +19,10 @@ use wq_items::ItemId;
 
 /// Whether one of these items can be held up on the workqueues of declared groups, and else how that happens soonest.
 ///
-/// `HeldUp` has one of them, and a run that ends stuck for them, such that no run that does has fewer steps, with 0 to 8
-/// helpers of each workqueue; and the waits in it that hold the item up. With unsure flushes it is a run of the reading
-/// that keeps those of its waits (`needed_places`): no reading that keeps fewer has such a run, and none that keeps as
-/// few has a shorter one. The only error is out of memory (20).
+/// `HeldUp` has one of them, and a run that ends stuck for them, such that no run that does has fewer steps, with 0 to
+/// 8 helpers of each workqueue; and the waits in it that hold the item up. With unsure flushes it is a run of the
+/// reading that keeps those of its waits (`needed_places`): no reading that keeps fewer has such a run, and none that
+/// keeps as few has a shorter one. The only error is out of memory (20).
 pub fn held_up<A: Allocator + Copy>(
     alloc: A,
     assigned: &Assigned<'_, '_, A>,

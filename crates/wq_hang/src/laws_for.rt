@@ -14,11 +14,12 @@ ghost use Rattle.wq_hang.specs.ShortestFor.{EndsStuckFor, IsFewestFor};
 ghost use Rattle.wq_hang.specs.Walk.{ArePlacesApart, needs, run_of_walk, unsure_cost, unsure_hops, walk_steps};
 ghost use Rattle.wq_hang.specs.WalkFor.{IsLeastWalkFor, IsWalkFor, cost_for, pending_for};
 
-/// Some run ends stuck for these items exactly if there is a walk that holds one of them up. So it depends on the lane of
-/// an item alone whether it can be held up, if that has a rescuer.
+/// Some run ends stuck for these items exactly if there is a walk that holds one of them up. So it depends on the lane
+/// of an item alone whether it can be held up, if that has a rescuer.
 pub fn items_are_held_up_by_walks()
     ensures walk { (w : Wiring) (named : List ℕ) (n : ℕ) (steps : List Step) → IsWiring w →
-        All (λ i. i < items w) named → EndsStuckFor w named n steps → (x : ℕ) × (hops : List Hop) × IsWalkFor w named x hops }
+        All (λ i. i < items w) named → EndsStuckFor w named n steps →
+        (x : ℕ) × (hops : List Hop) × IsWalkFor w named x hops }
     ensures run { (w : Wiring) (named : List ℕ) (x : ℕ) (hops : List Hop) → IsWiring w → IsWalkFor w named x hops →
         (steps : List Step) × EndsStuckFor w named 0 steps }
     ensures safe { (w : Wiring) (named : List ℕ) → IsWiring w → All (λ i. i < items w) named →
@@ -27,8 +28,8 @@ pub fn items_are_held_up_by_walks()
         HasRescuer w (lane_of w i) → IsSafeFor w (i ∷ []) → IsSafeFor w (j ∷ []) }
 {}
 
-/// If a run ends stuck for these items, whatever the number of helpers, there is a walk whose run has no more steps. Of a
-/// reading: there is a walk of all flushes that costs no more than the unsure flushes that the reading keeps and the
+/// If a run ends stuck for these items, whatever the number of helpers, there is a walk whose run has no more steps. Of
+/// a reading: there is a walk of all flushes that costs no more than the unsure flushes that the reading keeps and the
 /// steps of the run.
 pub fn a_run_that_holds_items_up_has_a_walk()
     ensures steps { (w : Wiring) (named : List ℕ) (n : ℕ) (steps : List Step) → IsWiring w →

@@ -15,8 +15,8 @@ ghost use Rattle.wq_hang.specs.declared.hop.Hop.{Hop};
 ghost use Rattle.wq_hang.specs.Walk.{AreFirstAlike, max_walk_cost};
 ghost use Rattle.wq_hang.specs.WalkFor.{IsLeastWalkFor, IsWalkFor};
 ghost use Rattle.wq_hang.specs.WaysFor.{AreLatest, AreNear};
-ghost use Rattle.wq_hang.specs.EndsFor.{IsBest, IsBestEnd, IsEnd, IsRoundAlone, IsWalkAt, NoneAlone, NoneBare, NoneFrom};
-ghost use Rattle.wq_hang.specs.EndsFor.{EndsAlone, IsLedTo};
+ghost use Rattle.wq_hang.specs.EndsFor.{EndsAlone, IsBest, IsBestEnd, IsEnd, IsLedTo, IsRoundAlone, IsWalkAt};
+ghost use Rattle.wq_hang.specs.EndsFor.{NoneAlone, NoneBare, NoneFrom};
 
 use crate::bounds::{bounds, by_falling_numbers};
 use crate::hop::Hop;
@@ -28,6 +28,7 @@ use crate::settling::settle_held;
 use crate::waits::Waits;
 use crate::ways::{search_ways, way_to};
 use std::alloc::{AllocError, Allocator};
+use std::marker::Model;
 use wq_buckets::Buckets;
 use wq_items::ItemId;
 

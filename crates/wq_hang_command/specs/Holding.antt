@@ -26,9 +26,9 @@ use Rattle.wq_commands.specs.Found.{AnswersIn}
 use Rattle.wq_commands.specs.Named.{FindsNamed, IfNamed}
 use Rattle.wq_hang_command.specs.declared.holding.Holding.{Holding}
 
--- the steps are printed of a shortest run of these workqueues that ends stuck for these items: of the reading that keeps
--- the fewest unsure flushes, which are printed, too, if the declaration has any. It is the run of a walk that holds one
--- of them up
+-- the steps are printed of a shortest run of these workqueues that ends stuck for these items: of the reading that
+-- keeps the fewest unsure flushes, which are printed, too, if the declaration has any. It is the run of a walk that
+-- holds one of them up
 pub record PrintsHold (s : Declared) (ws : Workqueues) (named : List ℕ) (out : List ℕ) : Type 0 where
   pub item : ℕ
   pub steps : List Step
@@ -36,8 +36,8 @@ pub record PrintsHold (s : Declared) (ws : Workqueues) (named : List ℕ) (out :
   pub held : IsHeldBy (declared_waits s) ws named item hops steps
   pub text : out ≡ reading_text s.table.names s.table.waits (needs hops) steps
 
--- the answer to workqueues of a declaration's groups where these items must go on: `safe` if no run ends stuck for them,
--- whatever the unsure flushes turn out to be, else a shortest run that does
+-- the answer to workqueues of a declaration's groups where these items must go on: `safe` if no run ends stuck for
+-- them, whatever the unsure flushes turn out to be, else a shortest run that does
 abbrev pub HoldsAssigned : Declared → Workqueues → List ℕ → End → List ℕ → Type 0
 HoldsAssigned s ws named Good out =
     IsAssignment s.partition.groups ws.assignment × IsSafeFor (wiring_of (declared_waits s) ws) named

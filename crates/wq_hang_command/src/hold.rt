@@ -1,8 +1,8 @@
 //! The command `hang` with the names of items that must go on: from what is declared and the bytes of an assignment to
 //! the bytes of the answer.
 //!
-//! The answer is built in full before its first byte is written. It takes the time of reading the assignment, of looking
-//! the names up, of the search and of writing the answer.
+//! The answer is built in full before its first byte is written. It takes the time of reading the assignment, of
+//! looking the names up, of the search and of writing the answer.
 
 use crate::holding::{Holding, hold_declared};
 use std::alloc::{AllocError, Allocator};

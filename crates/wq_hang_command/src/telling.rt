@@ -1,5 +1,5 @@
-//! What is said beside the answer of `hang` where items must go on: beside a run, by which waits one of them is held up;
-//! beside `safe`, what that doesn't say.
+//! What is said beside the answer of `hang` where items must go on: beside a run, by which waits one of them is held
+//! up; beside `safe`, what that doesn't say.
 //!
 //! The walk is that of the answer. A call takes the time and the memory of the words, and beside `safe` of the search
 //! for a shortest hang.

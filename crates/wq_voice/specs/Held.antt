@@ -1,6 +1,7 @@
--- What is said of items that must go on: by which waits one of them is held up; or, beside `safe`, that nothing on their
--- workqueues waits, and that other items can hang.
-use Rattle.std.specs.Prelude.{◌≡◌, ◌==◌, ◌&&◌, if◌then◌else◌, cond, ℕ, Bool, true, false, not, List, [], ◌∷◌, ◌++◌, length}
+-- What is said of items that must go on: by which waits one of them is held up; or, beside `safe`, that nothing on
+-- their workqueues waits, and that other items can hang.
+use Rattle.std.specs.Prelude.{◌≡◌, ◌==◌, ◌&&◌, if◌then◌else◌, cond, ℕ, Bool, true, false, not, List, [], ◌∷◌, ◌++◌,
+    length}
 use Rattle.std.specs.Prelude.{Option, Some, None, filter, map, unwrap_or}
 use Rattle.std.specs.List.{range_with_len}
 use Rattle.wq_items.specs.Readings.{is_among}
@@ -72,8 +73,8 @@ held_told s ws names x (h ∷ hops) =
     held_words s ws names x h
     ∷ map (λ (g : Hop). lead_for and_lead g ++ words_of OnWorkqueues s ws names g) hops
 
--- the waits of a walk that holds up x are said in the first file; without a wait, in the second, that the workqueue of x
--- has no rescuer
+-- the waits of a walk that holds up x are said in the first file; without a wait, in the second, that the workqueue of
+-- x has no rescuer
 abbrev pub TellsWalk : List ℕ → List ℕ → Declared → Workqueues → List (List ℕ) → ℕ → List Hop → List ℕ → Type 0
 TellsWalk first second s ws names x [] text =
     IsSaidOf second (held_bare (item_words s x) (home_words s ws names x)) text
@@ -147,8 +148,8 @@ abbrev pub below : Option (List ℕ) → List ℕ → Option (List ℕ)
 below said [] = said
 below said (byte ∷ notes) = Some (unwrap_or said [] ++ (byte ∷ notes))
 
--- what is said beside `safe` of these items: as beside every `safe` of these workqueues; then on which workqueues nothing
--- declares a flush, and whether other items can hang
+-- what is said beside `safe` of these items: as beside every `safe` of these workqueues; then on which workqueues
+-- nothing declares a flush, and whether other items can hang
 abbrev pub NotesNotHeld : List ℕ → List ℕ → List ℕ → Declared → Workqueues → List ℕ → Option (List ℕ) → Type 0
 NotesNotHeld first second lanes s ws named said =
     (rest : Option (List ℕ)) × (others : List ℕ) × NotesBare first second lanes s ws rest

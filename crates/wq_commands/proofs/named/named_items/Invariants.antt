@@ -6,5 +6,6 @@ use Rattle.wq_commands.proofs.named.named_items.Given as goal
 -- the items so far, and those of the names that are left
 abbrev pub invariant-loop-name : goal.invariant-loop-name
 invariant-loop-name g l =
-    option_map (λ (is : List ℕ). l.items.items ++ is) (items_of l.table.names (map (λ n. n.now) (drop l.name-index l.names)))
+    option_map (λ (is : List ℕ). l.items.items ++ is) (items_of l.table.names
+        (map (λ n. n.now) (drop l.name-index l.names)))
     ≡ items_of l.table.names (map (λ n. n.now) l.names)
