@@ -7,6 +7,7 @@ use Rattle.wq_core.specs.Wiring.{Wiring, lane_of}
 use Rattle.wq_hang.specs.declared.hop.Hop.{Hop}
 use Rattle.wq_hang.specs.Search.{Reach, reached, reach, hop_to, reach_all, with_lane_cost, reach_lane, step}
 use Rattle.wq_hang.specs.Search.{lane_step, most_of_use, to_target, to_lane, to_both, follow}
+use Rattle.wq_hang.specs.WaysFor.{follow_below}
 
 -- as many items and lanes
 pub record AsLarge (s r : Reach) : Type 0 where
@@ -78,3 +79,22 @@ AsLarge-follows w on bounds first i cost (t ∷ ts) s =
     let r : Reach = follow w on bounds first i cost s t in
     AsLarge-both s r (fold (follow w on bounds first i cost) r ts) (AsLarge-follow w on bounds first i cost s t)
     (AsLarge-follows w on bounds first i cost ts r)
+
+-- ---- the same where a search has no round to look out for
+
+pub AsLarge-follow_below : (w : Wiring) (on : List (List ℕ)) (limit i cost : ℕ) (s : Reach) (t : Target)
+    → AsLarge s (follow_below w on limit i cost s t)
+AsLarge-follow_below w on limit i cost s t = by (slice_index_or w.bare (lane_of w t.item) false)
+  where
+    by : (b : Bool) → AsLarge s (if b then s else to_both w on limit i cost s t)
+    by true = AsLarge-same s
+    by false = AsLarge-both s (to_target limit i cost s t) (to_both w on limit i cost s t)
+        (AsLarge-target limit i cost s t) (AsLarge-to_lane w on limit i cost (to_target limit i cost s t) t)
+
+pub AsLarge-follows_below : (w : Wiring) (on : List (List ℕ)) (limit i cost : ℕ) (ts : List Target) (s : Reach)
+    → AsLarge s (fold (follow_below w on limit i cost) s ts)
+AsLarge-follows_below w on limit i cost [] s = AsLarge-same s
+AsLarge-follows_below w on limit i cost (t ∷ ts) s =
+    let r : Reach = follow_below w on limit i cost s t in
+    AsLarge-both s r (fold (follow_below w on limit i cost) r ts) (AsLarge-follow_below w on limit i cost s t)
+    (AsLarge-follows_below w on limit i cost ts r)

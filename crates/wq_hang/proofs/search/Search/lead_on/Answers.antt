@@ -2,8 +2,8 @@ use Rattle.std.proofs.Common.{List, ℕ, get_or, [], length, ◌+◌, ◌∙◌,
 use Rattle.std.proofs.lemmas.List.Elements.{Contains-get_or}
 use Rattle.wq_hang.specs.Search.{Reach, hop_to}
 use Rattle.wq_hang.proofs.Sizes.{AsLarge-reach}
-use Rattle.wq_hang.proofs.search.Search.follow.Goals as goal
-use Rattle.wq_hang.proofs.search.Search.follow.Goals.{then-cost-most+in_ok-reach, else-cost-most}
+use Rattle.wq_hang.proofs.search.Search.lead_on.Goals as goal
+use Rattle.wq_hang.proofs.search.Search.lead_on.Goals.{then-cost-most+in_ok-reach, else-cost-most}
 
 pub reach_lane-requires-clause-on : goal.reach_lane-requires-clause-on
 reach_lane-requires-clause-on g c k d lt =
