@@ -92,11 +92,12 @@ once-new y (x ∷ xs) avoids =
 -- and one that stands there is left out
 pub once-again : (y : ℕ) (xs : List ℕ) → In y xs → once (xs ++ (y ∷ [])) ≡ once xs
 once-again y [] there = absurd there
-once-again y (x ∷ xs) there = by (cases_In y xs) there
+once-again y (x ∷ xs) there = by (cases_In y xs) there (λ later. once-again y xs later)
   where
-    by : In y xs ⊎ Avoids y xs → In y (x ∷ xs) → once (x ∷ (xs ++ (y ∷ []))) ≡ once (x ∷ xs)
-    by (inl later) here = ap (λ (l : List ℕ). x ∷ filter (λ j. not (j == x)) l) (once-again y xs later)
-    by (inr none) (inr later) = absurd (not_in y xs none later)
-    by (inr none) (inl same) =
+    by : In y xs ⊎ Avoids y xs → In y (x ∷ xs) → (In y xs → once (xs ++ (y ∷ [])) ≡ once xs)
+        → once (x ∷ (xs ++ (y ∷ []))) ≡ once (x ∷ xs)
+    by (inl later) here rest = ap (λ (l : List ℕ). x ∷ filter (λ j. not (j == x)) l) (rest later)
+    by (inr none) (inr later) rest = absurd (not_in y xs none later)
+    by (inr none) (inl same) rest =
         ap (λ (l : List ℕ). x ∷ filter (λ j. not (j == x)) l) (once-new y xs none)
         ∙ ap (λ (l : List ℕ). x ∷ l) (gone x y (once xs) same)

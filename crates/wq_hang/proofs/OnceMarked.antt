@@ -30,11 +30,17 @@ module _ (n : ℕ) (marks : List Bool) (list xs : List ℕ) (are : AreOnce n mar
       at : (j : ℕ) → ((j ≡ i) × (get_or new_marks j false ≡ true))
           ⊎ ((j ≢ i) × (get_or new_marks j false ≡ get_or marks j false))
       at j = elim (cases_eq j i) [
-        | inl same ↦ inl (same, subst (λ (l : List Bool). get_or l j false ≡ true) (sym pushed.0)
-            (subst (λ (k : ℕ). get_or (set marks i true) k false ≡ true) (sym same)
-            (get_or-set_same marks i true false (omega (arith, below, are.size)))))
-        | inr other ↦ inr (other, ap (λ (l : List Bool). get_or l j false) pushed.0
-            ∙ get_or-set_other marks i j true false other)
+        | inl same ↦ inl (
+          same,
+          subst (λ (l : List Bool). get_or l j false ≡ true) (sym pushed.0)
+              (subst (λ (k : ℕ). get_or (set marks i true) k false ≡ true) (sym same)
+              (get_or-set_same marks i true false (omega (arith, below, are.size)))),
+        )
+        | inr other ↦ inr (
+          other,
+          ap (λ (l : List Bool). get_or l j false) pushed.0
+              ∙ get_or-set_other marks i j true false other,
+        )
       ]
 
       marked : (j : ℕ) → j < n → slice_index_or new_marks j false ≡ true → In j (xs ++ (i ∷ []))
@@ -58,6 +64,11 @@ module _ (n : ℕ) (marks : List Bool) (list xs : List ℕ) (are : AreOnce n mar
       is : new_list ≡ once (xs ++ (i ∷ []))
       is = by (cases_In i xs)
         where
+          not_marked : (b : Bool) → slice_index_or marks i false ≡ b → ¬ (slice_index_or marks i false ≡ true)
+              → slice_index_or marks i false ≡ false
+          not_marked true is none = absurd (none is)
+          not_marked false is none = is
+
           by : In i xs ⊎ Avoids i xs → new_list ≡ once (xs ++ (i ∷ []))
           by (inl there) =
               pushed.1
@@ -70,8 +81,3 @@ module _ (n : ℕ) (marks : List Bool) (list xs : List ℕ) (are : AreOnce n mar
               (not_marked (slice_index_or marks i false) refl (λ is. not_in i xs none (are.marked i below is)))
               ∙ ap (λ (l : List ℕ). l ++ (i ∷ [])) are.is
               ∙ sym (once-new i xs none)
-
-          not_marked : (b : Bool) → slice_index_or marks i false ≡ b → ¬ (slice_index_or marks i false ≡ true)
-              → slice_index_or marks i false ≡ false
-          not_marked true is none = absurd (none is)
-          not_marked false is none = is

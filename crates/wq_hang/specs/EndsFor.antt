@@ -22,7 +22,7 @@ pub record Field : Type 0 where
 -- these are found in the wiring: ways that begin at items on lanes with a rescuer. On each lane are these items
 pub record IsField (on : List (List ℕ)) (f : Field) : Type 0 where
   pub items_on : AreItemsOn f.wiring on
-  pub starts : All (λ i. (i < items f.wiring) × HasRescuer f.wiring (lane_of f.wiring i)) f.starts
+  pub begin : All (λ i. (i < items f.wiring) × HasRescuer f.wiring (lane_of f.wiring i)) f.starts
   pub ways : AreWays f.wiring f.starts max_walk_cost f.ways
   pub pending : ArePending f.wiring f.starts max_walk_cost f.ways f.pending
 

@@ -6,8 +6,17 @@ use Rattle.wq_items.specs.declared.target.Target.{Target}
 use Rattle.wq_core.specs.Wiring.{Wiring, HasRescuer, items, lane_of, declared_by}
 use Rattle.wq_hang.specs.declared.hop.Hop.{Hop}
 use Rattle.wq_hang.specs.Walk.{IsHop, IsPath}
-use Rattle.wq_hang.specs.Search.{IsTodo, Reach, hop_cost, hops_cost, lane_step, step, to_both, with_lane_cost,
-    with_todo}
+use Rattle.wq_hang.specs.Search.{
+  IsTodo,
+  Reach,
+  hop_cost,
+  hops_cost,
+  lane_step,
+  step,
+  to_both,
+  with_lane_cost,
+  with_todo,
+}
 
 -- ---- what one step does
 
@@ -18,16 +27,13 @@ begin_at near cost s i =
     then with_todo near false i (record s { costs = slice_set s.costs i cost })
     else s
 
--- it costs nothing to come to item i
-abbrev pub started : ℕ → Reach → Reach
-started i s = begin_at true 0 s i
+-- it costs 1 to come to each of these items
+abbrev pub begin_all : List ℕ → Reach → Reach
+begin_all on s = fold (begin_at false 1) s on
 
--- it costs 1 to come to each of these items, which are all items of lane q
-abbrev pub started_lane : ℕ → List ℕ → Reach → Reach
-started_lane q on s =
-    if nat_lt 1 (slice_index s.lane_costs q)
-    then fold (λ (r : Reach) (j : ℕ). begin_at false 1 r j) (with_lane_cost q 1 s) on
-    else s
+-- the same, if these are all items of lane q, and to come to any item of it cost more before
+abbrev pub start_lane : ℕ → List ℕ → Reach → Reach
+start_lane q on s = if nat_lt 1 (slice_index s.lane_costs q) then with_lane_cost q 1 (begin_all on s) else s
 
 -- a flush of item i, which costs so much, leads on where that costs less than the limit, if the lane of its target has
 -- a rescuer
@@ -133,16 +139,16 @@ pub record WaitsAlone (w : Wiring) (limit : ℕ) (s : Reach) (i : ℕ) (t : Targ
 pub record ArePending (w : Wiring) (starts : List ℕ) (limit : ℕ) (s : Reach) (p : PendingFound) : Type 0 where
   pub one_each : length p.costs ≡ items w
   pub by_each : length p.by ≡ items w
-  pub starts : All (λ i. slice_index p.costs i ≡ 0) starts
+  pub begun : All (λ i. slice_index p.costs i ≡ 0) starts
   pub capped : (i : ℕ) → slice_index p.costs i ≤ limit
   pub least : (i : ℕ) (t : Target) → WaitsAlone w limit s i t
       → slice_index p.costs t.item ≤ slice_index s.costs i + step t
-  pub queued : (i : ℕ) → i < items w → slice_index p.costs i ≡ 0 → Contains starts i
+  pub no_others : (i : ℕ) → i < items w → slice_index p.costs i ≡ 0 → Contains starts i
   pub by : (i : ℕ) (d : Hop) → i < items w → 0 < slice_index p.costs i → slice_index p.costs i < limit
       → WaitsAlone w limit s (slice_index_or p.by i d).item (slice_index_or p.by i d).flush
       × ((slice_index_or p.by i d).flush.item ≡ i)
       × (slice_index s.costs (slice_index_or p.by i d).item + step (slice_index_or p.by i d).flush ≤ slice_index p.costs
-          i)
+      i)
 
 -- for each item, if a hop waits for it alone, more than it costs to come to the item that waits
 abbrev pub AreLatest : Wiring → ℕ → List ℕ → List ℕ → Type 0

@@ -16,7 +16,7 @@ ghost use Rattle.wq_hang.specs.declared.hop.Hop.{Hop};
 ghost use Rattle.wq_hang.specs.Walk.{max_walk_cost};
 ghost use Rattle.wq_hang.specs.Search.{AreItemsOn, IsTaken, IsSearched, with_todo, reach, reach_all, reach_lane};
 ghost use Rattle.wq_hang.specs.Search.{most_of_use, to_both, follow, expand, hop_to, AreBounds};
-ghost use Rattle.wq_hang.specs.WaysFor.{started, started_lane};
+ghost use Rattle.wq_hang.specs.WaysFor.{begin_at, begin_all, start_lane};
 
 use crate::hop::Hop;
 use crate::hop_back::unsure_part;
@@ -278,17 +278,37 @@ impl<A: Allocator + Copy> Search<A> {
         self.lead_on(waits, on, most, item, cost, flush)
     }
 
+    /// It costs so much to come to an item, if that is less than before. It is reached by no hop.
+    fn begin_at(&mut self, near: bool, cost: u32, item: ItemId) -> Result<(), AllocError>
+        requires { item < length self.old.costs }
+        ensures { IfOk result (λ _. self.new ≡ begin_at near cost self.old item) }
+    {
+        let at = usize::from(item.get());
+        if cost < self.costs[at] {
+            self.costs[at] = cost;
+            self.push(near, false, item)?;
+        }
+        Ok(())
+    }
+
+    /// It costs 1 to come to each of these items.
+    fn begin_all(&mut self, on: &[u32]) -> Result<(), AllocError>
+        requires on { All (λ j. j < length self.old.costs) on.now }
+        requires few { length self.old.costs ≤ 4096 }
+        ensures { IfOk result (λ _. self.new ≡ begin_all on.now self.old) }
+    {
+        for item in on {
+            self.begin_at(false, 1, ItemId::new(*item as u16))?;
+        }
+        Ok(())
+    }
+
     /// It costs nothing to come to an item: it is queued, and may wait.
     pub(crate) fn start(&mut self, item: ItemId) -> Result<(), AllocError>
         requires { item < length self.old.costs }
-        ensures { IfOk result (λ _. self.new ≡ started item self.old) }
+        ensures { IfOk result (λ _. self.new ≡ begin_at true 0 self.old item) }
     {
-        let at = usize::from(item.get());
-        if self.costs[at] > 0 {
-            self.costs[at] = 0;
-            self.push(true, false, item)?;
-        }
-        Ok(())
+        self.begin_at(true, 0, item)
     }
 
     /// It costs 1 to come to each of these items, which are those of a lane: one that is queued is behind them.
@@ -296,18 +316,11 @@ impl<A: Allocator + Copy> Search<A> {
         requires lane { lane < length self.old.lane_costs }
         requires on { All (λ j. j < length self.old.costs) on.now }
         requires few { length self.old.costs ≤ 4096 }
-        ensures { IfOk result (λ _. self.new ≡ started_lane lane on.now self.old) }
+        ensures { IfOk result (λ _. self.new ≡ start_lane lane on.now self.old) }
     {
-        let own = usize::from(lane.get());
-        if self.lane_costs[own] > 1 {
-            self.lane_costs[own] = 1;
-            for item in on {
-                let at = *item as usize;
-                if self.costs[at] > 1 {
-                    self.costs[at] = 1;
-                    self.push(false, false, ItemId::new(*item as u16))?;
-                }
-            }
+        if self.lane_costs[usize::from(lane.get())] > 1 {
+            self.begin_all(on)?;
+            self.lane_costs[usize::from(lane.get())] = 1;
         }
         Ok(())
     }
