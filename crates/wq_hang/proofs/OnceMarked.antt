@@ -1,9 +1,9 @@
 -- A list of numbers, each once, and marks of those that are on it.
-use Rattle.std.proofs.Common.{◌≡◌, ◌≢◌, ℕ, ◌<◌, ◌⊎◌, inl, inr, Bool, true, false, cond, List, [], ◌∷◌, ◌++◌, length, set}
-use Rattle.std.proofs.Common.{get_or, refl, sym, ap, subst, ◌∙◌, arith}
-use Rattle.std.specs.Prelude.{slice_index_or}
+use Rattle.std.proofs.Common.{◌≡◌, ◌≢◌, ℕ, ◌<◌, ◌⊎◌, inl, inr, Bool, true, false, cond, List, [], ◌∷◌, ◌++◌, length}
+use Rattle.std.proofs.Common.{zero, suc, ◌+◌, take, set, get_or, refl, sym, ap, subst, ◌∙◌, arith}
+use Rattle.std.specs.Prelude.{flat_map, slice_index_or}
 use Rattle.std.proofs.lemmas.Bool.{cases_eq}
-use Rattle.std.proofs.lemmas.List.{get_or-set_same, get_or-set_other, length-set}
+use Rattle.std.proofs.lemmas.List.{append-nil, append_assoc, get_or-set_same, get_or-set_other, length-set}
 use Rattle.wq_hang.specs.WalkFor.{once}
 use Rattle.wq_hang.specs.WaysFor.{IsPushedOnce}
 use Rattle.wq_hang.proofs.Apart.{Avoids, In, cases_In, not_in, In-append_left, In-append_right}
@@ -81,3 +81,15 @@ module _ (n : ℕ) (marks : List Bool) (list xs : List ℕ) (are : AreOnce n mar
               (not_marked (slice_index_or marks i false) refl (λ is. not_in i xs none (are.marked i below is)))
               ∙ ap (λ (l : List ℕ). l ++ (i ∷ [])) are.is
               ∙ sym (once-new i xs none)
+
+-- ---- the next one of a list
+
+-- what the next hop adds
+pub flat_map-next : {X : Type 0} (f : X → List ℕ) (k : ℕ) (xs : List X) (x : X) → k < length xs → x ≡ get_or xs k x
+    → flat_map f (take (k + 1) xs) ≡ flat_map f (take k xs) ++ f x
+flat_map-next f k [] x lt is = absurd (omega arith)
+flat_map-next f zero (y ∷ ys) x lt is =
+    append-nil (f y) ∙ ap f (sym is)
+flat_map-next f (suc k) (y ∷ ys) x lt is =
+    ap (λ (l : List ℕ). f y ++ l) (flat_map-next f k ys x (omega arith) is)
+    ∙ sym (append_assoc (f y) (flat_map f (take k ys)) (f x))

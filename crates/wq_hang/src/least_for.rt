@@ -8,7 +8,7 @@
 //! each of these.
 
 ghost use Rattle.std.specs.Prelude.{◌≡◌, ◌≢◌, ◌+◌, ◌<◌, ◌≤◌, ℕ, List, Contains, false, length, slice_index, IfOk, OnOk};
-ghost use Rattle.std.specs.Prelude.{IfSome, IfNone, IsTrue, MatchOption, ⊥, Some};
+ghost use Rattle.std.specs.Prelude.{IfSome, IfNone, IsTrue, MatchOption, Some};
 ghost use Rattle.std.specs.List.{All};
 ghost use Rattle.wq_core.specs.Wiring.{HasRescuer, items, lane_of};
 ghost use Rattle.wq_hang.specs.declared.hop.Hop.{Hop};
@@ -148,7 +148,12 @@ impl<A: Allocator + Copy> Field<'_, '_, A> {
         requires few { All (λ i. i < length self.now.ways.costs) few.now }
         ensures { result ≡ false → (i : ℕ) → Contains few.now i → best ≤ slice_index self.now.ways.costs i + 3 }
     {
-        few.iter().any(|item| self.ways.cost(ItemId::new(*item as u16)) + 3 < best)
+        for item in few {
+            if self.ways.cost(ItemId::new(*item as u16)) + 3 < best {
+                return true;
+            }
+        }
+        false
     }
 
     /// Looks for rounds from these few items.
@@ -216,10 +221,13 @@ impl<A: Allocator + Copy> Field<'_, '_, A> {
             lane_of self.now.wiring i ≡ lane_of self.now.wiring item → slice_index self.now.ways.costs i ≢ cost + 1 }
     {
         let lane = self.waits.lane_of(item).get();
-        self.on.places(lane).iter().any(|other| {
+        for other in self.on.places(lane) {
             let other = ItemId::new(*other as u16);
-            other != item && self.ways.cost(other) == cost + 1
-        })
+            if other != item && self.ways.cost(other) == cost + 1 {
+                return true;
+            }
+        }
+        false
     }
 
     /// The round from where somebody waits for an item alone, if it costs less than the limit, and what it costs.

@@ -18,20 +18,20 @@ lead_on-requires-clause-target g c =
 pub lead_on-requires-clause-one_each : goal.lead_on-requires-clause-one_each
 lead_on-requires-clause-one_each g c =
     let w = c.args.waits.now in
-    let large = AsLarge-follows_below w c.args.on.now c.args.limit c.args.item c.cost.result
+    let large = AsLarge-follows_below w c.args.on.now c.args.limit c.args.item c.cost-cost.result
     (take c.loop-flush.flush-index (declared_by w c.args.item)) c.args.search.now in
     ap (λ (r : Reach). length r.costs) c.loop-flush.invariant ∙ large.one_each ∙ c.requires.one_each
 
 pub lead_on-requires-clause-by_each : goal.lead_on-requires-clause-by_each
 lead_on-requires-clause-by_each g c =
     let w = c.args.waits.now in
-    let large = AsLarge-follows_below w c.args.on.now c.args.limit c.args.item c.cost.result
+    let large = AsLarge-follows_below w c.args.on.now c.args.limit c.args.item c.cost-cost.result
     (take c.loop-flush.flush-index (declared_by w c.args.item)) c.args.search.now in
     ap (λ (r : Reach). length r.by) c.loop-flush.invariant ∙ large.by_each ∙ c.requires.by_each
 
 pub lead_on-requires-clause-lanes_each : goal.lead_on-requires-clause-lanes_each
 lead_on-requires-clause-lanes_each g c =
     let w = c.args.waits.now in
-    let large = AsLarge-follows_below w c.args.on.now c.args.limit c.args.item c.cost.result
+    let large = AsLarge-follows_below w c.args.on.now c.args.limit c.args.item c.cost-cost.result
     (take c.loop-flush.flush-index (declared_by w c.args.item)) c.args.search.now in
     ap (λ (r : Reach). length r.lane_costs) c.loop-flush.invariant ∙ large.lanes_each ∙ c.requires.lanes_each
