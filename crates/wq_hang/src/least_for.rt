@@ -7,8 +7,8 @@
 //! those from its items only if all these are farther away: so few are looked for. It takes the time of a search for
 //! each of these.
 
-ghost use Rattle.std.specs.Prelude.{◌≡◌, ◌≢◌, ◌+◌, ◌<◌, ◌≤◌, ℕ, List, Contains, false, length, slice_index, IfOk, OnOk};
-ghost use Rattle.std.specs.Prelude.{IfSome, IfNone, IsTrue, MatchOption, Some};
+ghost use Rattle.std.specs.Prelude.{◌≡◌, ◌≢◌, ◌+◌, ◌<◌, ◌≤◌, ◌⊎◌, ℕ, List, Contains, false, length, slice_index};
+ghost use Rattle.std.specs.Prelude.{map, IfOk, OnOk, IfSome, IfNone, MatchOption, Some};
 ghost use Rattle.std.specs.List.{All};
 ghost use Rattle.wq_core.specs.Wiring.{HasRescuer, items, lane_of};
 ghost use Rattle.wq_hang.specs.declared.hop.Hop.{Hop};
@@ -90,6 +90,22 @@ impl<'a, 'w, A: Allocator> Model for Field<'a, 'w, A> {
     }) };
 }
 
+/// The numbers behind these costs, those with the least cost first.
+fn cheapest_first<A: Allocator + Copy>(
+    alloc: A,
+    mut keys: Vec<(u32, u32), A>,
+) -> Result<Vec<u32, A>, AllocError>
+    ensures all { IfOk result (λ list. (i : ℕ) → Contains (map (λ key. key.1) keys.entry.items) i → Contains list.items i) }
+    ensures none { IfOk result (λ list. (i : ℕ) → Contains list.items i → Contains (map (λ key. key.1) keys.entry.items) i) }
+{
+    keys.sort_unstable_by_key(|key| *key);
+    let mut list = Vec::with_capacity(alloc, keys.len())?;
+    for key in keys.iter() {
+        list.push(key.1)?;
+    }
+    Ok(list)
+}
+
 /// The items to which there are ways that cost less than the limit, the nearest first.
 fn by_cost<A: Allocator + Copy>(
     alloc: A,
@@ -107,12 +123,7 @@ fn by_cost<A: Allocator + Copy>(
             keys.push((cost, u32::from(i)))?;
         }
     }
-    keys.sort_unstable_by_key(|key| *key);
-    let mut near = Vec::with_capacity(alloc, keys.len())?;
-    for key in keys.iter() {
-        near.push(key.1)?;
-    }
-    Ok(near)
+    cheapest_first(alloc, keys)
 }
 
 impl<A: Allocator + Copy> Field<'_, '_, A> {
@@ -282,36 +293,93 @@ impl<A: Allocator + Copy> Field<'_, '_, A> {
         }
     }
 
-    /// Looks for rounds from where somebody waits for an item alone.
-    fn look_from_pending(
+    /// Whether a round from where somebody waits for an item alone may be better than the best end so far, and than those
+    /// from its items: one before the item costs 1, and its hop 3.
+    fn may_begin_alone(&self, latest: &[u32], item: ItemId, best: u32) -> bool
+        requires item { item < items self.now.wiring }
+        requires len { length latest.now ≡ items self.now.wiring }
+        ensures { result ≡ false → (best ≤ slice_index self.now.pending.costs item + 4)
+            ⊎ ((slice_index latest.now item ≤ slice_index self.now.pending.costs item + 1)
+            ⊎ ((i : ℕ) → i < items self.now.wiring → i ≢ item → lane_of self.now.wiring i ≡ lane_of self.now.wiring item
+            → slice_index self.now.ways.costs i ≢ slice_index self.now.pending.costs item + 1)) }
+    {
+        let cost = self.pending.cost(item);
+        cost + 4 < best
+            && latest[usize::from(item.get())] > cost + 1
+            && self.has_one_before(item, cost)
+    }
+
+    /// The items from where somebody waits for which alone rounds are looked for, the nearest first.
+    fn begin_alone(&self, alloc: A, latest: &[u32], best: u32) -> Result<Vec<u32, A>, AllocError>
+        requires len { length latest.now ≡ items self.now.wiring }
+        requires latest { AreLatest self.now.wiring max_walk_cost self.now.ways.costs latest.now }
+        requires round { (i : ℕ) → NoneFrom self.now best i }
+        requires most { best ≤ max_walk_cost }
+        ensures within { IfOk result (λ few. All (λ i. i < items self.now.wiring) few.items) }
+        ensures others { IfOk result (λ few. (t : ℕ) → Contains few.items t ⊎ NoneAlone self.now best t) }
+    {
+        let mut keys = Vec::new(alloc);
+        for i in 0..self.waits.items() as u16 {
+            let item = ItemId::new(i);
+            if self.may_begin_alone(latest, item, best) {
+                keys.push((self.pending.cost(item), u32::from(i)))?;
+            }
+        }
+        cheapest_first(alloc, keys)
+    }
+
+    /// Looks for rounds from where somebody waits for one of these few items alone.
+    fn look_from_alone(
         &self,
         alloc: A,
         search: &mut Search<A>,
-        latest: &[u32],
+        few: &[u32],
         best: &mut Best<A>,
     ) -> Result<(), AllocError>
-        requires len { length latest.now ≡ items self.now.wiring }
-        requires latest { AreLatest self.now.wiring max_walk_cost self.now.ways.costs latest.now }
+        requires few { All (λ i. i < items self.now.wiring) few.now }
         requires best { IsBest self.now best.old.cost best.old.end }
         requires round { (i : ℕ) → NoneFrom self.now best.old.cost i }
         ensures best { OnOk result (IsBest self.now best.new.cost best.new.end) }
         ensures less { OnOk result (best.new.cost ≤ best.old.cost) }
-        ensures none { OnOk result ((t : ℕ) → NoneAlone self.now best.new.cost t) }
+        ensures none { OnOk result ((t : ℕ) → Contains few.now t → NoneAlone self.now best.new.cost t) }
     {
-        for i in 0..self.waits.items() as u16 {
-            let item = ItemId::new(i);
+        let bounds = bounds(alloc, self.waits, self.on, self.order, few)?;
+        for i in few {
+            let item = ItemId::new(*i as u16);
             let cost = self.pending.cost(item);
-            // An item before it costs 1, and its hop 3.
-            if cost + 4 < best.cost
-                && latest[usize::from(i)] > cost + 1
-                && self.has_one_before(item, cost)
-            {
+            let back = bounds[usize::from(self.waits.lane_of(item).get())];
+            // One before the item costs 1, and its hop 3.
+            if cost + 4 < best.cost && back < best.cost - cost - 1 {
                 let limit = best.cost - cost;
                 if let Some((more, hops)) = self.round_alone(alloc, search, item, limit)? {
                     best.cost = cost + more;
                     best.end = Some(End::Alone(item, hops));
                 }
             }
+        }
+        Ok(())
+    }
+
+    /// Looks for rounds from where somebody waits for one of these items alone, a few at a time.
+    fn look_from_pending(
+        &self,
+        alloc: A,
+        search: &mut Search<A>,
+        near: &[u32],
+        best: &mut Best<A>,
+    ) -> Result<(), AllocError>
+        requires near { All (λ i. i < items self.now.wiring) near.now }
+        requires best { IsBest self.now best.old.cost best.old.end }
+        requires round { (i : ℕ) → NoneFrom self.now best.old.cost i }
+        ensures best { OnOk result (IsBest self.now best.new.cost best.new.end) }
+        ensures less { OnOk result (best.new.cost ≤ best.old.cost) }
+        ensures none { OnOk result ((t : ℕ) → Contains near.now t → NoneAlone self.now best.new.cost t) }
+    {
+        let mut from = 0;
+        while from < near.len() {
+            let to = near.len().min(from + AT_A_TIME);
+            self.look_from_alone(alloc, search, &near[from..to], best)?;
+            from = to;
         }
         Ok(())
     }
@@ -324,7 +392,8 @@ impl<A: Allocator + Copy> Field<'_, '_, A> {
         let near = by_cost(alloc, self.waits, self.ways, best.cost)?;
         self.look_from_items(alloc, search, near.as_slice(), &mut best)?;
         let latest = latest(alloc, self.waits, self.ways, MOST)?;
-        self.look_from_pending(alloc, search, latest.as_slice(), &mut best)?;
+        let alone = self.begin_alone(alloc, latest.as_slice(), best.cost)?;
+        self.look_from_pending(alloc, search, alone.as_slice(), &mut best)?;
         Ok(best.end)
     }
 
