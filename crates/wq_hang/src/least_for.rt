@@ -95,8 +95,10 @@ fn cheapest_first<A: Allocator + Copy>(
     alloc: A,
     mut keys: Vec<(u32, u32), A>,
 ) -> Result<Vec<u32, A>, AllocError>
-    ensures all { IfOk result (λ list. (i : ℕ) → Contains (map (λ key. key.1) keys.entry.items) i → Contains list.items i) }
-    ensures none { IfOk result (λ list. (i : ℕ) → Contains list.items i → Contains (map (λ key. key.1) keys.entry.items) i) }
+    ensures all { IfOk result (λ list. (i : ℕ) → Contains (map (λ key. key.1) keys.entry.items) i →
+        Contains list.items i) }
+    ensures no_others { IfOk result (λ list. (i : ℕ) → Contains list.items i →
+        Contains (map (λ key. key.1) keys.entry.items) i) }
 {
     keys.sort_unstable_by_key(|key| *key);
     let mut list = Vec::with_capacity(alloc, keys.len())?;
@@ -300,8 +302,9 @@ impl<A: Allocator + Copy> Field<'_, '_, A> {
         requires len { length latest.now ≡ items self.now.wiring }
         ensures { result ≡ false → (best ≤ slice_index self.now.pending.costs item + 4)
             ⊎ ((slice_index latest.now item ≤ slice_index self.now.pending.costs item + 1)
-            ⊎ ((i : ℕ) → i < items self.now.wiring → i ≢ item → lane_of self.now.wiring i ≡ lane_of self.now.wiring item
-            → slice_index self.now.ways.costs i ≢ slice_index self.now.pending.costs item + 1)) }
+            ⊎ ((i : ℕ) → i < items self.now.wiring → i ≢ item →
+            lane_of self.now.wiring i ≡ lane_of self.now.wiring item →
+            slice_index self.now.ways.costs i ≢ slice_index self.now.pending.costs item + 1)) }
     {
         let cost = self.pending.cost(item);
         cost + 4 < best
