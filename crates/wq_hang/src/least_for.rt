@@ -295,8 +295,8 @@ impl<A: Allocator + Copy> Field<'_, '_, A> {
         }
     }
 
-    /// Whether a round from where somebody waits for an item alone may be better than the best end so far, and than those
-    /// from its items: one before the item costs 1, and its hop 3.
+    /// Whether a round from where somebody waits for an item alone may be better than the best end so far, and than
+    /// those from its items: one before the item costs 1, and its hop 3.
     fn may_begin_alone(&self, latest: &[u32], item: ItemId, best: u32) -> bool
         requires item { item < items self.now.wiring }
         requires len { length latest.now ≡ items self.now.wiring }
