@@ -18,7 +18,7 @@ use wq_groups::{Assignment, Groups};
 use wq_items::ItemTable;
 
 /// Reads this many workqueues, each on one of the next lines.
-fn read_next_workqueues<A: Allocator + Copy>(
+pub(crate) fn read_next_workqueues<A: Allocator + Copy>(
     alloc: A,
     table: &ItemTable<'_, A>,
     groups: &Groups<A>,
@@ -62,7 +62,7 @@ pub(crate) fn read_counted<A: Allocator + Copy>(
 
 /// Reads the workqueues on these lines, up to the first line with another first word, and the number of that line.
 /// `norescuer` lines are read as `wq` lines if this is asked for.
-fn read_all_workqueues<A: Allocator + Copy>(
+pub(crate) fn read_all_workqueues<A: Allocator + Copy>(
     alloc: A,
     table: &ItemTable<'_, A>,
     groups: &Groups<A>,

@@ -7,23 +7,34 @@ use Rattle.wq_commands.specs.declared.end.End.TheVariants.{Good}
 use Rattle.wq_commands.specs.HangPromise.{KeepsHang, KeepsVerdict}
 use Rattle.wq_commands.specs.Promise.{KeepsPromise}
 use Rattle.wq_commands.specs.YesIsTrue.{YesIsTrue}
+use Rattle.wq_around_command.specs.Promise.{KeepsAround, YesIsTrueAround}
 use Rattle.wq_circles.specs.CirclesPromise.{KeepsCircles, KeepsOwnCircles}
 use Rattle.wqplan.specs.declared.command_line.Files.{Files}
 use Rattle.wqplan.specs.declared.commands.Verb.{Verb}
 use Rattle.wqplan.specs.declared.commands.Verb.TheVariants.{Check, Circles, Deadlock, Hang, Plan}
 use Rattle.wqplan.specs.CommandLine.{Asked}
-use Rattle.wqplan.specs.Ended.{EndsOn, HasTexts, has_second}
+use Rattle.wqplan.specs.Ended.{EndsOn, HasTexts, has_second, has_third}
 
 -- `circles`, with an assignment or without one
 abbrev pub KeepsAllCircles : Bool → Given → End → List ℕ → Type 0
 KeepsAllCircles false texts end out = KeepsOwnCircles texts.first end out
 KeepsAllCircles true texts end out = KeepsCircles texts.first texts.second end out
 
+-- `plan`, around fixed workqueues or without any
+abbrev pub KeepsAnyPlan : Bool → Given → End → List ℕ → Type 0
+KeepsAnyPlan false texts end out = KeepsPromise texts.first end out
+KeepsAnyPlan true texts end out = KeepsAround texts.first texts.second end out
+
+-- a yes of `check`, around fixed workqueues or without any
+abbrev pub KeepsYes : Bool → Given → List ℕ → Type 0
+KeepsYes false texts out = YesIsTrue texts.first texts.second out
+KeepsYes true texts out = YesIsTrueAround texts.first texts.second texts.third out
+
 -- what an answer to these texts keeps: that of `plan` its promise; a yes of `check` is true; those of `deadlock`,
 -- `hang` and `circles` their promises. What the other commands promise is how they end
 abbrev pub Keeps : Verb → Files Text → Given → End → List ℕ → Type 0
-Keeps Plan files texts end out = KeepsPromise texts.first end out
-Keeps Check files texts end out = end ≡ Good → YesIsTrue texts.first texts.second out
+Keeps Plan files texts end out = KeepsAnyPlan (has_second files) texts end out
+Keeps Check files texts end out = end ≡ Good → KeepsYes (has_third files) texts out
 Keeps Deadlock files texts end out = KeepsVerdict texts.first texts.second end out
 Keeps Hang files texts end out = KeepsHang texts.first texts.second end out
 Keeps Circles files texts end out = KeepsAllCircles (has_second files) texts end out
