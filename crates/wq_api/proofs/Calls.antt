@@ -12,7 +12,10 @@ use Rattle.wq_history.proofs.CallRows.{told-yes, over-yes, finish-yes}
 use Rattle.wq_history.proofs.Wakes.{unchanged-enough}
 use Rattle.wq_held.specs.declared.fault.SeatError.{SeatError}
 use Rattle.wq_held.specs.Locked.{HeldView, seat_rows}
-use Rattle.wq_held.specs.Calls.{IsNamed, missing, IsBarred, IsSettled}
+use Rattle.wq_held.specs.declared.turn.Turn.{Turn}
+use Rattle.wq_held.specs.declared.turn.Turn.TheVariants.{Answers, Sleeps}
+use Rattle.wq_held.specs.Calls.{IsNamed, missing, IsBarred, TakesTurn}
+use Rattle.wq_held.specs.Turns.{IfSleeps}
 use Rattle.wq_held.specs.Receipts.{Answered}
 use Rattle.wq_api.specs.Taking.{WritesOne, IsAnswered, IsDoneBy, Took}
 
@@ -130,6 +133,12 @@ took_done w rows counts left call r writes is took =
     never_done took.0.old took.0.new call writes
     (subst (λ (x : Reply). Replies took.0.old call x took.0.new) is took.0.answers)
 
+-- whoever sleeps has counted nothing
+pub sleeps_uncounted : (old new : HeldView) (counts left : List ℕ) (call : Call) (turn : Turn (Result Reply CallError))
+    → TakesTurn old counts call turn new left → IfSleeps turn (λ _. left ≡ counts)
+sleeps_uncounted old new counts left call (Answers answer wake) takes = tt
+sleeps_uncounted old new counts left call (Sleeps among) takes = takes.uncounted
+
 -- enough are woken if a seat is made, or isn't
 pub seat_wakes : (old new : HeldView) (r : Result (List ℕ) SeatError) (few : Type 0) (wake : Wake)
     → OnOk r (few × (new ≡ record old { seats = old.seats + 1 })) → IfErr r (λ e. new ≡ old)
@@ -152,14 +161,14 @@ close_answer w rows (Ok Done) answered = refl
 close_answer w rows (Ok NotYet) answered = absurd answered.answers.0
 close_answer w rows (Err e) answered = absurd answered.answers.0
 
--- so is a drain that isn't too early
+-- so is a drain
 drain_answer : (w : Wiring) (rows : ℕ) (answer : Result Reply CallError) → IsAnswered w rows Drain answer
-    → IsSettled answer → answer ≡ Ok Done
-drain_answer w rows (Ok (Wrote row)) answered settled = absurd answered.answers.0
-drain_answer w rows (Ok (WroteTwo ask taken)) answered settled = absurd answered.answers
-drain_answer w rows (Ok Done) answered settled = refl
-drain_answer w rows (Ok NotYet) answered settled = absurd settled
-drain_answer w rows (Err e) answered settled = absurd answered.answers.0
+    → answer ≡ Ok Done
+drain_answer w rows (Ok (Wrote row)) answered = absurd answered.answers.0
+drain_answer w rows (Ok (WroteTwo ask taken)) answered = absurd answered.answers
+drain_answer w rows (Ok Done) answered = refl
+drain_answer w rows (Ok NotYet) answered = absurd answered.settled
+drain_answer w rows (Err e) answered = absurd answered.answers.0
 
 -- a call that was answered with Done is done
 done_by : (w : Wiring) (rows : ℕ) (call : Call) (a : Answered) → a.call ≡ call → a.answer ≡ Ok Done
@@ -172,6 +181,5 @@ pub closed_done : (w : Wiring) (rows : ℕ) (a : Answered) → a.call ≡ Close 
 closed_done w rows a calls answered = done_by w rows Close a calls (close_answer w rows a.answer answered) answered
 
 pub drained_done : (w : Wiring) (rows : ℕ) (a : Answered) → a.call ≡ Drain → IsAnswered w rows Drain a.answer
-    → IsSettled a.answer → IsDoneBy w rows Drain a
-drained_done w rows a calls answered settled =
-    done_by w rows Drain a calls (drain_answer w rows a.answer answered settled) answered
+    → IsDoneBy w rows Drain a
+drained_done w rows a calls answered = done_by w rows Drain a calls (drain_answer w rows a.answer answered) answered

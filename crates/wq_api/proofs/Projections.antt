@@ -1,7 +1,7 @@
 -- What the methods of a runtime say of their answers and counts follows from the calls that they make: queueings,
 -- cancellations and flushes.
 use Rattle.std.proofs.Common.{◌≡◌, ℕ, ◌<◌, ◌≤◌, inl, inr, Bool, true, false, List, refl, sym, subst, ap, ◌∙◌, arith}
-use Rattle.std.proofs.Common.{Result, Ok, Err, IfOk, IfErr, OnOk, IsTrue}
+use Rattle.std.proofs.Common.{Result, Ok, Err, IfOk, IfErr, IsTrue}
 use Rattle.wq_history.proofs.Words.{Wiring, items, lane_of, QueueEvent, CancelEvent, AskEvent, Row, ask_event}
 use Rattle.wq_history.proofs.Words.{told_event, IsThere, BookView, Refuses}
 use Rattle.wq_held.proofs.Words.{Subject, OfItem, OfLane, Call, Queue, Cancel, Ask, CancelSync, Wrote, WroteTwo}
@@ -14,8 +14,8 @@ use Rattle.wq_held.specs.Locked.{SeatHasRoom}
 use Rattle.wq_held.specs.Calls.{IsNamed, missing, needs_room}
 use Rattle.wq_api.specs.Refusals.{RefusesQueueWork, RefusesCancelWork}
 use Rattle.wq_api.specs.WaitingCalls.{RefusesFlushWork, flushed, flush_refused, asked_and_cancelled, CountsCancelSync}
-use Rattle.wq_api.specs.WaitingCalls.{RefusedCancelSync, RefusesFlushWorkqueue, lane_flushed, lane_flush_refused}
-use Rattle.wq_api.specs.Taking.{ComesTo, GivesYes, Flushes, FlushesSo, CancelsSync}
+use Rattle.wq_api.specs.WaitingCalls.{RefusedCancelSync}
+use Rattle.wq_api.specs.Taking.{ComesTo, GivesYes, Flushes, CancelsSync}
 use Rattle.wq_api.proofs.Calls.{noted_so, told_counted, not_below, barred_by, told_refused}
 
 -- what isn't there is past the end

@@ -85,6 +85,15 @@ MakesSeat w old (Answers (Err TooManySeats) wake) new = (old.seats ≡ 65535) ×
 MakesSeat w old (Answers (Err OutOfMemory) wake) new = (old.seats < 65535) × (0 < slots w) × (new ≡ old)
 MakesSeat w old (Sleeps among) new = ⊥
 
+-- ---- the end
+
+-- what is protected, with something of the caller's own, has ended so; or it can't end yet, and both come back as they
+-- were
+abbrev pub EndsSo : {H S T E : Type 0} → (H → S → T → Type 0) → (H → S → E → Type 0) → H → S → Result T (H × S × E)
+    → Type 0
+EndsSo ends refuses held own (Ok left) = ends held own left
+EndsSo ends refuses held own (Err e) = refuses held own e.2 × (e.0 ≡ held) × (e.1 ≡ own)
+
 -- ---- what may be said of it
 
 -- this holds of something that the lock of such a runtime may protect (which of it the lock did protect can't be said)

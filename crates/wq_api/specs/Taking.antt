@@ -21,7 +21,7 @@ use Rattle.wq_history.specs.Calls.{Answers}
 use Rattle.wq_held.specs.declared.fault.SeatError.{SeatError}
 use Rattle.wq_held.specs.declared.turn.Turn.TheVariants.{Answers as Answered}
 use Rattle.wq_held.specs.Locked.{HeldView, Holds}
-use Rattle.wq_held.specs.Calls.{counts_after, IsBarred, IsAdmitted}
+use Rattle.wq_held.specs.Calls.{counts_after, IsBarred, IsAdmitted, IsSettled}
 use Rattle.wq_held.specs.Receipts.{Answered as AnsweredCall, Next}
 use Rattle.wq_api.specs.Locking.{MakesSeat}
 
@@ -43,12 +43,19 @@ WritesOne _ = Unit {0}
 
 -- ---- one call
 
--- a book that the lock of such a runtime may protect answers a call so, and this is the book after
+-- a call is admitted, or it is barred by this
+abbrev pub AdmitsOrBars : Wiring → List ℕ → Call → Result (Unit {0}) CallError → Type 0
+AdmitsOrBars w counts call (Ok done) = IsAdmitted w counts call
+AdmitsOrBars w counts call (Err e) = IsBarred w counts call e
+
+-- a book that the lock of such a runtime may protect answers a call so, which isn't too early, and this is the book
+-- after
 pub record IsAnswered (w : Wiring) (rows : ℕ) (call : Call) (answer : Result Reply CallError) : Type 0 where
   pub old : BookView
   pub new : BookView
   pub holds : Holds w rows old
   pub answers : Answers old call answer new
+  pub settled : IsSettled answer
 
 -- a call is taken under the lock: it is answered so, and the answer is counted in the caller's seat
 abbrev pub Took : Wiring → ℕ → List ℕ → Call → Result Reply CallError → List ℕ → Type 0
@@ -120,6 +127,11 @@ IsTold w rows counts x asked left = ((asked.yes ≡ false) × (left ≡ counts))
 -- it waits, and is refused when it is to be told
 abbrev pub IsNotTold : Wiring → ℕ → List ℕ → Subject → Row → CallError → List ℕ → Type 0
 IsNotTold w rows counts x asked e left = (asked.yes ≡ true) × Took w rows counts (Told x asked.number) (Err e) left
+
+-- either, by what comes of the wait for its end
+abbrev pub TellsOrNot : Wiring → ℕ → List ℕ → Subject → Row → Result (Unit {0}) CallError → List ℕ → Type 0
+TellsOrNot w rows counts x asked (Ok done) left = IsTold w rows counts x asked left
+TellsOrNot w rows counts x asked (Err e) left = IsNotTold w rows counts x asked e left
 
 -- a flush: an ask, and then its end. The error is that of the ask, or else that of its end
 abbrev pub Flushes : Wiring → ℕ → List ℕ → Subject → Result Bool CallError → List ℕ → Type 0

@@ -4,14 +4,13 @@
 //! value. So the clause `took` of a method says which call it makes, and of a method that waits, which two. Apart from
 //! what it waits for, a call takes the time of the book's answer.
 
-ghost use Rattle.std.specs.Prelude.{◌↔◌, ◌≡◌, IsTrue, Result, IfErr, OnOk};
+ghost use Rattle.std.specs.Prelude.{◌↔◌, ◌≡◌, IsTrue, Result};
 ghost use Rattle.wq_history.specs.declared.call.Call.TheVariants.{CancelSync, Start, Finish};
 ghost use Rattle.wq_history.specs.History.{IsThere};
-ghost use Rattle.wq_held.specs.Calls.{IsNamed, missing, needs_room, IsBarred, IsAdmitted, IsSettled};
-ghost use Rattle.wq_api.specs.Taking.{WritesOne, IsAnswered, Took, ComesTo, GivesRow, GivesTwo, GivesYes, GivesDone};
-ghost use Rattle.wq_api.specs.Taking.{GivesNext, IsTold, IsNotTold, Flushes, CancelsSync, Waits};
+ghost use Rattle.wq_held.specs.Calls.{IsNamed, missing, needs_room};
+ghost use Rattle.wq_api.specs.Taking.{WritesOne, AdmitsOrBars, IsAnswered, Took, ComesTo, GivesRow, GivesTwo, GivesYes};
+ghost use Rattle.wq_api.specs.Taking.{GivesDone, GivesNext, TellsOrNot, Flushes, CancelsSync, Waits};
 
-use crate::layout::Layout;
 use crate::runtime::WqRuntime;
 use std::alloc::Allocator;
 use std::sync::Wait;
@@ -25,7 +24,7 @@ use wq_items::ItemId;
 
 // ---- what a caller can know
 
-impl<N: Naming, A: Allocator> Layout<N, A> {
+impl<N: Naming, A: Allocator> WqRuntime<N, A> {
     /// Whether there is such an item, or such a workqueue.
     fn has_subject(&self, subject: &Subject) -> bool
         ensures { IsTrue result ↔ IsThere N.wiring subject.now }
@@ -46,12 +45,7 @@ impl<N: Naming, A: Allocator> Layout<N, A> {
             Call::Ask(subject) => self.has_subject(&subject),
             Call::CancelSync(item) => self.has_item(item),
             Call::Wait(context, _) => self.has_context(context.lane, context.number),
-            Call::Told(_, _) => true,
-            Call::Start(_) => true,
-            Call::Over(_, _) => true,
-            Call::Finish(_, _) => true,
-            Call::Close => true,
-            Call::Drain => true,
+            _ => true,
         }
     }
 }
@@ -61,18 +55,9 @@ fn missing(call: &Call) -> CallError
     ensures { result ≡ missing call.now }
 {
     match *call {
-        Call::Queue(_) => CallError::NoItem,
-        Call::Cancel(_) => CallError::NoItem,
+        Call::Queue(_) | Call::Cancel(_) | Call::CancelSync(_) => CallError::NoItem,
         Call::Ask(Subject::Item(_)) => CallError::NoItem,
-        Call::CancelSync(_) => CallError::NoItem,
-        Call::Ask(Subject::Lane(_)) => CallError::WrongLane,
-        Call::Wait(_, _) => CallError::WrongLane,
-        Call::Told(_, _) => CallError::WrongLane,
-        Call::Start(_) => CallError::WrongLane,
-        Call::Over(_, _) => CallError::WrongLane,
-        Call::Finish(_, _) => CallError::WrongLane,
-        Call::Close => CallError::WrongLane,
-        Call::Drain => CallError::WrongLane,
+        _ => CallError::WrongLane,
     }
 }
 
@@ -81,17 +66,9 @@ fn needs_room(call: &Call) -> bool
     ensures { result ≡ needs_room call.now }
 {
     match *call {
-        Call::Queue(_) => true,
-        Call::Cancel(_) => true,
-        Call::Ask(_) => true,
-        Call::CancelSync(_) => true,
-        Call::Wait(_, _) => true,
-        Call::Told(_, _) => false,
-        Call::Start(_) => false,
-        Call::Over(_, _) => false,
-        Call::Finish(_, _) => false,
-        Call::Close => false,
-        Call::Drain => false,
+        Call::Queue(_) | Call::Cancel(_) | Call::Ask(_) => true,
+        Call::CancelSync(_) | Call::Wait(_, _) => true,
+        _ => false,
     }
 }
 
@@ -99,11 +76,10 @@ impl<N: Naming, A: Allocator> WqRuntime<N, A> {
     /// Whether its caller may make a call: the error is that what it names isn't there (64, 66), or else that the seat
     /// is full (60). It doesn't take the lock.
     fn admit<C: AsCall<A>>(&self, seat: &Seat<N, A>, call: &C) -> Result<(), CallError>
-        ensures admitted { OnOk result (IsAdmitted N.wiring seat.now (C.meant call.now)) }
-        ensures barred { IfErr result (λ e. IsBarred N.wiring seat.now (C.meant call.now) e) }
+        ensures { AdmitsOrBars N.wiring seat.now (C.meant call.now) result }
     {
         let call = call.call();
-        if !self.layout.has_named(&call) {
+        if !self.has_named(&call) {
             return Err(missing(&call));
         }
         if needs_room(&call) && seat.is_full() {
@@ -121,8 +97,7 @@ impl<N: Naming, A: Allocator> WqRuntime<N, A> {
         seat: &mut Seat<N, A>,
         call: C,
     ) -> Result<Reply, CallError>
-        ensures took { Took N.wiring N.rows seat.old (C.meant call) result seat.new }
-        ensures settled { IsSettled result }
+        ensures { Took N.wiring N.rows seat.old (C.meant call) result seat.new }
     {
         let (answer, _woken) = self.lock.call(rt, seat, call);
         answer
@@ -130,8 +105,7 @@ impl<N: Naming, A: Allocator> WqRuntime<N, A> {
 
     /// The same of a call that no seat counts, and that it was answered so.
     pub(crate) fn settle<R: Wait, C: Uncounted<A>>(&self, rt: &R, call: C) -> Answered<N>
-        ensures took { (result.call ≡ C.meant call) × IsAnswered N.wiring N.rows (C.meant call) result.answer }
-        ensures settled { IsSettled result.answer }
+        ensures { (result.call ≡ C.meant call) × IsAnswered N.wiring N.rows (C.meant call) result.answer }
     {
         let (answered, _woken) = self.lock.call(rt, &mut (), call);
         answered
@@ -250,8 +224,7 @@ impl<N: Naming, A: Allocator> WqRuntime<N, A> {
         subject: &Subject,
         asked: &Row,
     ) -> Result<(), CallError>
-        ensures told { OnOk result (IsTold N.wiring N.rows seat.old subject.now asked.now seat.new) }
-        ensures refused { IfErr result (λ e. IsNotTold N.wiring N.rows seat.old subject.now asked.now e seat.new) }
+        ensures { TellsOrNot N.wiring N.rows seat.old subject.now asked.now result seat.new }
     {
         if !asked.yes {
             return Ok(());

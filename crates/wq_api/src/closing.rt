@@ -66,7 +66,6 @@ impl<N: Naming, A: Allocator> WqRuntime<N, A> {
         ensures closed { IfOk result (λ c. IsClosed N.wiring N.rows seats.items c.book c.counts c.agree) }
         ensures why { IfErr result (λ e. UnderLock N.wiring N.rows (λ h. RefusesClose h (vec_len seats) e.why)) }
         ensures by { IfErr result (λ e. e.by ≡ record { seats = vec_len seats; why = e.why }) }
-        ensures refused { IfErr result (λ e. e.seats.items ≡ seats.items) }
         ensures kept { IfErr result (λ e. (e.seats ≡ seats) × (e.runtime.layout ≡ self.layout)
             × (e.runtime.lock.condvars ≡ self.lock.condvars)) }
     {

@@ -89,8 +89,8 @@ impl<A: Allocator + Copy> Condvars<A> {
     /// Those for this many workqueues and items. The only error is out of memory
     /// (20), which can't occur if there are neither.
     pub(crate) fn new(alloc: A, lanes: u16, items: u16) -> Result<Self, AllocError>
-        ensures lanes { IfOk result (λ r. vec_len r.lanes ≡ lanes) }
-        ensures items { IfOk result (λ r. vec_len r.items ≡ min items max_item_condvars) }
+        ensures counts { IfOk result (λ r. (vec_len r.lanes ≡ lanes)
+            × (vec_len r.items ≡ min items max_item_condvars)) }
         ensures memory { OnErr result ((0 < lanes) ⊎ (0 < items)) }
     {
         let lanes = for_lanes(alloc, lanes)?;

@@ -40,9 +40,8 @@ impl<'a, H> Entered<'a, H> {
     where
         H: Turns<S, C, T>,
         requires { self.old.fresh ≡ true }
-        ensures takes { (old : H) × (new : H) × H.takes old own.old call result new own.new
-            × Wakes H.lanes H.items H.wakes_enough old new result }
-        ensures sleeps { IfSleeps result (λ _. own.new ≡ own.old) }
+        ensures { (old : H) × (new : H) × H.takes old own.old call result new own.new
+            × Wakes H.lanes H.items H.wakes_enough old new result × IfSleeps result (λ _. own.new ≡ own.old) }
     {
         self.fresh = false;
         self.held.take(own, call)

@@ -8,6 +8,7 @@ ghost use Rattle.std.specs.List.{range_with_len};
 ghost use Rattle.wq_core.specs.Wiring.{items as items_of, helpers_of, HasContext};
 ghost use Rattle.wq_held.specs.Locked.{max_runtime_lanes, IsOnLane};
 
+use crate::runtime::WqRuntime;
 use std::alloc::{AllocError, Allocator};
 use std::marker::PhantomData;
 use wq_groups::LaneId;
@@ -77,8 +78,7 @@ impl<N: Naming, A: Allocator + Copy> Layout<N, A> {
         lanes: u16,
     ) -> Result<Self, AllocError>
         requires few_lanes { N.wiring.lanes ≤ max_runtime_lanes }
-        requires items { items ≡ items_of N.wiring }
-        requires lanes { lanes ≡ N.wiring.lanes }
+        requires counts { (items ≡ items_of N.wiring) × (lanes ≡ N.wiring.lanes) }
         ensures memory { OnErr result ((0 < lanes) ⊎ (0 < items)) }
     {
         held.holds();
@@ -92,31 +92,31 @@ impl<N: Naming, A: Allocator + Copy> Layout<N, A> {
     }
 }
 
-impl<N: Naming, A: Allocator> Layout<N, A> {
+impl<N: Naming, A: Allocator> WqRuntime<N, A> {
     /// The number of workqueues, at most 256.
-    pub(crate) fn lanes(&self) -> u16
+    pub fn lanes(&self) -> u16
         ensures lanes { result ≡ N.wiring.lanes }
         ensures few { result ≤ max_runtime_lanes }
     {
-        self.helpers.len() as u16
+        self.layout.helpers.len() as u16
     }
 
     /// The workqueue of an item, if there is such an item.
-    pub(crate) fn lane_of(&self, item: ItemId) -> Option<LaneId>
+    pub fn lane_of(&self, item: ItemId) -> Option<LaneId>
         ensures some { IfSome result (λ q. IsOnLane N.wiring q item) }
         ensures none { IfNone result (items_of N.wiring ≤ item) }
     {
-        match self.lane_of_item.get(usize::from(item.get())) {
+        match self.layout.lane_of_item.get(usize::from(item.get())) {
             Some(q) => Some(*q),
             None => None,
         }
     }
 
     /// How many helpers a workqueue has; 0 for one that is ordered or doesn't exist.
-    pub(crate) fn helpers_of(&self, q: LaneId) -> u8
+    pub fn helpers_of(&self, q: LaneId) -> u8
         ensures { result ≡ helpers_of N.wiring q }
     {
-        match self.helpers.get(usize::from(q.get())) {
+        match self.layout.helpers.get(usize::from(q.get())) {
             Some(helpers) => *helpers,
             None => 0,
         }
@@ -126,7 +126,7 @@ impl<N: Naming, A: Allocator> Layout<N, A> {
     pub(crate) fn has_item(&self, item: ItemId) -> bool
         ensures { IsTrue result ↔ (item < items_of N.wiring) }
     {
-        usize::from(item.get()) < self.lane_of_item.len()
+        usize::from(item.get()) < self.layout.lane_of_item.len()
     }
 
     /// Whether there is such a workqueue.
@@ -137,7 +137,7 @@ impl<N: Naming, A: Allocator> Layout<N, A> {
     }
 
     /// Whether there is such a context: the rescuer of a workqueue that exists, or one of the helpers that it has.
-    pub(crate) fn has_context(&self, q: LaneId, helper: u8) -> bool
+    pub fn has_context(&self, q: LaneId, helper: u8) -> bool
         ensures { IsTrue result ↔ HasContext N.wiring q helper }
     {
         self.has_lane(q) && helper <= self.helpers_of(q)

@@ -51,7 +51,7 @@ pub(crate) trait Turns<S, C, T>: Watched {
 
 /// What a lock protects that may come to an end, with something of the caller's own.
 pub(crate) trait Ends<S, T, E> {
-    ghost use Rattle.std.specs.Prelude.{Result, ℕ};
+    ghost use Rattle.wq_api.specs.Locking.{EndsSo};
 
     // it ended, and this is what is left of it
     ghost ends: { Self → S → T → Type 0 };
@@ -61,9 +61,7 @@ pub(crate) trait Ends<S, T, E> {
 
     /// Ends, or gives both back as they were, with the cause.
     fn end(self, own: S) -> Result<T, (Self, S, E)>
-        ensures ended { IfOk result (λ left. ends self own left) }
-        ensures refused { IfErr result (λ e. refuses self own e.2) }
-        ensures kept { IfErr result (λ e. (e.0 ≡ self) × (e.1 ≡ own)) };
+        ensures { EndsSo ends refuses self own result };
 }
 
 /// Something under a lock, and the condition variables of those who sleep until it has changed.
@@ -92,8 +90,8 @@ impl<H: Watched, A: Allocator> Lock<H, A> {
     pub(crate) fn call<R: Wait, S, C: Copy, T>(&self, rt: &R, own: &mut S, call: C) -> (T, Woken)
     where
         H: Turns<S, C, T>,
-        requires lanes { vec_len self.now.condvars.lanes ≡ H.lanes }
-        requires items { vec_len self.now.condvars.items ≡ min H.items max_item_condvars }
+        requires { (vec_len self.now.condvars.lanes ≡ H.lanes)
+            × (vec_len self.now.condvars.items ≡ min H.items max_item_condvars) }
         ensures { (old : H) × (new : H) × (wake : Wake) × H.takes old own.old call (Answers result.0 wake) new own.new
             × AreWoken (vec_len self.now.condvars.lanes) (vec_len self.now.condvars.items) wake result.1 }
     {
@@ -118,8 +116,8 @@ impl<H: Watched, A: Allocator> Lock<H, A> {
     where
         H: Ends<S, T, E>,
         ensures ended { IfOk result (λ left. (held : H) × H.ends held own left) }
-        ensures why { IfErr result (λ e. (held : H) × H.refuses held own e.2) }
-        ensures kept { IfErr result (λ e. (e.0.condvars ≡ self.condvars) × (e.1 ≡ own)) }
+        ensures refused { IfErr result (λ e. ((held : H) × H.refuses held own e.2)
+            × (e.0.condvars ≡ self.condvars) × (e.1 ≡ own)) }
     {
         let Lock { held, condvars } = self;
         match held.into_inner().end(own) {

@@ -7,16 +7,15 @@
 //! number of items or of workqueues, whichever is larger, and `new` also the time of the wait graph of the workqueues
 //! and of its ranks, and room for the rows, 12 bytes for each.
 
-ghost use Rattle.std.specs.Prelude.{◌≡◌, ◌<◌, ◌≤◌, ◌↔◌, ◌*◌, min, length, vec_len, replicate, Bool, true, IsTrue, IfOk};
-ghost use Rattle.std.specs.Prelude.{IfErr, OnOk, IfSome, IfNone};
+ghost use Rattle.std.specs.Prelude.{◌≡◌, ◌<◌, ◌*◌, min, length, vec_len, replicate, Bool, true, IfOk, IfErr, OnOk};
 ghost use Rattle.wq_groups.specs.Declaration.{declaration_of};
-ghost use Rattle.wq_core.specs.Wiring.{wiring, with_helpers, lane_of, helpers_of, HasContext, items};
+ghost use Rattle.wq_core.specs.Wiring.{wiring, with_helpers, lane_of, items};
 ghost use Rattle.wq_counts.specs.declared.kind.Kind.TheVariants.{Queue, Cancel};
 ghost use Rattle.wq_counts.specs.Counting.{counts_each, raised};
 ghost use Rattle.wq_history.specs.declared.asking.Subject.TheVariants.{Item as OfItem, Lane as OfLane};
 ghost use Rattle.wq_history.specs.declared.call.Call.TheVariants.{Queue as QueueCall, Cancel as CancelCall};
 ghost use Rattle.wq_held.specs.declared.fault.SeatError.TheVariants.{OutOfMemory as SeatOutOfMemory};
-ghost use Rattle.wq_held.specs.Locked.{max_runtime_lanes, slots, IsOnLane, SeatHasRoom};
+ghost use Rattle.wq_held.specs.Locked.{slots, IsOnLane, SeatHasRoom};
 ghost use Rattle.wq_held.specs.Making.{RefusesRuntime, MakesRuntime};
 ghost use Rattle.wq_api.specs.Refusals.{RefusesQueueWork, RefusesCancelWork};
 ghost use Rattle.wq_api.specs.WaitingCalls.{RefusesFlushWork, flushed, flush_refused, CountsCancelSync};
@@ -128,36 +127,6 @@ impl<N: Naming, A: Allocator + Copy> WqRuntime<N, A> {
 }
 
 impl<N: Naming, A: Allocator> WqRuntime<N, A> {
-    /// The number of workqueues, at most 256.
-    pub fn lanes(&self) -> u16
-        ensures lanes { result ≡ N.wiring.lanes }
-        ensures few { result ≤ max_runtime_lanes }
-    {
-        self.layout.lanes()
-    }
-
-    /// The workqueue of an item, if there is such an item.
-    pub fn lane_of(&self, item: ItemId) -> Option<LaneId>
-        ensures some { IfSome result (λ q. IsOnLane N.wiring q item) }
-        ensures none { IfNone result (items N.wiring ≤ item) }
-    {
-        self.layout.lane_of(item)
-    }
-
-    /// How many helpers a workqueue has; 0 for one that is ordered or doesn't exist.
-    pub fn helpers_of(&self, q: LaneId) -> u8
-        ensures { result ≡ helpers_of N.wiring q }
-    {
-        self.layout.helpers_of(q)
-    }
-
-    /// Whether there is such a context: the rescuer of a workqueue that exists, or one of the helpers that it has.
-    pub fn has_context(&self, q: LaneId, helper: u8) -> bool
-        ensures { IsTrue result ↔ HasContext N.wiring q helper }
-    {
-        self.layout.has_context(q, helper)
-    }
-
     /// Queues an item on its workqueue (`queue_work`): true if it wasn't pending, false if it was.
     ///
     /// The error is the first of these that holds: `NoItem` (66); `WrongLane` (64), if the item belongs to another
@@ -178,7 +147,7 @@ impl<N: Naming, A: Allocator> WqRuntime<N, A> {
             × (seat.new ≡ raised seat.old item Queue accepted)) }
         ensures refused { IfErr result (λ e. RefusesQueueWork N.wiring seat.old q item e × (seat.new ≡ seat.old)) }
     {
-        match self.layout.lane_of(item) {
+        match self.lane_of(item) {
             None => Err(CallError::NoItem),
             Some(lane) => {
                 if lane == q {

@@ -29,7 +29,9 @@ impl<N: Naming, A: Allocator, C: AsCall<A>> Turns<Seat<N, A>, C, Result<Reply, C
     ghost takes = { λ old counts call turn new left. Holds N.wiring N.rows old.book
         × TakesTurn old counts (C.meant call) turn new left };
 
+    #[tactic(auto, using(crate::proofs::Calls::sleeps_uncounted))]
     fn take(&mut self, own: &mut Seat<N, A>, call: C) -> Turn<Result<Reply, CallError>> {
+        self.holds();
         self.turn(own, call)
     }
 }
@@ -42,6 +44,7 @@ impl<N: Naming, A: Allocator, C: Uncounted<A>> Turns<(), C, Answered<N>> for Hel
         × TakesTurnOf old (C.meant call) turn new };
 
     fn take(&mut self, _own: &mut (), call: C) -> Turn<Answered<N>> {
+        self.holds();
         self.turn_uncounted(call)
     }
 }
@@ -83,6 +86,9 @@ impl<N: Naming, A: Allocator> Ends<Vec<Seat<N, A>, A>, Closed<N, A>, Unclosed<N>
         own: Vec<Seat<N, A>, A>,
     ) -> Result<Closed<N, A>, (Held<N, A>, Vec<Seat<N, A>, A>, Unclosed<N>)> {
         self.holds();
-        self.close(own)
+        match self.close(own) {
+            Ok(closed) => Ok(closed),
+            Err(refused) => Err(refused),
+        }
     }
 }

@@ -1,9 +1,9 @@
-//! A list in consecutive pieces. Only the places where the pieces begin are kept. A piece is found in constant time.
+//! A list cut into consecutive pieces, of which only the beginnings are kept. A piece is found in constant time.
 
 ghost use Rattle.std.specs.Prelude.{◌≡◌, ◌<◌, ◌≤◌, ◌+◌, length, slice_range};
 ghost use Rattle.wq_buckets.specs.Cuts.{AreCuts, piece};
 
-/// The part between two places of a list.
+/// The part of a list from place `begin` up to place `end`.
 fn between<'a, T>(whole: &'a [T], begin: usize, end: usize) -> &'a [T]
     requires begin { begin ≤ end }
     requires end { end ≤ length whole.now }
@@ -12,7 +12,7 @@ fn between<'a, T>(whole: &'a [T], begin: usize, end: usize) -> &'a [T]
     &whole[begin..end]
 }
 
-/// Piece `k` of a list that is cut at these places. The last piece ends at the last of them.
+/// Piece `k` of a list that is cut at the places `begins`, the last of which is the end of the last piece.
 pub(crate) fn piece<'a, T>(whole: &'a [T], begins: &[usize], k: u16) -> &'a [T]
     requires cuts { AreCuts begins.now (length whole.now) }
     requires among { k + 1 < length begins.now }

@@ -1,8 +1,10 @@
-//! Places by their keys: for each key its places in a list, in rising order, or the elements there.
+//! Buckets: for each key its places in a list, in rising order, or the elements at these places.
 //!
-//! What the layers above rely on: the buckets are `buckets_of` the list, one for each key. They know nothing of
-//! declarations. Making them takes time and memory in the length of the list and the number of keys, and nothing is
-//! compared.
+//! The layers above rely on this: the buckets are `buckets_of` the list, one for each key. This crate knows nothing of
+//! declarations. It sorts by counting, without a comparison; for a list of n places with k keys, making the buckets
+//! takes
+//!
+//!   O(n + k) time and memory.
 #![tactic(auto)]
 
 mod buckets;

@@ -17,7 +17,7 @@ line_texts text = map (λ (line : LineView). line.bytes) (lines_of text)
 abbrev pub first_lines : ℕ → List ℕ → List (List ℕ)
 first_lines n text = take n (line_texts text)
 
--- a value is read, or the fault is at no line: the text ends too early, or an item is on no workqueue
+-- a value is read, or no line is at fault: the text ends too early, or an item is on no workqueue
 abbrev pub NoLineIsAtFault : {V : Type 0} → Result V CertError → Type 0
 NoLineIsAtFault r = IfErr r (λ fault. line_of fault ≡ 0)
 

@@ -1,5 +1,5 @@
--- Forms: what the words of one line say, if they have the form that is asked for. A byte that no line may hold is in
--- no keyword, number or name, so a line with such a byte before its comment has no form.
+-- Forms: what the words of one line say, if they have the expected form. No keyword, number or name holds a byte that
+-- is forbidden in a line, so a line with such a byte before its comment has no form.
 use Rattle.std.specs.Prelude.{ℕ, ◌^◌, ◌&&◌, nat_lt, if◌then◌else◌, Bool, false, List, [], ◌∷◌, Option, Some, None}
 use Rattle.std.specs.Prelude.{option_map, option_and_then, bytes_eq, codes, decimal}
 use Rattle.std.specs.Option.{option_zip}

@@ -1,5 +1,5 @@
--- Growth: how far a text is read without a fault before memory is requested, and so
--- where a reader may answer that it ran out.
+-- Growth: how far a text is read without a fault before memory is requested, and so when a reader may return that
+-- memory ran out.
 use Rattle.std.specs.Prelude.{◌≡◌, ℕ, ◌<◌, ◌≤◌, if◌then◌else◌, List, [], ◌∷◌, length, take, Result, Ok, codes}
 use Rattle.wq_cert.specs.declared.fault.CertError.{CertError}
 use Rattle.wq_cert.specs.FirstFaults.{NoLineIsAtFault}

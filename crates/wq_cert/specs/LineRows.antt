@@ -1,5 +1,5 @@
 -- Rows of faults, said without a reader: which row of "Refusals of certificates" in docs/FORMAT.md is the first that a
--- line breaks where a `plan`, `chain`, `circle`, `arc` or `run` line, or that of a step, is expected.
+-- line breaks, if a `plan`, `chain`, `circle`, `arc` or `run` line or that of a step is expected.
 use Rattle.std.specs.Prelude.{◌≡◌, ℕ, ◌-◌, ◌^◌, ◌<◌, ◌≤◌, List, [], ◌∷◌, ◌++◌, ◌⊎◌, length, map, codes, decimal, Option}
 use Rattle.std.specs.Prelude.{Some, None, IfSome, IsSomeAnd}
 use Rattle.std.specs.List.{All}
@@ -81,7 +81,7 @@ IsOutOfRange names StepLine words =
     (step : Step) × SpellsStep names words step × IsSomeAnd (step_lane step) (λ q. max_lanes ≤ q)
 IsOutOfRange names _ words = ⊥
 
--- the row of this fault is the first that the line breaks, where one of this form is expected
+-- the row of this fault is the first that the line breaks, if a line of this form is expected
 abbrev pub BreaksLine : List (List ℕ) → LineForm → CertLine → CertError → Type 0
 BreaksLine names form line (BadCertLine n) = (n ≡ line.no) × (¬ HasForm names form line.words)
 BreaksLine names form line (NumberOutOfRange n) = (n ≡ line.no) × IsOutOfRange names form line.words
@@ -93,12 +93,13 @@ KeepsLine names form line = HasForm names form line.words × (¬ IsOutOfRange na
 
 -- ---- where such a line is expected
 
--- arcs of this many items, and fewer arcs than there have to be
+-- arcs between items below `items`, and fewer arcs than `count`
 pub record AreFirstArcs (items count : ℕ) (arcs : List (ℕ × ℕ)) : Type 0 where
   pub known : All (IsArcOf items) arcs
   pub fewer : length arcs < count
 
--- after these lines of a plan: `plan` first, `chain` after the workqueues, then one arc fewer than it says
+-- a line of this form is expected after these lines of a plan: `plan` first, `chain` after the workqueues, then one arc
+-- fewer than it says
 abbrev pub StandsInPlan : List (List ℕ) → Partition → List (List (List ℕ)) → LineForm → Type 0
 StandsInPlan names p before PlanLine = before ≡ []
 StandsInPlan names p before ChainLine =
@@ -116,7 +117,7 @@ StandsInPlan names p before ArcLine =
 StandsInPlan names p before RunLine = ⊥
 StandsInPlan names p before StepLine = ⊥
 
--- after these lines of a run: `run` first, then as many steps as it says
+-- a line of this form is expected after these lines of a run: `run` first, then as many steps as it says
 abbrev pub StandsInRun : List (List ℕ) → List (List (List ℕ)) → LineForm → Type 0
 StandsInRun names before PlanLine = ⊥
 StandsInRun names before ChainLine = ⊥
@@ -129,7 +130,7 @@ StandsInRun names before StepLine =
     × All (IsStepOf (length names)) steps
     × (before ≡ count_words (codes "run") m ∷ map (step_line names) steps)
 
--- these lines are `circle N`, all its arcs, and these lines of a run
+-- `before` is `circle N` with all its arcs, and then the lines `run`
 pub record IsBehindArcs (names : List (List ℕ)) (before run : List (List (List ℕ))) : Type 0 where
   pub arcs : List (ℕ × ℕ)
   pub words_are : before ≡ circle_line arcs ∷ (map (arc_line names) arcs ++ run)
@@ -137,7 +138,8 @@ pub record IsBehindArcs (names : List (List ℕ)) (before run : List (List (List
   pub few : length arcs ≤ max_count
   pub known : All (IsArcOf (length names)) arcs
 
--- after these lines of a circle: `circle` first, then as many arcs as it says, then a run
+-- a line of this form is expected after these lines of a circle: `circle` first, then as many arcs as it says, then a
+-- run
 abbrev pub StandsInCircle : List (List ℕ) → List (List (List ℕ)) → LineForm → Type 0
 StandsInCircle names before PlanLine = ⊥
 StandsInCircle names before ChainLine = ⊥

@@ -24,6 +24,6 @@ filled lines = filter holds_word lines
 abbrev pub cert_line : LineView → CertLine
 cert_line line = record { no = line.no; words = bytes_of (words_of line) }
 
--- the lines of a certificate, where these are the lines of the text
+-- the lines of a certificate, given the lines of its text
 abbrev pub cert_lines : List LineView → List CertLine
 cert_lines lines = map cert_line (filled lines)

@@ -9,16 +9,16 @@ use Rattle.wq_text.specs.Words.{words_of}
 use Rattle.wq_cert.specs.Lines.{CertLine, bytes_of}
 use Rattle.wq_cert.specs.Reading.{stands_in, workqueue_with, wq_reading, next_workqueues, all_workqueues, with_wq}
 
--- for each of n items whether it is in the list
+-- for each of n items, whether it is in the list
 abbrev pub marks : ℕ → List ℕ → List Bool
 marks n items = map (stands_in items) (range_with_len 0 n)
 
--- for each group in turn the first workqueue that holds a member of it, if one does
+-- for each group, the first workqueue that holds a member of it, if one does
 abbrev pub lanes_with : Partition → List (List ℕ) → List (Option ℕ)
 lanes_with p workqueues = map (workqueue_with p.group_of workqueues) (range_with_len 0 p.groups)
 
--- what is noted after these workqueues: how many there are, at most 4,096; for each item whether it is on one; and for
--- each group the workqueue that holds a member of it
+-- what is noted after these workqueues: how many there are, at most 4,096; for each item, whether it is on one; and for
+-- each group, the workqueue that holds a member of it
 pub record AreNoted (p : Partition) (workqueues : List (List ℕ)) (count : ℕ) (stood : List Bool)
     (lanes : List (Option ℕ)) : Type 0 where
   pub number : count ≡ length workqueues
@@ -45,7 +45,7 @@ pub record AreRead (names : List (List ℕ)) (p : Partition) (n : ℕ) (lines : 
   pub noted : AreNoted p workqueues count stood lanes
   pub read : next_workqueues names p.group_of n [] lines ≡ Ok (workqueues, rest)
 
--- the line, with `wq` in place of a first word `norescuer` if this is asked for
+-- the line, with `wq` in place of a first word `norescuer` if the flag is set
 abbrev pub said_line : Bool → LineView → CertLine
 said_line bare line = record { no = line.no; words = with_wq bare (bytes_of (words_of line)) }
 

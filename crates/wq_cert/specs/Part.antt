@@ -1,4 +1,4 @@
--- Unsure parts: which of the unsure flushes a run keeps. Each has the words of the line that declares it.
+-- Unsure parts: which unsure flushes a run keeps. A line has the words of the line that declares such a flush.
 use Rattle.std.specs.Prelude.{◌≡◌, ℕ, zero, suc, ◌<◌, ◌==◌, ◌&&◌, nat_lt, not, if◌then◌else◌, Bool, true, false, List}
 use Rattle.std.specs.Prelude.{[], ◌∷◌, ◌++◌}
 use Rattle.std.specs.Prelude.{length, map, filter_map, flat_map, find, option_map, Option, Some, None, Result}
@@ -32,7 +32,7 @@ has_unsure waits = list_any (λ targets. list_any (λ (t : Target). t.unsure) ta
 abbrev pub unsure_word : Bool → List ℕ
 unsure_word whole = if whole then codes "flushwq?" else codes "flush?"
 
--- the words of this line, of item i
+-- the words of the line that declares this unsure flush of item i
 abbrev pub unsure_line : List (List ℕ) → ℕ × Target → List (List ℕ)
 unsure_line names (i, t) = unsure_word t.whole ∷ name_of names i ∷ name_of names t.item ∷ []
 
@@ -47,7 +47,7 @@ abbrev pub part_lines : List (List ℕ) → List (List Target) → List ℕ → 
 part_lines names waits kept =
     (codes "unsure" ∷ decimal (length kept) ∷ []) ∷ map (unsure_line names) (filter_map (unsure_at waits) kept)
 
--- the unsure part of the reading that keeps the unsure flushes at these places; there is one if a flush is unsure
+-- the unsure part of the reading that keeps the unsure flushes at these places, if any flush is unsure
 abbrev pub part_text : List (List ℕ) → List (List Target) → List ℕ → List ℕ
 part_text names waits kept = if has_unsure waits then flat_map line_text (part_lines names waits kept) else []
 
@@ -57,13 +57,13 @@ reading_text names waits kept steps = part_text names waits kept ++ run_text nam
 
 -- ---- read
 
--- whether this word begins a line of a part, and if so whether the flush is of a whole workqueue
+-- if this word begins a line of a part, whether the flush is of a whole workqueue
 abbrev pub unsure_kind : List ℕ → Option Bool
 unsure_kind word =
     if bytes_eq word (codes "flush?") then Some false
     else (if bytes_eq word (codes "flushwq?") then Some true else None)
 
--- `flush? NAME TARGET` or `flushwq? NAME ITEM`: whether it is of a whole workqueue, the item and the target
+-- `flush? NAME TARGET` or `flushwq? NAME ITEM`: whether it is a flush of a whole workqueue, the item and the target
 abbrev pub unsure_form : List (List ℕ) → List (List ℕ) → Option (Bool × (ℕ × ℕ))
 unsure_form names [] = None
 unsure_form names (word ∷ []) = None
@@ -76,20 +76,20 @@ unsure_form names (word ∷ item ∷ target ∷ more ∷ words) = None
 abbrev pub is_declared_so : Bool × (ℕ × ℕ) → Target → Bool
 is_declared_so form t = t.unsure && (t.item == form.1.1) && (if form.0 then t.whole else not t.whole)
 
--- the place of the unsure flush for which a line of this form stands: the first that is declared so, and for which no
--- line stands that comes before, if there is one
+-- the place of the unsure flush that a line of this form stands for: the first that is declared in this form and that
+-- no line before it stands for, if there is one
 abbrev pub stood_for : List (List Target) → List ℕ → Bool × (ℕ × ℕ) → Option ℕ
 stood_for waits taken form =
     option_map (λ (t : Target). t.place)
     (find (λ (t : Target). is_declared_so form t && not (is_among taken t.place)) (targets_of waits form.1.0))
 
--- the place for which a line stands, behind lines that stand for these places
+-- the place that a line stands for, after lines that stand for these places
 abbrev pub unsure_reading : List (List ℕ) → List (List Target) → List ℕ → CertLine → Result ℕ CertError
 unsure_reading names waits taken line =
     and_then (λ form. ok_or (stood_for waits taken form) (BadCertLine line.no))
     (ok_or (unsure_form names line.words) (BadCertLine line.no))
 
--- this many lines of a part, behind lines that stand for these places: all these places
+-- this many lines of a part, after lines that stand for these places: all places together
 abbrev pub next_unsure : List (List ℕ) → List (List Target) → ℕ → List ℕ → List CertLine → Read (List ℕ)
 next_unsure names waits zero taken lines = Ok (taken, lines)
 next_unsure names waits (suc n) taken lines =
@@ -107,7 +107,7 @@ abbrev pub begins_unsure : List CertLine → Bool
 begins_unsure [] = false
 begins_unsure (line ∷ lines) = begins_with (codes "unsure") line.words
 
--- `unsure M`, M lines, and a run: the places for which the lines stand, and the steps
+-- `unsure M`, M lines, and a run: the places that the lines stand for, and the steps
 abbrev pub part_reading : List (List ℕ) → List (List Target) → List CertLine
     → Result (Option (List ℕ) × List Step) CertError
 part_reading names waits lines =
@@ -123,7 +123,7 @@ made_reading names waits lines =
     if begins_unsure lines then part_reading names waits lines
     else and_then (λ steps. Ok (None, steps)) (run_reading names lines)
 
--- what the text of a run says that may have an unsure part: the places of the unsure flushes that it keeps, and the
+-- what the text of a run that may have an unsure part says: the places of the unsure flushes that it keeps, and the
 -- steps
 abbrev pub made_of : List (List ℕ) → List (List Target) → List ℕ → Result (Option (List ℕ) × List Step) CertError
 made_of names waits text = text_reading (made_reading names waits) text
@@ -140,7 +140,7 @@ pub record IsKeptPlace (waits : List (List Target)) (kept : List ℕ) (p : ℕ) 
   pub first : (other : Target) → Contains (targets_of waits item) other → other.unsure ≡ true
       → other.item ≡ target.item → other.whole ≡ target.whole → other.place < p → Contains kept other.place
 
--- places as a part says them: in order, and of several flushes that are declared in the same words the first ones
+-- places as a part says them: in order, and the first ones of several flushes that are declared in the same words
 pub record AreKeptPlaces (waits : List (List Target)) (kept : List ℕ) : Type 0 where
   pub rise : IsStrictlyIncreasing kept
   pub each : (p : ℕ) → Contains kept p → IsKeptPlace waits kept p

@@ -10,11 +10,11 @@ use Rattle.wq_cert.specs.Certificate.{PlanCertificate, CircleCertificate, Certif
 use Rattle.wq_cert.specs.Reading.{names_far_lane, max_count}
 use Rattle.wq_cert.specs.RunText.{step_item}
 
--- the item and the target of an arc are two of this many items, or one of them twice
+-- the item and the target of an arc are each one of this many items
 abbrev pub IsArcOf : ℕ → ℕ × ℕ → Type 0
 IsArcOf items arc = (arc.0 < items) × (arc.1 < items)
 
--- a step names one of this many items, and a workqueue below 4,096 if it names one; no helper makes it
+-- a step of one of this many items, on a workqueue below 4,096 if it names one, and not by a helper
 abbrev pub IsStepOf : ℕ → Step → Type 0
 IsStepOf items step = (step_item step < items) × (names_far_lane step ≡ false) × (¬ IsHelp step)
 

@@ -1,7 +1,7 @@
--- Reading: what the lines of a certificate say, or the first fault. Within a line it is the first row of "Refusals of
--- certificates" in docs/FORMAT.md that applies: the form (40), the numbers (43),
--- items that are there twice (41), groups that are split (42). An item that is on no
--- workqueue is a fault at no line (41), judged after the last `wq` line.
+-- Reading: what the lines of a certificate say, or the first fault. Within a line, that is the first row of "Refusals
+-- of certificates" in docs/FORMAT.md that applies: the form (40), the numbers (43), an item that is on a workqueue
+-- already (41), a group that is split (42). An item that is on no workqueue is a fault at no line (41), judged after
+-- the last `wq` line.
 use Rattle.std.specs.Prelude.{ℕ, zero, suc, ◌-◌, ◌==◌, ◌||◌, not, nat_le, nat_lt, if◌then◌else◌, Bool, true, false}
 use Rattle.std.specs.Prelude.{List, [], ◌∷◌, ◌++◌, length, map, slice_index, unwrap_or, Option, Some, None, Result, Ok}
 use Rattle.std.specs.Prelude.{Err, ok_or, bytes_eq, codes}
@@ -82,11 +82,11 @@ step_reading names line = step_in_range line.no (step_form names line.words)
 
 -- ---- workqueues
 
--- an item is in the list
+-- item i is in the list
 abbrev pub stands_in : List ℕ → ℕ → Bool
 stands_in items i = list_any (λ j. i == j) items
 
--- an item of the list is in it twice, or is in the other one
+-- an item of the second list is in it twice, or is in the first one
 abbrev pub has_stood : List ℕ → List ℕ → Bool
 has_stood before [] = false
 has_stood before (i ∷ items) = stands_in before i || has_stood (before ++ (i ∷ [])) items
@@ -95,7 +95,7 @@ has_stood before (i ∷ items) = stands_in before i || has_stood (before ++ (i �
 abbrev pub holds_member : List ℕ → List ℕ → ℕ → Bool
 holds_member group_of items g = list_any (λ i. slice_index group_of i == g) items
 
--- an item of the list shares its group with one of the other list; judged only if the two have no item in common
+-- an item of the second list shares its group with one of the first; judged only if the two have no item in common
 abbrev pub splits_group : List ℕ → List ℕ → List ℕ → Bool
 splits_group group_of before items = list_any (λ i. holds_member group_of before (slice_index group_of i)) items
 
@@ -106,15 +106,14 @@ wq_items names place line =
     else Ok p.1)
     (ok_or (wq_form names line.words) (BadCertLine line.no))
 
--- the items on line n, where these are on the lines before it: none of them is there twice or in a group that is there
+-- the items on line n, given those on the lines before it: none of them is there already or in a group that is
 abbrev pub fresh_items : List ℕ → List ℕ → ℕ → List ℕ → Result (List ℕ) CertError
 fresh_items group_of before n items =
     if has_stood before items then Err (NotAllItems n)
     else (if splits_group group_of before items then Err (GroupSplit n) else Ok items)
 
--- the items on the next workqueue, where these are those on the workqueues before
--- it. The form of a line is judged first, then its number, which is that of its
--- place and below 4,096, then items that are there again, then groups that are split
+-- the items on the next workqueue, given those on the workqueues before it. The form of a line is judged first, then
+-- its number, which must be its place and below 4,096, then items that are there already, then groups that are split
 abbrev pub wq_reading : List (List ℕ) → List ℕ → List (List ℕ) → CertLine → Result (List ℕ) CertError
 wq_reading names group_of workqueues line =
     and_then (λ items. fresh_items group_of (concat workqueues) line.no items) (wq_items names (length workqueues) line)
@@ -227,7 +226,7 @@ workqueues_reading names p lines =
     and_read (λ workqueues rest. and_then (λ assignment. at_end assignment rest) (whole_assignment p workqueues))
     (all_workqueues names p.group_of [] lines)
 
--- whether the very first word is `plan`
+-- whether the first word of all is `plan`
 abbrev pub begins_plan : List CertLine → Bool
 begins_plan [] = false
 begins_plan (line ∷ lines) = begins_with (codes "plan") line.words
@@ -240,12 +239,12 @@ assignment_reading names p lines =
 
 -- ---- workqueues of which some may have no rescuer
 
--- the word, or `wq` in place of `norescuer` if this is asked for
+-- the word, but `wq` for `norescuer` if the flag is set
 abbrev pub wq_word : Bool → List ℕ → List ℕ
 wq_word false word = word
 wq_word true word = if bytes_eq word (codes "norescuer") then codes "wq" else word
 
--- the words, the first of them read so
+-- the words, where `norescuer` as the first of them is read as `wq` if the flag is set
 abbrev pub with_wq : Bool → List (List ℕ) → List (List ℕ)
 with_wq bare [] = []
 with_wq bare (word ∷ words) = wq_word bare word ∷ words
@@ -258,8 +257,8 @@ as_wq line = record line { words = with_wq true line.words }
 abbrev pub is_bare_line : CertLine → Bool
 is_bare_line line = begins_with (codes "norescuer") line.words
 
--- workqueues: a whole plan text if the first word is `plan`. Else `wq` and `norescuer` lines, which are read alike, as
--- if each were a `wq` line; the workqueues of `norescuer` lines have no rescuer
+-- workqueues: a whole plan text if the first word is `plan`; otherwise `wq` and `norescuer` lines, each of which is
+-- read like a `wq` line, but the workqueues of `norescuer` lines have no rescuer
 abbrev pub lanes_reading : List (List ℕ) → Partition → List CertLine → Result Workqueues CertError
 lanes_reading names p lines =
     if begins_plan lines

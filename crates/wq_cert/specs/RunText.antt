@@ -11,8 +11,8 @@ use Rattle.wq_cert.specs.PlanText.{name_of}
 abbrev pub run_line : List Step → List (List ℕ)
 run_line steps = codes "run" ∷ decimal (length steps) ∷ []
 
--- the line of a step: its word, the workqueue of a rescuer's step, and the name of the item; a helper's step has no
--- words, since it is in no run text
+-- the line of a step: its keyword, the workqueue if it is a rescuer's step, and the name of the item; a helper's step
+-- has no words, since it is in no run text
 abbrev pub step_line : List (List ℕ) → Step → List (List ℕ)
 step_line names (Queue i) = codes "queue" ∷ name_of names i ∷ []
 step_line names (Cancel i) = codes "cancel" ∷ name_of names i ∷ []

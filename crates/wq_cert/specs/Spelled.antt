@@ -31,8 +31,8 @@ abbrev pub GroupsAreWhole : List ℕ → List (List ℕ) → Type 0
 GroupsAreWhole group_of qs =
     (q r i j : ℕ) → IsOnWorkqueue qs q i → IsOnWorkqueue qs r j → ShareGroup group_of i j → q ≡ r
 
--- at most 4,096 workqueues with this many items, each item on one of them and only
--- once, and each group on one workqueue
+-- at most 4,096 workqueues with this many items: each item is on exactly one of them and only once, and each group is
+-- on one workqueue
 pub record AreWorkqueues (items : ℕ) (group_of : List ℕ) (workqueues : List (List ℕ)) : Type 0 where
   pub few : length workqueues ≤ max_lanes
   pub known : All (λ i. i < items) (concat workqueues)

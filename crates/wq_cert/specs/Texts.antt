@@ -24,7 +24,7 @@ max_certificate = 8388608
 abbrev pub max_certificate_line : ℕ
 max_certificate_line = 524288
 
--- the fault of a text or a line above its limit is one of form: at no line, or at the first that is too long
+-- if the text or a line is above its limit, that is a fault of form: at no line, or at the first that is too long
 abbrev pub unless_too_long : {V : Type 0} → Option TextError → Result V CertError → Result V CertError
 unless_too_long None rest = rest
 unless_too_long (Some TextTooLong) rest = Err (BadCertLine 0)
@@ -43,7 +43,7 @@ answer_of names p text = text_reading (answer_reading names p) text
 abbrev pub assignment_of_text : List (List ℕ) → Partition → List ℕ → Result Assignment CertError
 assignment_of_text names p text = text_reading (assignment_reading names p) text
 
--- which workqueues the text of an assignment says there are, of which some may have no rescuer
+-- the workqueues that the text of an assignment says there are, some of which may have no rescuer
 abbrev pub workqueues_of_text : List (List ℕ) → Partition → List ℕ → Result Workqueues CertError
 workqueues_of_text names p text = text_reading (lanes_reading names p) text
 
@@ -53,7 +53,7 @@ run_of names text = text_reading (run_reading names) text
 
 -- ---- faults
 
--- what a call answers instead of a value: that memory ran out, or else the first fault
+-- what a call returns instead of a value: that memory ran out, or else the first fault
 abbrev pub IsCertFaultOf : {V : Type 0} → CertError → Result V CertError → Type 0
 IsCertFaultOf (BadCertLine line) r = r ≡ Err (BadCertLine line)
 IsCertFaultOf (NotAllItems line) r = r ≡ Err (NotAllItems line)

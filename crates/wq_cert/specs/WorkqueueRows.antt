@@ -1,5 +1,5 @@
 -- Rows of faults, said without a reader: which row of "Refusals of certificates" in docs/FORMAT.md is the first that
--- the line of a workqueue breaks, where these workqueues are on the lines before it.
+-- the line of a workqueue breaks, given the workqueues on the lines before it.
 use Rattle.std.specs.Prelude.{◌≡◌, ◌≢◌, ℕ, ◌^◌, ◌<◌, ◌≤◌, Bool, false, List, [], ◌∷◌, ◌++◌, ◌⊎◌, length, Contains}
 use Rattle.std.specs.Prelude.{AllPairs, codes}
 use Rattle.std.specs.List.{All, concat}
@@ -25,17 +25,17 @@ pub record SpellsWorkqueue (names words : List (List ℕ)) (workqueue : ℕ × L
   pub fits : workqueue.0 < 2 ^ 32
   pub known : All (λ i. i < length names) workqueue.1
 
--- the same, where the number is that of the next workqueue, and in range
+-- the words are `wq Q NAME..` for declared items, where the number is that of the next workqueue, and in range
 pub record SpellsNextWorkqueue (names words : List (List ℕ)) (workqueues : List (List ℕ)) (items : List ℕ)
     : Type 0 where
   pub says : SpellsWorkqueue names words (length workqueues, items)
   pub room : length workqueues < max_lanes
 
--- each item is there once, counting those before them
+-- each item is on a workqueue only once, counting the workqueues before it
 abbrev pub StandOnce : List (List ℕ) → List ℕ → Type 0
 StandOnce workqueues items = AllPairs (λ (i j : ℕ). i ≢ j) (concat workqueues ++ items)
 
--- with these items as the next workqueue, no group is split
+-- no group is split if these items are the next workqueue
 abbrev pub SplitNoGroup : List ℕ → List (List ℕ) → List ℕ → Type 0
 SplitNoGroup group_of workqueues items = GroupsAreWhole group_of (workqueues ++ (items ∷ []))
 

@@ -1,7 +1,7 @@
 //! Reading answers: the text of a plan or of a circle. Its first word tells which.
 //!
-//! The texts are those of "Certificates" in docs/FORMAT.md. Reading takes time in the length of the text and the number
-//! of items. It takes memory in the number of items, arcs and steps, and in the length of the longest line.
+//! The texts are those of "Certificates" in docs/FORMAT.md. Reading takes time linear in the length of the text and the
+//! number of items, and memory linear in the number of items, arcs and steps and in the length of the longest line.
 
 ghost use Rattle.std.specs.Prelude.{◌≡◌, length, map, Ok, Err, None, IfOk, IfErr};
 ghost use Rattle.wq_text.specs.Limits.{limit_fault};
@@ -83,10 +83,10 @@ fn read_answer_lines<A: Allocator + Copy>(
 
 /// Reads the text of an answer, for the items of a table in these groups. Whether it is true isn't judged.
 ///
-/// The error is the first fault. `BadCertLine` (40) comes before all else where the text or a line is too long. Then it
-/// is that of the first line that has one: `BadCertLine` (40), `NumberOutOfRange` (43), `NotAllItems` (41) or
-/// `GroupSplit` (42), in this order in a line. The line is 0 where the text ends too early (40) or an item is on no
-/// workqueue (41). Or the error is `OutOfMemory` (20), where a growth was refused in a text within the limits.
+/// The error is the first fault. If the text or a line is too long, that is `BadCertLine` (40), before all else.
+/// Otherwise it is the fault of the first line that has one: `BadCertLine` (40), `NumberOutOfRange` (43), `NotAllItems`
+/// (41) or `GroupSplit` (42), in this order in a line. The line is 0 if the text ends too early (40) or an item is on
+/// no workqueue (41). Or the error is `OutOfMemory` (20), for a text within the limits.
 pub fn read_answer<A: Allocator + Copy>(
     alloc: A,
     text: &[u8],
@@ -96,7 +96,7 @@ pub fn read_answer<A: Allocator + Copy>(
     requires { length groups.now.group_of ≡ length table.now.names }
     ensures answer { IfOk result (λ c. answer_of table.now.names groups.now text.now ≡ Ok (certificate c)) }
     ensures fault { IfErr result (λ e. IsCertFaultOf e (answer_of table.now.names groups.now text.now)) }
-    // The limits are judged without memory, and so are `plan K`, or `circle N` and the first arc.
+    // No memory is needed to judge the limits, nor to read `plan K`, or `circle N` and the first arc.
     ensures memory { result ≡ Err OutOfMemory → limit_fault max_certificate max_certificate_line text.now ≡ None }
     ensures first_lines { result ≡ Err OutOfMemory
         → BeginsWell (answer_reading table.now.names groups.now) (lines_before_memory (cert_lines (lines_of text.now)))

@@ -1,7 +1,7 @@
 //! Printing arcs, in plan texts and in circle texts.
 //!
-//! The format is that of "Plan texts" and "Circle texts" in docs/FORMAT.md. Printing
-//! takes time and memory in the length of what is printed.
+//! The format is that of "Plan texts" and "Circle texts" in docs/FORMAT.md. Printing takes time and memory linear in
+//! the length of the output.
 
 ghost use Rattle.std.specs.Prelude.{◌≡◌, ◌<◌, ◌++◌, ℕ, length, OnErr, OnOk};
 ghost use Rattle.wq_text.specs.LineText.{IsBegun, line_text};
@@ -11,7 +11,7 @@ use std::alloc::{AllocError, Allocator};
 use wq_items::{ItemId, ItemTable};
 use wq_text::{put, put_end, put_word};
 
-/// Adds `arc NAME TARGET`.
+/// Appends `arc NAME TARGET`.
 ///
 /// The only error is out of memory (20).
 pub fn put_arc_line<A: Allocator + Copy>(

@@ -1,7 +1,7 @@
-//! Reading arcs: those of a chain after a plan, and those of a circle with the run after them.
+//! Reading arcs: those of the chain after a plan, and those of a circle with the run after them.
 //!
-//! The texts are those of "Certificates" in docs/FORMAT.md. Reading takes time in the length of the lines, and memory
-//! in the number of the arcs and steps that are there.
+//! The texts are those of "Certificates" in docs/FORMAT.md. Reading takes time linear in the length of the lines, and
+//! memory linear in the number of arcs and steps that are there.
 
 ghost use Rattle.std.specs.Prelude.{◌≡◌, Ok, Err, IfOk, IfErr, map, option_map};
 ghost use Rattle.wq_cert.specs.Growth.{ReadsOne, BeginsWell};
@@ -18,7 +18,7 @@ use std::alloc::Allocator;
 use wq_core::Step;
 use wq_items::{ItemId, ItemTable};
 
-/// Reads this many arcs, each on one of the next lines.
+/// Reads `count` arcs, each on one of the next lines.
 fn read_arcs<A: Allocator + Copy>(
     alloc: A,
     table: &ItemTable<'_, A>,

@@ -1,7 +1,7 @@
 //! Reading assignments: a whole plan text, or the lines of workqueues alone.
 //!
-//! The texts are those of "Certificates" in docs/FORMAT.md. Reading takes time in the length of the text and the number
-//! of items. It takes memory in the number of items and arcs, and in the length of the longest line.
+//! The texts are those of "Certificates" in docs/FORMAT.md. Reading takes time linear in the length of the text and the
+//! number of items, and memory linear in the number of items and arcs and in the length of the longest line.
 
 ghost use Rattle.std.specs.Prelude.{◌≡◌, true, length, map, Ok, Err, None, IfOk, IfErr};
 ghost use Rattle.wq_text.specs.Limits.{limit_fault};
@@ -55,8 +55,8 @@ fn read_assignment_lines<A: Allocator + Copy>(
     }
 }
 
-/// Reads the assignment in a text, for the items of a table in these groups. The text is a whole plan text, of whose
-/// chain only the form is judged, or the lines of workqueues alone.
+/// Reads the assignment in a text, for the items of a table in these groups. The text is the lines of workqueues alone,
+/// or a whole plan text, of whose chain only the form is judged.
 ///
 /// The errors are those of `read_answer`.
 pub fn read_assignment<A: Allocator + Copy>(
@@ -68,7 +68,7 @@ pub fn read_assignment<A: Allocator + Copy>(
     requires { length groups.now.group_of ≡ length table.now.names }
     ensures assignment { IfOk result (λ a. assignment_of_text table.now.names groups.now text.now ≡ Ok a) }
     ensures fault { IfErr result (λ e. IsCertFaultOf e (assignment_of_text table.now.names groups.now text.now)) }
-    // The limits are judged without memory, and so is `plan K`.
+    // No memory is needed to judge the limits, nor to read `plan K`.
     ensures memory { result ≡ Err OutOfMemory → limit_fault max_certificate max_certificate_line text.now ≡ None }
     ensures first_line { result ≡ Err OutOfMemory → begins_plan (cert_lines (lines_of text.now)) ≡ true
         → BeginsWell (assignment_reading table.now.names groups.now) 1 (cert_lines (lines_of text.now)) }

@@ -1,6 +1,7 @@
 //! Circle texts: the flushes along which groups wait in a circle, and a run that shows how they come to wait.
 //!
-//! The format is that of "Circle texts" in docs/FORMAT.md. Printing takes time and memory in the length of the text.
+//! The format is that of "Circle texts" in docs/FORMAT.md. Printing takes time and memory linear in the length of the
+//! text.
 
 ghost use Rattle.std.specs.Prelude.{◌≡◌, ◌<◌, ◌++◌, ◌^◌, ℕ, length, OnOk, IfOk, IfSome, option_copied};
 ghost use Rattle.std.specs.List.{All};
@@ -17,7 +18,7 @@ use wq_core::Step;
 use wq_items::{ItemId, ItemTable};
 use wq_text::{put, put_end, put_number};
 
-/// Adds `circle N`.
+/// Appends `circle N`.
 fn put_circle_line<A: Allocator + Copy>(
     out: &mut Vec<u8, A>,
     arcs: &[(ItemId, ItemId)],
@@ -30,7 +31,7 @@ fn put_circle_line<A: Allocator + Copy>(
     put_end(out)
 }
 
-/// Adds `circle N` and the arcs.
+/// Appends `circle N` and the arcs.
 fn put_circle<A: Allocator + Copy>(
     out: &mut Vec<u8, A>,
     table: &ItemTable<'_, A>,
@@ -48,11 +49,11 @@ fn put_circle<A: Allocator + Copy>(
     Ok(())
 }
 
-/// The text of a circle: the number of its arcs, then the arcs, each as an item and
-/// its target, and then the text of a run, where there is one.
+/// The text of a circle: the number of its arcs, then the arcs, each as an item and its target, and then the text of a
+/// run, if there is one.
 ///
-/// There are fewer than 4,294,967,296 arcs, each from an item of the table to one of it, and fewer than 4,294,967,296
-/// steps, each of an item of the table and none of a helper. The only error is out of memory (20).
+/// There must be fewer than 2^32 arcs, between items of the table, and fewer than 2^32 steps, of items of the table and
+/// none by a helper. The only error is out of memory (20).
 pub fn circle_text<A: Allocator + Copy>(
     alloc: A,
     table: &ItemTable<'_, A>,

@@ -1,6 +1,6 @@
 //! Why a text isn't a certificate.
 //!
-//! The faults are those of "Refusals of certificates" in docs/FORMAT.md. Each answer takes constant time.
+//! The faults are those of "Refusals of certificates" in docs/FORMAT.md. Each call takes constant time.
 
 ghost use Rattle.std.specs.Prelude.{◌≡◌};
 ghost use Rattle.wq_cert.specs.Texts.{cert_refusal};
@@ -9,21 +9,21 @@ ghost use Rattle.wq_cert.specs.declared.fault.CertError.TheVariants.{OutOfMemory
 use std::alloc::{AllocError, AllocFailed};
 use thiserror::Error;
 
-/// The first fault of a certificate, or out of memory. The rows of "Refusals of certificates" in docs/FORMAT.md say
-/// which fault of a line is the first.
+/// The first fault of a certificate, or out of memory. The order of rows in "Refusals of certificates" in
+/// docs/FORMAT.md decides which fault of a line is the first.
 #[derive(Clone, Copy, Debug, PartialEq, Eq, Error)]
 pub enum CertError {
-    /// The line isn't of the form that comes next, or is too long (40). It is line 0
-    /// where the text is too long or ends too early.
+    /// The line doesn't have the form that comes next, or is too long (40). The line is 0 if the text is too long or
+    /// ends too early.
     #[error("line {line}: not what a certificate has here")]
     BadCertLine { line: u32 },
-    /// An item is on a workqueue already (41). It is line 0 where an item is on none.
+    /// An item is on a workqueue already (41). The line is 0 if an item is on none.
     #[error("line {line}: not every item is on exactly one workqueue")]
     NotAllItems { line: u32 },
     /// Another item of the same group is on an earlier workqueue (42).
     #[error("line {line}: a group on two workqueues")]
     GroupSplit { line: u32 },
-    /// A number that is out of its range (43).
+    /// A number is out of its range (43).
     #[error("line {line}: a number out of range")]
     NumberOutOfRange { line: u32 },
     /// Memory ran out (20, without a line).
@@ -45,7 +45,7 @@ impl CertError {
         }
     }
 
-    /// The line of the fault, from 1, or 0 where no line is meant.
+    /// The line of the fault, from 1, or 0 if no line is meant.
     pub fn line(self) -> u32
         ensures { result ≡ (cert_refusal self).line }
     {

@@ -1,8 +1,8 @@
-//! What the words of one line say, where they have the form that is asked for.
+//! What the words of one line say, if they have the expected form.
 //!
-//! The forms are those of "Certificates" and "Run texts" in docs/FORMAT.md. No keyword, number or name has a byte that
-//! no line may hold, so a line with such a byte before its comment has no form. Each function takes time in the length
-//! of the words. `items_of` and `wq_form` take memory in the number of items.
+//! The forms are those of "Certificates" and "Run texts" in docs/FORMAT.md. No keyword, number or name holds a byte
+//! that is forbidden in a line, so a line with such a byte before its comment has no form. Each function takes time
+//! linear in the length of the words; `items_of` and `wq_form` take memory linear in the number of items.
 
 ghost use Rattle.std.specs.Prelude.{◌≡◌, IfOk, option_map, bytes_eq, codes};
 ghost use Rattle.wq_cert.specs.Forms.{number_of, items_of, begins_with, count_form, wq_form, arc_form};
@@ -14,14 +14,14 @@ use std::alloc::{AllocError, Allocator};
 use wq_items::{ItemId, ItemTable};
 use wq_text::{Line, Words, number};
 
-/// The number that a word spells, where the word is its one spelling.
+/// The number that a word spells, if the word is its one spelling.
 pub(crate) fn number_of(word: &[u8]) -> Option<u32>
     ensures { result ≡ number_of word.now }
 {
     number(word)
 }
 
-/// Whether a line is that of a workqueue: its first word is `wq`, or, if this is asked for, `norescuer`.
+/// Whether a line is that of a workqueue: its first word is `wq` or, if `bare`, `norescuer`.
 pub(crate) fn begins_wq(line: &Line<'_>, bare: bool) -> bool
     ensures { result ≡ begins_with (codes "wq") (said_line bare line.now).words }
 {
@@ -31,7 +31,7 @@ pub(crate) fn begins_wq(line: &Line<'_>, bare: bool) -> bool
     }
 }
 
-/// Whether the first word of a line is this one.
+/// Whether the first word of a line is `keyword`.
 pub(crate) fn begins_with(line: &Line<'_>, keyword: &[u8]) -> bool
     ensures { result ≡ begins_with keyword.now (cert_line line.now).words }
 {
@@ -41,7 +41,7 @@ pub(crate) fn begins_with(line: &Line<'_>, keyword: &[u8]) -> bool
     }
 }
 
-/// `KEYWORD N`: the number.
+/// The number N of `KEYWORD N`.
 pub(crate) fn count_form(keyword: &[u8], mut words: Words<'_>) -> Option<u32>
     ensures { result ≡ count_form keyword.now (bytes_of words.entry) }
 {
@@ -53,7 +53,7 @@ pub(crate) fn count_form(keyword: &[u8], mut words: Words<'_>) -> Option<u32>
     number_of(count.bytes())
 }
 
-/// The items with these names, where each is declared. The only error is out of memory.
+/// The items with these names, if each is declared. The only error is out of memory.
 pub(crate) fn items_of<A: Allocator + Copy>(
     alloc: A,
     table: &ItemTable<'_, A>,
@@ -71,15 +71,14 @@ pub(crate) fn items_of<A: Allocator + Copy>(
     Ok(Some(items))
 }
 
-/// Whether a word begins the line of a workqueue: `wq`, or, if this is asked for, `norescuer`.
+/// Whether a word begins the line of a workqueue: `wq` or, if `bare`, `norescuer`.
 fn is_wq(word: &[u8], bare: bool) -> bool
     ensures { result ≡ bytes_eq (wq_word bare word.now) (codes "wq") }
 {
     word == b"wq".as_slice() || bare && word == b"norescuer".as_slice()
 }
 
-/// `wq Q NAME..`: the number and the items. `norescuer` may be in place of `wq` if
-/// this is asked for. The only error is out of memory.
+/// The number and the items of `wq Q NAME..` or, if `bare`, `norescuer Q NAME..`. The only error is out of memory.
 pub(crate) fn wq_form<A: Allocator + Copy>(
     alloc: A,
     table: &ItemTable<'_, A>,
@@ -107,7 +106,7 @@ pub(crate) fn wq_form<A: Allocator + Copy>(
     Ok(Some((number, items)))
 }
 
-/// `arc NAME TARGET`: the item and the target.
+/// The item and the target of `arc NAME TARGET`.
 pub(crate) fn arc_form<A: Allocator + Copy>(
     table: &ItemTable<'_, A>,
     mut words: Words<'_>,

@@ -1,6 +1,6 @@
-//! Reading workqueues of which some may have no rescuer: a whole plan text, or `wq` and `norescuer` lines.
+//! Reading workqueues, some of which may have no rescuer: a whole plan text, or `wq` and `norescuer` lines.
 //!
-//! The texts are those of "Certificates" in docs/FORMAT.md. A `norescuer` line is read as a `wq` line, and says that
+//! The texts are those of "Certificates" in docs/FORMAT.md. A `norescuer` line is read like a `wq` line, and says that
 //! its workqueue has no rescuer. Reading takes the time and the memory of reading an assignment.
 
 ghost use Rattle.std.specs.Prelude.{◌≡◌, true, length, map, Ok, Err, None, IfOk, IfErr};
@@ -24,7 +24,7 @@ use wq_core::Workqueues;
 use wq_groups::Groups;
 use wq_items::ItemTable;
 
-/// For each of these lines whether it is that of a workqueue without a rescuer.
+/// For each of these lines, whether it is that of a workqueue without a rescuer.
 fn bare_lines<A: Allocator>(alloc: A, lines: CertLines<'_>) -> Result<Vec<bool, A>, AllocError>
     ensures { IfOk result (λ bare. bare.items ≡ map is_bare_line (map cert_line lines.entry)) }
 {
@@ -59,9 +59,9 @@ fn read_lanes<A: Allocator + Copy>(
     }
 }
 
-/// Reads the workqueues in the text of an assignment, for the items of a table in these
-/// groups. The text is a whole plan text, of whose chain only the form is judged, or
-/// lines of workqueues alone, with a rescuer (`wq`) or without (`norescuer`).
+/// Reads the workqueues in the text of an assignment, for the items of a table in these groups. The text is lines of
+/// workqueues alone, with a rescuer (`wq`) or without (`norescuer`), or a whole plan text, of whose chain only the form
+/// is judged.
 ///
 /// The errors are those of `read_answer`.
 pub fn read_workqueues<A: Allocator + Copy>(
@@ -73,7 +73,7 @@ pub fn read_workqueues<A: Allocator + Copy>(
     requires { length groups.now.group_of ≡ length table.now.names }
     ensures workqueues { IfOk result (λ ws. workqueues_of_text table.now.names groups.now text.now ≡ Ok ws) }
     ensures fault { IfErr result (λ e. IsCertFaultOf e (workqueues_of_text table.now.names groups.now text.now)) }
-    // The limits are judged without memory, and so is `plan K`.
+    // No memory is needed to judge the limits, nor to read `plan K`.
     ensures memory { result ≡ Err OutOfMemory → limit_fault max_certificate max_certificate_line text.now ≡ None }
     ensures first_line { result ≡ Err OutOfMemory → begins_plan (cert_lines (lines_of text.now)) ≡ true
         → BeginsWell (lanes_reading table.now.names groups.now) 1 (cert_lines (lines_of text.now)) }

@@ -1,7 +1,7 @@
 //! Laws about certificates, as contracts of functions with empty bodies: what is read is in range; which fault is
-//! answered; what is printed is read back; and what is printed is within the limits of what is read.
+//! returned; what is printed is read back; and what is printed keeps the limits of what is read.
 //!
-//! They are about the definitions of what is printed and of what is read, whatever code prints and reads.
+//! They speak of the definitions of what is printed and read, whatever code prints and reads.
 
 ghost use Rattle.std.specs.Prelude.{◌≡◌, ℕ, ◌+◌, ◌<◌, ◌≤◌, ◌==◌, if◌then◌else◌, List, [], ◌∷◌, ◌++◌, length, Option};
 ghost use Rattle.std.specs.Prelude.{IfSome, Ok, ◌≢◌, ◌↔◌, take, AllPairs, Some, None, Err, codes, true, false};
@@ -37,8 +37,8 @@ ghost use Rattle.wq_cert.specs.Spelled.{words_of_lines, words_of_text, workqueue
 ghost use Rattle.wq_cert.specs.Spelled.{SpellsPlan, SpellsCircle, SpellsRun, SpellsWorkqueues, SpellsCertificate};
 ghost use Rattle.wq_cert.specs.Spelled.{SpellsAssignment, KeepsLimits};
 
-/// What is read is in range: items that are declared, groups on at most 4,096 workqueues, as many arcs as the text
-/// says, and fewer steps than there are numbers.
+/// What is read is in range: declared items, groups on at most 4,096 workqueues, as many arcs as the text says, and
+/// fewer than 2^32 steps.
 pub fn what_is_read_is_in_range()
     ensures answer { (names : List (List ℕ)) (p : Partition) (text : List ℕ) (c : Certificate) → IsPartition p →
         length names ≡ length p.group_of → answer_of names p text ≡ Ok c → IsCertificateOf (length names) p.groups c }
@@ -52,8 +52,8 @@ pub fn what_is_read_is_in_range()
         (steps : List Step) → made_of names waits text ≡ Ok (kept, steps) → IsRunOf (length names) steps }
 {}
 
-/// A text of workqueues in which no line begins with `norescuer` says what it says as the text of an assignment, or is
-/// refused as that is; and each of its workqueues has a rescuer.
+/// If no line of a text of workqueues begins with `norescuer`, reading it gives the same as reading it as an
+/// assignment: the same refusal, or the same assignment, with a rescuer for each workqueue.
 pub fn a_text_without_norescuer_lines_is_that_of_an_assignment()
     ensures assignment { (names : List (List ℕ)) (p : Partition) (text : List ℕ) →
         list_any is_bare_line (cert_lines (lines_of text)) ≡ false →
@@ -64,8 +64,8 @@ pub fn a_text_without_norescuer_lines_is_that_of_an_assignment()
         workqueues_of_text names p text ≡ Ok ws → slice_index_or ws.bare q false ≡ false }
 {}
 
-/// Certificates that are too long are all refused in the same way, and the bytes up to the first one too many show it.
-/// What comes after them changes nothing that is read.
+/// All certificates that are too long are refused in the same way, and the bytes up to the first one too many show it:
+/// what comes after them makes no difference.
 pub fn a_long_certificate_is_refused_by_its_prefix()
     ensures answer { (names : List (List ℕ)) (p : Partition) (text : List ℕ) → max_certificate < length text →
         answer_of names p text ≡ Err (BadCertLine 0) }
@@ -85,13 +85,13 @@ pub fn a_long_certificate_is_refused_by_its_prefix()
         run_of names (take (max_certificate + 1) text) ≡ run_of names text }
 {}
 
-/// A word is read as a number exactly where it is the one spelling of that number.
+/// A word is read as a number exactly if it is the one spelling of that number.
 pub fn a_number_is_read_by_its_spelling()
     ensures { (word : List ℕ) (n : ℕ) → (number_of word ≡ Some n) ↔ Spells word n }
 {}
 
-/// Lines are read exactly where their words are those of the forms that follow one another, and then as what these
-/// forms say: a plan, a circle, a run, or the workqueues of an assignment.
+/// Lines are read exactly if their words are those of the forms that follow one another, and then as what these forms
+/// say: a plan, a circle, a run, or the workqueues of an assignment.
 pub fn lines_are_read_where_they_spell()
     ensures plan { (names : List (List ℕ)) (p : Partition) (lines : List CertLine) (c : PlanCertificate) →
         AllPairs (λ (a b : List ℕ). a ≢ b) names → length names ≡ length p.group_of →
@@ -107,8 +107,8 @@ pub fn lines_are_read_where_they_spell()
         (workqueues_reading names p lines ≡ Ok a) ↔ SpellsWorkqueues names p (words_of_lines lines) a }
 {}
 
-/// A text is read exactly where it keeps the limits and the words of its lines are those of an answer, of an assignment
-/// or of a run, and then as what these say.
+/// A text is read exactly if it keeps the limits and the words of its lines are those of an answer, of an assignment or
+/// of a run, and then as what these say.
 pub fn texts_are_read_where_they_spell()
     ensures answer { (names : List (List ℕ)) (p : Partition) (text : List ℕ) (c : Certificate) →
         AllPairs (λ (a b : List ℕ). a ≢ b) names → length names ≡ length p.group_of →
@@ -122,8 +122,8 @@ pub fn texts_are_read_where_they_spell()
         (run_of names text ≡ Ok steps) ↔ (KeepsLimits text × SpellsRun names (words_of_text text) steps) }
 {}
 
-/// Where a text within the limits is refused at a line, that line is the first at fault. The text has the line;
-/// whatever comes after it changes nothing; and a text of fewer of its lines is read, or refused at no line.
+/// If a text within the limits is refused at a line, that line is the first at fault: the text has the line; whatever
+/// comes after it changes nothing; and a text of fewer of its lines is read, or refused at no line.
 pub fn a_refusal_is_of_the_first_line_at_fault()
     ensures answer { (names : List (List ℕ)) (p : Partition) (text : List ℕ) (fault : CertError) → KeepsLimits text →
         answer_of names p text ≡ Err fault → 0 < line_of fault → IsOfTheFirstLine (answer_of names p) text fault }
@@ -135,9 +135,9 @@ pub fn a_refusal_is_of_the_first_line_at_fault()
         run_of names text ≡ Err fault → 0 < line_of fault → IsOfTheFirstLine (run_of names) text fault }
 {}
 
-/// After the lines of workqueues, a line that isn't that of the next one is refused by
-/// the first row that it breaks, whatever comes after it: its form (40), its number
-/// (43), an item that is already on a workqueue (41), a group that is split (42).
+/// After the lines of workqueues, a line that isn't that of the next one is refused by the first row that it breaks,
+/// whatever comes after it: its form (40), its number (43), an item that is already on a workqueue (41), a group that
+/// is split (42).
 pub fn the_line_of_a_workqueue_is_refused_by_its_first_row()
     ensures plan { (names : List (List ℕ)) (p : Partition) (k : ℕ) (workqueues : List (List ℕ)) (before : List CertLine)
         (line : CertLine) (after : List CertLine) (fault : CertError) → AllPairs (λ (a b : List ℕ). a ≢ b) names →
@@ -153,8 +153,8 @@ pub fn the_line_of_a_workqueue_is_refused_by_its_first_row()
         workqueues_reading names p (before ++ (line ∷ after)) ≡ Err fault }
 {}
 
-/// Where a `plan`, `chain`, `circle`, `arc` or `run` line comes next, or that of a step, a line is refused by the first
-/// row that it breaks, whatever comes after it: its form (40), its number (43).
+/// If a `plan`, `chain`, `circle`, `arc` or `run` line or that of a step comes next, a line is refused by the first row
+/// that it breaks, whatever comes after it: its form (40), its number (43).
 pub fn each_other_line_is_refused_by_its_first_row()
     ensures plan { (names : List (List ℕ)) (p : Partition) (form : LineForm) (before : List CertLine) (line : CertLine)
         (after : List CertLine) (fault : CertError) → AllPairs (λ (a b : List ℕ). a ≢ b) names →
@@ -171,7 +171,7 @@ pub fn each_other_line_is_refused_by_its_first_row()
         run_reading names (before ++ (line ∷ after)) ≡ Err fault }
 {}
 
-/// A line that is there and breaks no row isn't at fault, nor is any line before it.
+/// If a line is there and breaks no row, neither it nor any line before it is at fault.
 pub fn a_line_that_breaks_no_row_is_no_fault()
     ensures plan { (names : List (List ℕ)) (p : Partition) (form : LineForm) (before : List CertLine)
         (line : CertLine) →
@@ -186,9 +186,8 @@ pub fn a_line_that_breaks_no_row_is_no_fault()
         KeepsLine names form line → NoLineIsAtFault (run_reading names (before ++ (line ∷ []))) }
 {}
 
-/// After the lines of the workqueues, an item that is on none is answered first (41,
-/// of no line), whatever comes there. In an assignment by `wq` lines alone, a line
-/// with another first word is refused there (40), where no item is missing.
+/// After the lines of the workqueues, an item that is on none is reported first (41, of no line), whatever comes there.
+/// In an assignment by `wq` lines alone, a line with another first word is refused there (40) if no item is missing.
 pub fn missing_items_are_answered_after_the_workqueues()
     ensures plan { (names : List (List ℕ)) (p : Partition) (workqueues : List (List ℕ)) (lines : List CertLine)
         (after : List (List (List ℕ))) → AllPairs (λ (a b : List ℕ). a ≢ b) names → length names ≡ length p.group_of →
@@ -249,8 +248,8 @@ pub fn a_circle_text_is_read_back()
         answer_of t.names p (circle_text t.names arcs steps) ≡ Ok (OfCircle (record { arcs = arcs; steps = steps })) }
 {}
 
-/// The text of a circle of up to 4,096 arcs and a run of up to 65,536 steps has at most 8,388,608 bytes, and no line of
-/// it has more than 524,288: it is within the limits of what is read.
+/// The text of a circle of up to 4,096 arcs and a run of up to 65,536 steps keeps the limits of what is read: it has at
+/// most 8,388,608 bytes, and at most 524,288 in a line.
 pub fn a_circle_text_is_within_the_limits()
     ensures text { (t : Table) (arcs : List (ℕ × ℕ)) (steps : Option (List Step)) → IsTable t → length arcs ≤ 4096 →
         IfSome steps (All (IsStepOf (length t.names))) → IfSome steps (λ run. length run ≤ 65536) →
@@ -263,7 +262,7 @@ pub fn a_circle_text_is_within_the_limits()
 {}
 
 /// The text of a plan of up to 4,096 workqueues and 4,095 arcs says its assignment and its chain. The chain has one
-/// group more than arcs, or none where there is no workqueue. Read as an assignment, the text says the same assignment.
+/// group more than arcs, or none if there is no workqueue. Read as an assignment, the text says the same assignment.
 pub fn a_plan_text_is_read_back()
     ensures answer { (t : Table) (p : Partition) (a : Assignment) (chain : List (ℕ × ℕ)) → IsTable t → IsPartition p →
         length p.group_of ≡ length t.names → IsAssignment p.groups a → a.lanes ≤ 4096 →
@@ -277,8 +276,8 @@ pub fn a_plan_text_is_read_back()
         assignment_of_text t.names p (plan_text t.names a.lanes (item_lanes a p.group_of) chain) ≡ Ok a }
 {}
 
-/// The text of a plan of up to 4,096 workqueues and 4,096 arcs has at most 8,388,608 bytes, and no line of it has more
-/// than 524,288: it is within the limits of what is read.
+/// The text of a plan of up to 4,096 workqueues and 4,096 arcs keeps the limits of what is read: it has at most
+/// 8,388,608 bytes, and at most 524,288 in a line.
 pub fn a_plan_text_is_within_the_limits()
     ensures text { (t : Table) (p : Partition) (a : Assignment) (chain : List (ℕ × ℕ)) → IsTable t →
         length p.group_of ≡ length t.names → a.lanes ≤ 4096 → length chain ≤ 4096 →
@@ -296,16 +295,16 @@ pub fn a_run_text_is_read_back()
         length (run_text t.names steps) ≤ max_certificate → run_of t.names (run_text t.names steps) ≡ Ok steps }
 {}
 
-/// Nor is the text of a run of up to 65,536 steps too long.
+/// The text of a run of up to 65,536 steps isn't too long.
 pub fn a_run_text_is_within_the_limits()
     ensures { (t : Table) (steps : List Step) → IsTable t → All (IsStepOf (length t.names)) steps →
         length steps ≤ 65536 →
         length (run_text t.names steps) ≤ max_certificate }
 {}
 
-/// The text of a run that isn't too long, read as one that may have an unsure part, says its steps. With an unsure
-/// part, which is printed where some flush is unsure, it says which of these are kept, too, if they are in order and of
-/// several that are declared in the same words the first ones.
+/// The text of a run that isn't too long, read as one that may have an unsure part, says its steps. An unsure part is
+/// printed if some flush is unsure. It also says which unsure flushes are kept, if their places are in order and, of
+/// several flushes declared in the same words, the first ones are kept.
 pub fn a_run_text_with_an_unsure_part_is_read_back()
     ensures without { (t : Table) (steps : List Step) → IsTable t → All (IsStepOf (length t.names)) steps →
         length (run_text t.names steps) ≤ max_certificate →
@@ -316,7 +315,7 @@ pub fn a_run_text_with_an_unsure_part_is_read_back()
         made_of t.names t.waits (reading_text t.names t.waits kept steps) ≡ Ok (Some kept, steps) }
 {}
 
-/// Nor is the text of a run of up to 65,536 steps too long with such a part.
+/// The text of a run of up to 65,536 steps isn't too long with an unsure part either.
 pub fn a_run_text_with_an_unsure_part_is_within_the_limits()
     ensures { (t : Table) (kept : List ℕ) (steps : List Step) → IsTable t → All (IsStepOf (length t.names)) steps →
         AreKeptPlaces t.waits kept → length steps ≤ 65536 →

@@ -1,10 +1,11 @@
 //! Certificates: the texts of plans, circles and runs, printed and read.
 //!
-//! What the layer above relies on: the printed texts are functions of what they say. Each reader accepts exactly the
-//! texts of the format, with what they say; for any other text it answers the first fault. What is printed is read
+//! The layer above relies on this: the printed texts are functions of what they say. Each reader accepts exactly the
+//! texts of the format, with what they say; for any other text, it returns the first fault. What is printed is read
 //! back. The formats are those of "Plan texts", "Circle texts", "Run texts" and "Certificates" in docs/FORMAT.md.
-//! Printing takes time in the length of the text, and for a plan in the number of items too. Reading takes time in the
-//! length of the text and the number of items.
+//!
+//! Printing takes time linear in the length of the text and, for a plan, the number of items. Reading takes time linear
+//! in the length of the text and the number of items.
 #![tactic(auto)]
 
 mod answer;

@@ -1,7 +1,7 @@
 //! One line of a certificate: what it says, or its first fault.
 //!
-//! The lines are those of "Certificates" and "Run texts" in docs/FORMAT.md. Each
-//! function takes time in the length of the line, and no memory.
+//! The lines are those of "Certificates" and "Run texts" in docs/FORMAT.md. Each function takes time linear in the
+//! length of the line, and no memory.
 
 ghost use Rattle.std.specs.Prelude.{◌≡◌, nat_lt, if◌then◌else◌, Ok, Err, ok_or, codes};
 ghost use Rattle.wq_cert.specs.declared.fault.CertError.TheVariants.{BadCertLine, NumberOutOfRange};
@@ -18,7 +18,7 @@ use wq_groups::LaneId;
 use wq_items::{ItemId, ItemTable};
 use wq_text::{Line, Words};
 
-/// `run M`: the number, which may be any number.
+/// Reads `run M`: any number M.
 pub(crate) fn read_any_count(line: &Line<'_>) -> Result<u32, CertError>
     ensures { result ≡ ok_or (count_form (codes "run") (cert_line line.now).words) (BadCertLine line.now.no) }
 {
@@ -28,7 +28,7 @@ pub(crate) fn read_any_count(line: &Line<'_>) -> Result<u32, CertError>
     }
 }
 
-/// `KEYWORD N`: the number, at most 4,096.
+/// Reads `KEYWORD N`: N is at most 4,096.
 pub(crate) fn read_count(keyword: &[u8], line: &Line<'_>) -> Result<u32, CertError>
     ensures { result ≡ count_reading keyword.now (cert_line line.now) }
 {
@@ -41,7 +41,7 @@ pub(crate) fn read_count(keyword: &[u8], line: &Line<'_>) -> Result<u32, CertErr
     Ok(count)
 }
 
-/// `circle N`: the number, from 1 to 4,096.
+/// Reads `circle N`: N is from 1 to 4,096.
 pub(crate) fn read_circle_count(line: &Line<'_>) -> Result<u32, CertError>
     ensures { result ≡ circle_count_reading (cert_line line.now) }
 {
@@ -51,7 +51,7 @@ pub(crate) fn read_circle_count(line: &Line<'_>) -> Result<u32, CertError>
     }
 }
 
-/// `arc NAME TARGET`: the item and the target.
+/// Reads `arc NAME TARGET`: the item and the target.
 pub(crate) fn read_arc<A: Allocator + Copy>(
     table: &ItemTable<'_, A>,
     line: &Line<'_>,
@@ -77,7 +77,7 @@ fn read_item_step(line: u32, word: &[u8], item: ItemId) -> Result<Step, CertErro
     }
 }
 
-/// The workqueue of this number, which is below 4,096.
+/// The workqueue with this number, which must be below 4,096.
 fn near_lane(line: u32, lane: u32) -> Result<LaneId, CertError>
     ensures { result ≡ (if nat_lt 4095 lane then Err (NumberOutOfRange line) else Ok lane) }
 {

@@ -1,8 +1,8 @@
-//! The workqueues that were read so far: which items are on one, and which workqueue serves each group.
+//! The workqueues that have been read so far: which items are on one, and which workqueue serves each group.
 //!
-//! The rules are those of "Certificates" in docs/FORMAT.md. Reading a workqueue takes time in the length of its line,
-//! and memory in the number of names on it until they are noted. Starting with no workqueue, and making the assignment,
-//! takes time and memory in the number of items.
+//! The rules are those of "Certificates" in docs/FORMAT.md. Reading a workqueue takes time linear in the length of its
+//! line, and memory linear in the number of names on it until they are noted. Starting without workqueues and making
+//! the assignment each take time and memory linear in the number of items.
 
 ghost use Rattle.std.specs.Prelude.{◌≡◌, ◌<◌, ℕ, ◌∷◌, ◌++◌, [], true, false, not, List, length, map, Ok, Err, IfOk};
 ghost use Rattle.std.specs.Prelude.{IfErr, Option, Some, None, MatchOption, unwrap_or};
@@ -20,19 +20,19 @@ use wq_groups::{Assignment, Groups, LaneId, MAX_ASSIGNED_LANES};
 use wq_items::{ItemId, ItemTable};
 use wq_text::Line;
 
-/// What is known of the workqueues that were read so far.
+/// What is known of the workqueues that have been read so far.
 #[derive(Drop)]
 pub(crate) struct NotedWorkqueues<A: Allocator> {
-    /// How many there are.
+    /// How many workqueues have been read.
     count: u16,
-    /// For each item, whether it is on one.
+    /// For each item, whether it is on a workqueue.
     stood: Vec<bool, A>,
-    /// For each group, the workqueue that holds a member of it.
+    /// For each group, the workqueue that holds a member of it, if one does.
     lane_of_group: Vec<Option<LaneId>, A>,
 }
 
-/// The items on the next workqueue, from the form and the number of its line, where this many workqueues are before it.
-/// The line may be a `norescuer` line if this is asked for.
+/// Reads the items on the next workqueue by the form and the number of its line; `place` workqueues come before it. If
+/// `bare`, the line may be a `norescuer` line.
 fn read_items<A: Allocator + Copy>(
     alloc: A,
     table: &ItemTable<'_, A>,
@@ -52,7 +52,7 @@ fn read_items<A: Allocator + Copy>(
     Ok(items)
 }
 
-/// Marks these items. `None` where one is marked already, or is twice in the list.
+/// Marks these items. `None` if one is marked already or is twice in the list.
 fn mark<A: Allocator>(mut stood: Vec<bool, A>, items: &[ItemId]) -> Option<Vec<bool, A>>
     requires { All (λ i. i < length stood.items) items.now }
     ensures { (n : ℕ) (before : List ℕ) → stood.items ≡ marks n before
@@ -80,7 +80,7 @@ fn is_other(held: Option<LaneId>, lane: LaneId) -> bool
     }
 }
 
-/// Puts the groups of these items on the next workqueue. `None` where one of them is on an earlier one.
+/// Puts the groups of these items on the next workqueue. `None` if one of them is on an earlier workqueue.
 fn settle<A: Allocator + Copy>(
     mut lane_of_group: Vec<Option<LaneId>, A>,
     groups: &Groups<A>,
@@ -113,7 +113,7 @@ fn are_all_marked(stood: &[bool]) -> bool
     stood.iter().all(|is_marked| *is_marked)
 }
 
-/// The workqueue of each group, where each group has one.
+/// The workqueue of each group, if each group has one.
 fn lanes_of<A: Allocator>(
     alloc: A,
     lane_of_group: &[Option<LaneId>],
@@ -142,7 +142,7 @@ impl<A: Allocator + Copy> NotedWorkqueues<A> {
         })
     }
 
-    /// Adds a workqueue with these items, from a line of this number.
+    /// Adds a workqueue with these items, from the line with this number.
     fn with(self, line: u32, groups: &Groups<A>, items: &[ItemId]) -> Result<Self, CertError>
         requires noted { (workqueues : List (List ℕ))
             × AreNoted groups.now workqueues self.count self.stood.items self.lane_of_group.items }
@@ -175,7 +175,7 @@ impl<A: Allocator + Copy> NotedWorkqueues<A> {
         })
     }
 
-    /// Adds the next workqueue, from its line. That may be a `norescuer` line if this is asked for.
+    /// Adds the next workqueue from its line. If `bare`, that may be a `norescuer` line.
     pub(crate) fn read_line(
         self,
         alloc: A,
@@ -201,7 +201,7 @@ impl<A: Allocator + Copy> NotedWorkqueues<A> {
         self.with(line.no(), groups, items.as_slice())
     }
 
-    /// Adds the next workqueue, from its `wq` line.
+    /// Adds the next workqueue from its `wq` line.
     pub(crate) fn read(
         self,
         alloc: A,

@@ -1,7 +1,7 @@
 //! Opening a text: its limits, which are judged before everything else.
 //!
-//! The limits are those of "Certificates" in docs/FORMAT.md. Opening looks at each
-//! byte of the text once, and takes no memory.
+//! The limits are those of "Certificates" in docs/FORMAT.md. Opening looks at each byte of the text once, and takes no
+//! memory.
 
 ghost use Rattle.std.specs.Prelude.{◌≡◌, ◌≢◌, Ok, Err, None, IfOk, IfErr, map};
 ghost use Rattle.wq_text.specs.Limits.{limit_fault};
@@ -14,8 +14,8 @@ use crate::limits::{MAX_CERTIFICATE, MAX_CERTIFICATE_LINE};
 use crate::view::CertView;
 use wq_text::{Text, TextError};
 
-/// Opens a text as its lines that hold a word. The error is `BadCertLine` (40), with line 0 for a text that is too
-/// long, or else with the first line that is too long.
+/// Opens a text as its lines that hold a word. The error is `BadCertLine` (40), with line 0 if the text is too long, or
+/// else with the first line that is too long.
 pub(crate) fn open(text: &[u8]) -> Result<CertView<'_>, CertError>
     ensures lines { IfOk result (λ view. text_reading (λ lines. Ok lines) text.now ≡ Ok (map cert_line view)) }
     ensures fault { IfErr result (λ e. text_reading (λ lines. Ok lines) text.now ≡ Err e) }

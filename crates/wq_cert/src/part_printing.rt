@@ -1,7 +1,7 @@
-//! Unsure parts of run texts: which of the unsure flushes a run keeps, each on a line as it is declared.
+//! Unsure parts of run texts: which unsure flushes a run keeps, each on a line as it is declared.
 //!
-//! The format is that of "Run texts" in docs/FORMAT.md. Printing takes time and memory in the length of the text and in
-//! the number of items and flushes.
+//! The format is that of "Run texts" in docs/FORMAT.md. Printing takes time and memory linear in the length of the text
+//! and the number of items and flushes.
 
 ghost use Rattle.std.specs.Prelude.{◌≡◌, ◌<◌, ◌≤◌, ◌++◌, ◌∷◌, [], ◌^◌, length, map, filter_map, flat_map, OnOk, IfOk};
 ghost use Rattle.std.specs.Prelude.{None, slice_index_or};
@@ -20,14 +20,14 @@ use wq_core::Step;
 use wq_items::{ItemId, ItemTable, Target};
 use wq_text::{put, put_end, put_number, put_word};
 
-/// Whether one of these flushes is unsure.
+/// Whether any of these flushes is unsure.
 fn is_any_unsure(targets: &[Target]) -> bool
     ensures { result ≡ list_any (λ (t : Target). t.unsure) targets.now }
 {
     targets.iter().any(|target| target.unsure)
 }
 
-/// Whether some flush is unsure.
+/// Whether any flush is unsure.
 pub fn has_unsure<A: Allocator + Copy>(table: &ItemTable<'_, A>) -> bool
     ensures { result ≡ has_unsure table.now.waits }
 {
@@ -39,7 +39,7 @@ pub fn has_unsure<A: Allocator + Copy>(table: &ItemTable<'_, A>) -> bool
     false
 }
 
-/// For each place the flush there with its item, if it is unsure.
+/// For each place, the flush there with its item, if it is unsure.
 fn unsure_by_place<A: Allocator + Copy>(
     alloc: A,
     table: &ItemTable<'_, A>,
@@ -68,7 +68,7 @@ fn unsure_word(whole: bool) -> &'static [u8]
     if whole { b"flushwq?" } else { b"flush?" }
 }
 
-/// Adds the line that declares an unsure flush of an item.
+/// Appends the line that declares an unsure flush of an item.
 ///
 /// The only error is out of memory (20).
 pub fn put_unsure_line<A: Allocator + Copy>(
@@ -98,7 +98,7 @@ fn at_place(flushes: &[Option<(ItemId, Target)>], place: u32) -> Option<(ItemId,
     }
 }
 
-/// Adds the lines of the unsure flushes at these places.
+/// Appends the lines of the unsure flushes at the places `kept`.
 fn put_unsure_lines<A: Allocator + Copy>(
     out: &mut Vec<u8, A>,
     table: &ItemTable<'_, A>,
@@ -119,7 +119,7 @@ fn put_unsure_lines<A: Allocator + Copy>(
     Ok(())
 }
 
-/// Adds the unsure part of the reading that keeps the unsure flushes at these places, if there is an unsure flush.
+/// Appends the unsure part of the reading that keeps the unsure flushes at the places `kept`, if any flush is unsure.
 fn put_part<A: Allocator + Copy>(
     alloc: A,
     out: &mut Vec<u8, A>,
@@ -139,11 +139,11 @@ fn put_part<A: Allocator + Copy>(
     put_unsure_lines(out, table, flushes.as_slice(), kept)
 }
 
-/// The text of a run of the reading that keeps the unsure flushes at these places: its unsure part, if there is an
-/// unsure flush, the number of steps, and then the steps.
+/// The text of a run of the reading that keeps the unsure flushes at the places `kept`: its unsure part, if any flush
+/// is unsure, the number of steps, and then the steps.
 ///
-/// There are fewer than 4,294,967,296 places and steps, each step of an item of the table and none of a helper. The
-/// only error is out of memory (20).
+/// There must be fewer than 2^32 places and fewer than 2^32 steps, of items of the table and none by a helper. The only
+/// error is out of memory (20).
 pub fn reading_text<A: Allocator + Copy>(
     alloc: A,
     table: &ItemTable<'_, A>,

@@ -1,8 +1,8 @@
-//! Reading runs that may have an unsure part: which of the unsure flushes the run keeps, and then its steps.
+//! Reading runs that may have an unsure part: which unsure flushes the run keeps, and then its steps.
 //!
-//! The text is that of "Run texts" in docs/FORMAT.md. Reading takes time in the length of the text, and for each line
-//! of the part in the number of the flushes of its item; and memory in the number of flushes and of the steps that are
-//! there.
+//! The text is that of "Run texts" in docs/FORMAT.md. Reading takes time linear in the length of the text and, for each
+//! line of the part, in the number of flushes of its item. It takes memory linear in the number of flushes and of the
+//! steps that are there.
 
 ghost use Rattle.std.specs.Prelude.{◌≡◌, ◌<◌, ◌∷◌, [], ℕ, List, Ok, Err, None, IfOk, IfErr, IfSome, IsTrue, length};
 ghost use Rattle.std.specs.Prelude.{map, not, option_map, slice_index_or, true};
@@ -26,13 +26,14 @@ use wq_core::Step;
 use wq_items::{ItemId, ItemTable, Target};
 use wq_text::{Line, Words};
 
-/// How many flushes a declaration may have.
+/// The most flushes that a declaration may have.
 const MOST: u32 = 16384;
 
 /// What the text of a run says.
 #[derive(Drop)]
 pub struct ReadRun<A: Allocator> {
-    /// The places of the unsure flushes that it keeps, if it has an unsure part. Without one all flushes count.
+    /// The places of the unsure flushes that the run keeps, if the text has an unsure part. If it has none, all flushes
+    /// count.
     pub kept: Option<Vec<u32, A>>,
     /// The steps.
     pub steps: Vec<Step, A>,
@@ -46,7 +47,7 @@ struct UnsureForm {
     target: ItemId,
 }
 
-/// Whether this word begins a line of a part, and if so whether the flush is of a whole workqueue.
+/// If this word begins a line of a part, whether the flush is of a whole workqueue.
 fn unsure_kind(word: &[u8]) -> Option<bool>
     ensures { result ≡ unsure_kind word.now }
 {
@@ -59,7 +60,7 @@ fn unsure_kind(word: &[u8]) -> Option<bool>
     }
 }
 
-/// `flush? NAME TARGET` or `flushwq? NAME ITEM`.
+/// Reads `flush? NAME TARGET` or `flushwq? NAME ITEM`.
 fn unsure_form<A: Allocator + Copy>(
     table: &ItemTable<'_, A>,
     mut words: Words<'_>,
@@ -83,7 +84,7 @@ fn unsure_form<A: Allocator + Copy>(
     })
 }
 
-/// Whether a flush is unsure, and declared in this form.
+/// Whether a flush is unsure and declared in this form.
 fn is_declared_so(form: &UnsureForm, target: Target) -> bool
     ensures { result ≡ is_declared_so (form.now.whole, (form.now.item, form.now.target)) target }
 {
@@ -101,8 +102,7 @@ fn is_free(marks: &[bool], place: u32) -> bool
     }
 }
 
-/// The place of the unsure flush for which a line of this form stands, if those for which lines stand before are
-/// marked.
+/// The place of the unsure flush that a line of this form stands for, if the places of the lines before it are marked.
 fn stood_for<A: Allocator + Copy>(
     table: &ItemTable<'_, A>,
     marks: &[bool],
@@ -124,7 +124,7 @@ fn stood_for<A: Allocator + Copy>(
     None
 }
 
-/// Reads a line of a part, where the places for which lines stand before are marked.
+/// Reads a line of a part, if the places that the lines before it stand for are marked.
 fn read_unsure<A: Allocator + Copy>(
     table: &ItemTable<'_, A>,
     marks: &[bool],
@@ -145,7 +145,7 @@ fn read_unsure<A: Allocator + Copy>(
     }
 }
 
-/// `unsure M`: the number, at most 16,384.
+/// Reads `unsure M`: M is at most 16,384.
 fn read_unsure_count(line: &Line<'_>) -> Result<u32, CertError>
     ensures { result ≡ unsure_count_reading (cert_line line.now) }
 {
@@ -158,7 +158,7 @@ fn read_unsure_count(line: &Line<'_>) -> Result<u32, CertError>
     Ok(count)
 }
 
-/// Reads this many lines of a part: the places for which they stand.
+/// Reads `count` lines of a part: the places that they stand for.
 fn read_unsure_lines<A: Allocator + Copy>(
     alloc: A,
     table: &ItemTable<'_, A>,
@@ -184,7 +184,7 @@ fn read_unsure_lines<A: Allocator + Copy>(
     Ok(places)
 }
 
-/// Reads the run with an unsure part that begins on this line and ends with the last of these.
+/// Reads the run with an unsure part that begins on the line `first` and ends with the last of `lines`.
 fn read_part_from<A: Allocator + Copy>(
     alloc: A,
     table: &ItemTable<'_, A>,
@@ -228,11 +228,11 @@ fn read_made_lines<A: Allocator + Copy>(
     Ok(ReadRun { kept: None, steps })
 }
 
-/// Reads the text of a run, for the items of a table: the unsure flushes that it keeps, if it has an unsure part, and
-/// its steps. Whether these are lawful isn't judged.
+/// Reads the text of a run, for the items of a table: its steps and, if it has an unsure part, the unsure flushes that
+/// it keeps. Whether the steps are lawful isn't judged.
 ///
-/// The errors are those of `read_run`. A line of the part that stands for no unsure flush of the table is
-/// `BadCertLine` (40), and a count above 16,384 `NumberOutOfRange` (43).
+/// The errors are those of `read_run`. A line of the part that stands for no unsure flush of the table is `BadCertLine`
+/// (40), and a count above 16,384 is `NumberOutOfRange` (43).
 pub fn read_made<A: Allocator + Copy>(
     alloc: A,
     text: &[u8],
@@ -241,7 +241,7 @@ pub fn read_made<A: Allocator + Copy>(
     ensures run { IfOk result (λ run. made_of table.now.names table.now.waits text.now
         ≡ Ok (option_map (λ places. places.items) run.kept, run.steps.items)) }
     ensures fault { IfErr result (λ e. IsCertFaultOf e (made_of table.now.names table.now.waits text.now)) }
-    // The limits are judged without memory.
+    // No memory is needed to judge the limits.
     ensures memory { result ≡ Err OutOfMemory → limit_fault max_certificate max_certificate_line text.now ≡ None }
 {
     let view = open(text)?;

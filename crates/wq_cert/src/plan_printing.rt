@@ -1,7 +1,7 @@
 //! Plan texts: the workqueues with their items, and a longest waiting chain.
 //!
-//! The format is that of "Plan texts" in docs/FORMAT.md. Printing takes time and
-//! memory in the number of items and the length of the text.
+//! The format is that of "Plan texts" in docs/FORMAT.md. Printing takes time and memory linear in the number of items
+//! and the length of the text.
 
 ghost use Rattle.std.specs.Prelude.{◌≡◌, ◌<◌, ◌+◌, ◌++◌, ◌^◌, ℕ, length, OnOk, IfOk};
 ghost use Rattle.std.specs.List.{All};
@@ -16,7 +16,7 @@ use wq_groups::{Assignment, Groups};
 use wq_items::{ItemId, ItemTable};
 use wq_text::{put, put_end, put_number, put_word};
 
-/// Adds `plan K`.
+/// Appends `plan K`.
 fn put_plan_line<A: Allocator + Copy>(out: &mut Vec<u8, A>, lanes: u16) -> Result<(), AllocError>
     ensures { OnOk result (out.new.items ≡ out.old.items ++ line_text (plan_line lanes)) }
 {
@@ -25,7 +25,7 @@ fn put_plan_line<A: Allocator + Copy>(out: &mut Vec<u8, A>, lanes: u16) -> Resul
     put_end(out)
 }
 
-/// Adds `wq Q NAME..`, with the names of these items.
+/// Appends `wq Q NAME..`, with the names of these items.
 fn put_wq_line<A: Allocator + Copy>(
     out: &mut Vec<u8, A>,
     table: &ItemTable<'_, A>,
@@ -35,7 +35,7 @@ fn put_wq_line<A: Allocator + Copy>(
     requires { All (λ i. i < length table.now.names) items.now }
     ensures { OnOk result (out.new.items ≡ out.old.items ++ line_text (workqueue_line table.now.names (q, items.now))) }
 {
-    // What holds of every table.
+    // What holds for every table.
     let _items = table.len();
     put(out, b"wq")?;
     put_number(out, u32::from(q))?;
@@ -45,7 +45,7 @@ fn put_wq_line<A: Allocator + Copy>(
     put_end(out)
 }
 
-/// Adds `chain N`.
+/// Appends `chain N`.
 fn put_chain_line<A: Allocator + Copy>(
     out: &mut Vec<u8, A>,
     lanes: u16,
@@ -66,8 +66,8 @@ fn put_chain_line<A: Allocator + Copy>(
 
 /// The text of a plan: the number of workqueues, the items of each, and the arcs of a waiting chain.
 ///
-/// The groups are those of the table's items, and each has a workqueue. The chain has fewer than 4,294,967,295 arcs,
-/// each from an item of the table to one of it. The only error is out of memory (20).
+/// The groups must be those of the table's items, and each must have a workqueue. The chain must have fewer than
+/// 4,294,967,295 arcs, between items of the table. The only error is out of memory (20).
 pub fn plan_text<A: Allocator + Copy>(
     alloc: A,
     table: &ItemTable<'_, A>,
@@ -103,7 +103,7 @@ fn print_plan<A: Allocator + Copy>(
         × (arc.1 < length table.now.names)) chain.now }
     ensures { IfOk result (λ text. text.items ≡ plan_text table.now.names lanes lane.now chain.now) }
 {
-    // What holds of every table.
+    // What holds for every table.
     let _items = table.len();
     let items = Buckets::new(alloc, lane, lanes)?;
     let mut out = Vec::new(alloc);

@@ -1,7 +1,7 @@
 //! Run texts: the steps of a run, one on each line.
 //!
-//! The format is that of "Run texts" in docs/FORMAT.md. No step is a helper's.
-//! Printing takes time and memory in the length of the text.
+//! The format is that of "Run texts" in docs/FORMAT.md, without steps of helpers. Printing takes time and memory linear
+//! in the length of the text.
 
 ghost use Rattle.std.specs.Prelude.{◌≡◌, ◌<◌, ◌++◌, ◌∷◌, [], ◌^◌, ℕ, length, flat_map, decimal, OnOk, IfOk};
 ghost use Rattle.std.specs.List.{All};
@@ -17,7 +17,7 @@ use wq_groups::LaneId;
 use wq_items::{ItemId, ItemTable};
 use wq_text::{put, put_end, put_number, put_word};
 
-/// Adds `run M`.
+/// Appends `run M`.
 fn put_run_line<A: Allocator + Copy>(out: &mut Vec<u8, A>, steps: &[Step]) -> Result<(), AllocError>
     requires { length steps.now < 2 ^ 32 }
     ensures { OnOk result (out.new.items ≡ out.old.items ++ line_text (run_line steps.now)) }
@@ -27,7 +27,7 @@ fn put_run_line<A: Allocator + Copy>(out: &mut Vec<u8, A>, steps: &[Step]) -> Re
     put_end(out)
 }
 
-/// Adds `KEYWORD NAME`.
+/// Appends `KEYWORD NAME`.
 fn put_item_step<A: Allocator + Copy>(
     out: &mut Vec<u8, A>,
     table: &ItemTable<'_, A>,
@@ -43,7 +43,7 @@ fn put_item_step<A: Allocator + Copy>(
     put_end(out)
 }
 
-/// Adds `KEYWORD Q NAME`.
+/// Appends `KEYWORD Q NAME`.
 fn put_lane_step<A: Allocator + Copy>(
     out: &mut Vec<u8, A>,
     table: &ItemTable<'_, A>,
@@ -61,7 +61,7 @@ fn put_lane_step<A: Allocator + Copy>(
     put_end(out)
 }
 
-/// Adds the line of a step, which isn't a helper's.
+/// Appends the line of a step, which mustn't be a helper's.
 fn put_step_line<A: Allocator + Copy>(
     out: &mut Vec<u8, A>,
     table: &ItemTable<'_, A>,
@@ -84,7 +84,7 @@ fn put_step_line<A: Allocator + Copy>(
     }
 }
 
-/// Adds the lines of a run without helpers.
+/// Appends the lines of a run without helpers.
 pub(crate) fn put_run<A: Allocator + Copy>(
     out: &mut Vec<u8, A>,
     table: &ItemTable<'_, A>,
@@ -104,8 +104,8 @@ pub(crate) fn put_run<A: Allocator + Copy>(
 
 /// The text of a run: the number of steps, and then the steps.
 ///
-/// There are fewer than 4,294,967,296 steps, each of an item of the table and none
-/// of a helper. The only error is out of memory (20).
+/// There must be fewer than 2^32 steps, of items of the table and none by a helper. The only error is out of memory
+/// (20).
 pub fn run_text<A: Allocator + Copy>(
     alloc: A,
     table: &ItemTable<'_, A>,

@@ -1,7 +1,7 @@
 //! Reading runs: how many steps there are, and each of them on a line of its own.
 //!
-//! The text is that of "Run texts" and "Certificates" in docs/FORMAT.md. Reading takes time in the length of the text,
-//! and memory in the number of steps that are there, whatever number the text says.
+//! The text is that of "Run texts" and "Certificates" in docs/FORMAT.md. Reading takes time linear in the length of the
+//! text, and memory linear in the number of steps that are there, whatever number the text says.
 
 ghost use Rattle.std.specs.Prelude.{◌≡◌, ◌∷◌, Ok, Err, None, IfOk, IfErr, map, option_map};
 ghost use Rattle.wq_text.specs.Limits.{limit_fault};
@@ -21,7 +21,7 @@ use wq_core::Step;
 use wq_items::ItemTable;
 use wq_text::Line;
 
-/// Reads this many steps, each on one of the next lines.
+/// Reads `count` steps, each on one of the next lines.
 fn read_steps<A: Allocator + Copy>(
     alloc: A,
     table: &ItemTable<'_, A>,
@@ -46,7 +46,7 @@ fn read_steps<A: Allocator + Copy>(
     Ok(steps)
 }
 
-/// Reads the run that begins on this line and ends with the last of these.
+/// Reads the run that begins on the line `first` and ends with the last of `lines`.
 fn read_run_from<A: Allocator + Copy>(
     alloc: A,
     table: &ItemTable<'_, A>,
@@ -103,10 +103,9 @@ pub(crate) fn read_run_lines<A: Allocator + Copy>(
 
 /// Reads the steps in the text of a run, for the items of a table. Whether they are lawful isn't judged.
 ///
-/// The error is the first fault: `BadCertLine` (40), where the text or a line is too long, or
-/// in the first line that isn't of the form that comes next, with line 0 where the text ends
-/// too early; or `NumberOutOfRange` (43), in a line of that form whose workqueue is above
-/// 4,095. Or it is `OutOfMemory` (20), where a growth was refused in a text within the limits.
+/// The error is the first fault: `BadCertLine` (40), if the text or a line is too long, if a line doesn't have the form
+/// that comes next, or, with line 0, if the text ends too early; or `NumberOutOfRange` (43), if a line of that form
+/// names a workqueue above 4,095. Or it is `OutOfMemory` (20), for a text within the limits.
 pub fn read_run<A: Allocator + Copy>(
     alloc: A,
     text: &[u8],
@@ -114,7 +113,7 @@ pub fn read_run<A: Allocator + Copy>(
 ) -> Result<Vec<Step, A>, CertError>
     ensures steps { IfOk result (λ steps. run_of table.now.names text.now ≡ Ok steps.items) }
     ensures fault { IfErr result (λ e. IsCertFaultOf e (run_of table.now.names text.now)) }
-    // The limits are judged without memory, and so are `run M` and the first step.
+    // No memory is needed to judge the limits, nor to read `run M` and the first step.
     ensures memory { result ≡ Err OutOfMemory → limit_fault max_certificate max_certificate_line text.now ≡ None }
     ensures first_step { result ≡ Err OutOfMemory
         → BeginsWell (run_reading table.now.names) 2 (cert_lines (lines_of text.now)) }

@@ -1,8 +1,8 @@
 //! The lines of a text that hold a word.
 //!
-//! All other lines are skipped, by "Certificates" in docs/FORMAT.md. Passing through the lines looks at each byte of
-//! the text a fixed number of times, and takes no memory. The lines above the first one that holds a word are passed
-//! through once, however often the view is asked for its lines.
+//! All other lines are skipped, as "Certificates" in docs/FORMAT.md says. Iterating over the lines looks at each byte
+//! of the text a fixed number of times, and takes no memory. The lines above the first one that holds a word are
+//! skipped only once, however often the view is asked for its lines.
 
 ghost use Rattle.std.specs.Prelude.{◌≡◌};
 ghost use Rattle.std.specs.Iterator.{YieldsFirst, item_count};
@@ -12,11 +12,11 @@ ghost use Rattle.wq_cert.specs.Lines.{holds_word, filled};
 use std::marker::Model;
 use wq_text::{Line, Lines, Text};
 
-/// A text as those of its lines that hold a word. Lines with nothing but blanks and
-/// a comment are skipped. Contracts see the list of these lines.
+/// A text, seen as those of its lines that hold a word. Lines with nothing but blanks and a comment are skipped.
+/// Contracts see the list of the other lines.
 #[derive(Drop)]
 pub struct CertView<'c> {
-    /// The lines of the text, from the first one on that holds a word.
+    /// The lines of the text, from the first one that holds a word.
     lines: Lines<'c>,
 }
 
@@ -31,7 +31,7 @@ impl<'c> Model for CertView<'c> {
 }
 
 impl<'c> CertView<'c> {
-    /// The lines of a text that hold a word.
+    /// The view of a text.
     pub fn new(text: Text<'c>) -> Self
         ensures { result ≡ filled (lines_of text.entry) }
     {
@@ -40,7 +40,7 @@ impl<'c> CertView<'c> {
         }
     }
 
-    /// These lines, in order.
+    /// The lines that hold a word, in order.
     pub fn lines(&self) -> CertLines<'c>
         ensures { result ≡ self.now }
     {
@@ -50,7 +50,7 @@ impl<'c> CertView<'c> {
     }
 }
 
-/// The lines of a view, in order. Contracts see the list of those that are left.
+/// The lines of a view, in order. Contracts see the list of the lines that are left.
 #[derive(Drop)]
 pub struct CertLines<'c> {
     lines: Lines<'c>,
@@ -66,8 +66,8 @@ impl<'c> Model for CertLines<'c> {
     ghost view = { λ l. filled l.lines };
 }
 
-/// Whether a line holds a word. Empty lines and comments, of which a text may have
-/// millions, are told by their first byte.
+/// Whether a line holds a word. Empty lines and comments, of which a text may have millions, are told by their first
+/// byte.
 fn holds_word(line: &Line<'_>) -> bool
     ensures { result ≡ holds_word line.now }
 {
@@ -77,7 +77,7 @@ fn holds_word(line: &Line<'_>) -> bool
     }
 }
 
-/// The lines from the first one on that holds a word.
+/// The lines from the first one that holds a word.
 fn from_filled<'c>(lines: Lines<'c>) -> Lines<'c>
     ensures { filled result ≡ filled lines.entry }
 {
@@ -92,7 +92,7 @@ fn from_filled<'c>(lines: Lines<'c>) -> Lines<'c>
     from
 }
 
-/// The first line that holds a word, and the lines after it.
+/// The first line that holds a word. What is left are the lines after it.
 fn next_filled<'c>(lines: &mut Lines<'c>) -> Option<Line<'c>>
     ensures { YieldsFirst filled lines.old result lines.new }
 {

@@ -1,7 +1,7 @@
 //! Reading the lines of workqueues: a given number of them, or all up to the first line with another first word.
 //!
-//! The texts are those of "Certificates" in docs/FORMAT.md. Reading takes time in the length of the lines and the
-//! number of items, and memory in the number of items and in the length of the longest line.
+//! The texts are those of "Certificates" in docs/FORMAT.md. Reading takes time linear in the length of the lines and
+//! the number of items, and memory linear in the number of items and the length of the longest line.
 
 ghost use Rattle.std.specs.Prelude.{◌≡◌, [], length, map, Ok, IfOk, IfErr};
 ghost use Rattle.wq_cert.specs.Lines.{cert_line};
@@ -17,7 +17,7 @@ use std::alloc::Allocator;
 use wq_groups::{Assignment, Groups};
 use wq_items::ItemTable;
 
-/// Reads this many workqueues, each on one of the next lines.
+/// Reads `count` workqueues, each on one of the next lines.
 fn read_next_workqueues<A: Allocator + Copy>(
     alloc: A,
     table: &ItemTable<'_, A>,
@@ -42,7 +42,7 @@ fn read_next_workqueues<A: Allocator + Copy>(
     Ok(workqueues)
 }
 
-/// Reads this many workqueues, each on one of the next lines, as an assignment.
+/// Reads `count` workqueues, each on one of the next lines, as an assignment.
 pub(crate) fn read_counted<A: Allocator + Copy>(
     alloc: A,
     table: &ItemTable<'_, A>,
@@ -60,8 +60,8 @@ pub(crate) fn read_counted<A: Allocator + Copy>(
     workqueues.assignment(alloc, groups)
 }
 
-/// Reads the workqueues on these lines, up to the first line with another first word, and the number of that line.
-/// `norescuer` lines are read as `wq` lines if this is asked for.
+/// Reads the workqueues on these lines, up to the first line with another first word, and the number of that line. If
+/// `bare`, `norescuer` lines are read like `wq` lines.
 fn read_all_workqueues<A: Allocator + Copy>(
     alloc: A,
     table: &ItemTable<'_, A>,
@@ -87,8 +87,7 @@ fn read_all_workqueues<A: Allocator + Copy>(
     Ok((workqueues, None))
 }
 
-/// Reads the assignment on these lines. Each must be the line of a workqueue: a `wq`
-/// line, or a `norescuer` line if this is asked for.
+/// Reads the assignment on these lines. Each must be a `wq` line or, if `bare`, a `norescuer` line.
 fn read_lines<A: Allocator + Copy>(
     alloc: A,
     table: &ItemTable<'_, A>,
@@ -128,7 +127,7 @@ pub(crate) fn read_workqueue_lines<A: Allocator + Copy>(
     read_lines(alloc, table, groups, lines, false)
 }
 
-/// Reads the assignment on these lines. Each must be a `wq` line or a `norescuer` line, which is read as a `wq` line.
+/// Reads the assignment on these lines. Each must be a `wq` line, or a `norescuer` line, which is read like one.
 pub(crate) fn read_lane_lines<A: Allocator + Copy>(
     alloc: A,
     table: &ItemTable<'_, A>,

@@ -48,7 +48,7 @@ AnswersPlan d c (Err RunBroken) = ⊥
 
 -- ---- circles
 
--- the steps, if there are any, are a run that deadlocks where each group has a workqueue of its own
+-- the steps, if there are any, are a run that deadlocks if each group has a workqueue of its own
 abbrev pub ShowsDeadlock : Declaration → Option (List Step) → Type 0
 ShowsDeadlock d None = Unit {0}
 ShowsDeadlock d (Some steps) = DeadlocksBy (wiring d (own_lanes d.groups)) steps

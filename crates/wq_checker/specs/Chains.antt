@@ -12,15 +12,15 @@ abbrev pub Joins : Declaration → Option (ℕ × ℕ) → ℕ × ℕ → Type 0
 Joins d None arc = ItemWaits d.waits arc.0 arc.1
 Joins d (Some before) arc = ItemWaits d.waits arc.0 arc.1 × ShareGroup d.group_of before.1 arc.0
 
--- what comes before the arc at place k, where this comes before the first
+-- what comes before the arc at place k, given what comes before the first
 abbrev pub before_from : Option (ℕ × ℕ) → List (ℕ × ℕ) → ℕ → Option (ℕ × ℕ)
 before_from first arcs k = if k == 0 then first else slice_get arcs (k - 1)
 
--- in a chain: nothing comes before the first
+-- what comes before an arc of a chain: nothing before the first
 abbrev pub before_in_chain : List (ℕ × ℕ) → ℕ → Option (ℕ × ℕ)
 before_in_chain arcs = before_from None arcs
 
--- in a circle: the last comes before the first
+-- what comes before an arc of a circle: the last one before the first
 abbrev pub before_in_circle : List (ℕ × ℕ) → ℕ → Option (ℕ × ℕ)
 before_in_circle arcs = before_from (slice_get arcs (length arcs - 1)) arcs
 
@@ -54,9 +54,9 @@ pub record IsChainAlong (d : Declaration) (arcs : List (ℕ × ℕ)) (groups : L
 abbrev pub heads : Declaration → List (ℕ × ℕ) → List ℕ
 heads d arcs = map (λ (arc : ℕ × ℕ). slice_index d.group_of arc.1) arcs
 
--- groups wait for each other in a circle along the arcs: each arc is a declared flush,
--- whose item is in the group that the arc before it leads to; and of the groups that
--- they lead to, one for each arc, each waits for the next, and the last for the first
+-- groups wait for one another in a circle along the arcs: each arc is a declared flush, whose item is in the group that
+-- the arc before it leads to; and of the groups that the arcs lead to, one for each arc, each waits for the next, and
+-- the last for the first
 pub record IsCircleAlong (d : Declaration) (arcs : List (ℕ × ℕ)) : Type 0 where
   pub joined : AllJoin d (before_in_circle arcs) arcs
   pub circle : Circle (GroupWaits d)

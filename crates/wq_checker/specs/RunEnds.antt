@@ -1,4 +1,4 @@
--- How a list of steps ends, if it is made from the empty state on.
+-- How a list of steps ends if it is made from the empty state.
 use Rattle.std.specs.Prelude.{◌≡◌, ℕ, ◌-◌, ◌<◌, List, take, slice_get, Some}
 use Rattle.wq_core.specs.declared.step.Step.{Step}
 use Rattle.wq_core.specs.Wiring.{Wiring}
@@ -16,7 +16,8 @@ pub record IsFirstUnlawful (w : Wiring) (steps : List Step) (n : ℕ) : Type 0 w
   pub before : IsRun w (take (n - 1) steps)
   pub unlawful : ¬ Lawful w (end_of w (take (n - 1) steps)) step
 
--- at the first step that isn't lawful; or as a run that deadlocks, ends stuck in another way, or doesn't end stuck
+-- the steps end like this: at the first one that isn't lawful; or as a run that deadlocks, ends stuck in another way,
+-- or doesn't end stuck
 abbrev pub EndsAs : Wiring → List Step → RunEnd → Type 0
 EndsAs w steps (NotLawful n) = IsFirstUnlawful w steps n
 EndsAs w steps Deadlock = DeadlocksBy w steps

@@ -11,14 +11,14 @@ use Rattle.wq_core.specs.Held.{Machine}
 use Rattle.wq_checker.specs.declared.falling.DeclaredFlush.{DeclaredFlush}
 use Rattle.wq_checker.specs.Falling.{Falls, Declares}
 
--- of the flushes that `Of` has, this is the first by place that doesn't fall
+-- of the flushes that `Of` has and that don't fall, this is the first by place
 pub record IsFirstOf (d : Declaration) (a : Assignment) (Of : ℕ → Target → Type 0) (flush : DeclaredFlush)
     : Type 0 where
   pub there : Of flush.item flush.target
   pub stays : ¬ Falls d a flush.item flush.target.item
   pub first : (k : ℕ) (other : Target) → Of k other → other.place < flush.target.place → Falls d a k other.item
 
--- it is found if there is one; otherwise each falls
+-- the first flush that doesn't fall is found, if there is one; otherwise each falls
 abbrev pub FindsFirst : Declaration → Assignment → (ℕ → Target → Type 0) → Option DeclaredFlush → Type 0
 FindsFirst d a Of None = (k : ℕ) (target : Target) → Of k target → Falls d a k target.item
 FindsFirst d a Of (Some flush) = IsFirstOf d a Of flush
@@ -31,7 +31,7 @@ OfItem d i k target = (k ≡ i) × Declares d k target
 abbrev pub OfItemsBelow : Declaration → ℕ → ℕ → Target → Type 0
 OfItemsBelow d n k target = (k < n) × Declares d k target
 
--- the one at the lower place, if there are two
+-- the flush at the lower place, if there are two
 abbrev pub earlier : Option DeclaredFlush → Option DeclaredFlush → Option DeclaredFlush
 earlier None other = other
 earlier (Some one) None = Some one

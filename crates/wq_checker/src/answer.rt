@@ -1,7 +1,4 @@
-//! The answer to a certificate.
-//!
-//! The answers are those of "The command `check`" in docs/FORMAT.md. Nothing is
-//! computed here but the numbers of the reasons, in constant time.
+//! The answer to a certificate, as in "The command `check`" in docs/FORMAT.md.
 
 ghost use Rattle.std.specs.Prelude.{◌≡◌};
 ghost use Rattle.wq_checker.specs.Codes.{no_code};
@@ -11,7 +8,7 @@ use wq_items::ItemId;
 /// What a certificate shows.
 #[derive(Clone, Copy, Debug, PartialEq, Eq)]
 pub enum Yes {
-    /// The assignment is safe, and fewer workqueues than this number aren't enough.
+    /// The assignment is safe, and no smaller number of workqueues is enough.
     Plan { number: u32 },
     /// The groups wait in a circle of this many arcs.
     Circle { length: u32 },
@@ -25,11 +22,12 @@ pub enum No {
     /// The number of groups of the chain isn't the number of workqueues (52).
     LengthDiffers,
     /// Arc `at` of the chain, counted from 1, isn't a declared flush, or its item isn't in the group of the target of
-    /// the arc before it; 0 if the group of a chain of one group is missing (51).
+    /// the arc before it (51). 0 if the chain has one group but there is no group.
     ChainBroken { at: u32 },
-    /// The same for the arcs of a circle, where the first arc joins the last (53).
+    /// Arc `at` of the circle, counted from 1, isn't a declared flush, or its item isn't in the group of the target of
+    /// the arc before it; the last arc comes before the first (53).
     CircleBroken { at: u32 },
-    /// The steps aren't a deadlocking run of the assignment in which each group has a workqueue of its own (54).
+    /// The steps aren't a run that deadlocks if each group has a workqueue of its own (54).
     RunBroken,
 }
 

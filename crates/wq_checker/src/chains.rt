@@ -1,7 +1,7 @@
 //! Arcs that join: each is a declared flush, and begins in the group in which the one before it ends.
 //!
-//! The rules are those of "The command `check`" in docs/FORMAT.md. The search takes time in the number of arcs and of
-//! the flushes that their items declare, and no memory.
+//! The rules are those of "The command `check`" in docs/FORMAT.md. The search takes time linear in the number of arcs
+//! and of the flushes that their items declare, and no memory.
 
 ghost use Rattle.std.specs.Prelude.{◌≡◌, ◌<◌, ◌≤◌, ◌↔◌, IsTrue, IfSome, IfNone, length};
 ghost use Rattle.std.specs.List.{Any, All};
@@ -15,7 +15,7 @@ use std::alloc::Allocator;
 use wq_groups::Groups;
 use wq_items::{ItemId, ItemTable, Target};
 
-/// Whether some target is of this item.
+/// Whether any target is of this item.
 fn have_target(targets: &[Target], item: ItemId) -> bool
     ensures { IsTrue result ↔ Any (λ (t : Target). t.item ≡ item) targets.now }
 {
@@ -50,8 +50,8 @@ fn joins<A: Allocator + Copy>(
         }
 }
 
-/// The number, counted from 1, of the first arc that doesn't join the one before it.
-/// The one before the first arc is `first`.
+/// The number, counted from 1, of the first arc that doesn't join the one before it. `first` comes before the first
+/// arc.
 pub(crate) fn first_break<A: Allocator + Copy>(
     table: &ItemTable<'_, A>,
     groups: &Groups<A>,

@@ -1,11 +1,13 @@
 //! Whether a certificate shows what it says.
 //!
-//! For a plan: each declared flush goes to a workqueue with a lower number, so the plan is safe; and a
-//! chain of as many groups as there are workqueues shows that fewer workqueues wait in a circle, and so
-//! deadlock. For a circle: its arcs go round groups, and its run, if there is one, ends in a
-//! deadlock. The rules are those of "The command `check`" in docs/FORMAT.md. A plan takes time in the
-//! number of items and flushes, and for each arc of its chain in the number of flushes that the arc's
-//! item declares, and no memory. A circle takes that for its arcs, and for its run that of `check_run`.
+//! For a plan: each declared flush goes to a workqueue with a lower number, so the plan is safe; and a chain of as many
+//! groups as there are workqueues shows that fewer workqueues wait in a circle, and so deadlock. For a circle: its arcs
+//! go round groups, and its run, if there is one, ends in a deadlock. The rules are those of "The command `check`" in
+//! docs/FORMAT.md.
+//!
+//! A plan takes no memory, and time linear in the number of items and flushes and, for each arc of its chain, in the
+//! number of flushes that the item of the arc declares. A circle takes this time for its arcs, and that of `check_run`
+//! for its run.
 
 ghost use Rattle.std.specs.Prelude.{◌≡◌, ◌<◌, ◌≤◌, ◌↔◌, IsTrue, IsSome, IfOk, OnErr, IfSome, option_map, length};
 ghost use Rattle.wq_groups.specs.Declaration.{declaration_of};
@@ -58,7 +60,7 @@ fn check_plan<A: Allocator + Copy>(
     }
 }
 
-/// The assignment in which each of this many groups has a workqueue of its own, with its number.
+/// The assignment in which each of this many groups has the workqueue with its own number.
 fn own_lanes<A: Allocator + Copy>(alloc: A, groups: u16) -> Result<Assignment<A>, AllocError>
     requires { groups ≤ 4096 }
     ensures { IfOk result (λ a. a ≡ own_lanes groups) }
@@ -80,7 +82,7 @@ fn is_deadlock(end: RunEnd) -> bool
     }
 }
 
-/// Whether steps are a run that deadlocks where each group has a workqueue of its own.
+/// Whether the steps are a run that deadlocks if each group has a workqueue of its own.
 fn deadlocks<A: Allocator + Copy>(
     alloc: A,
     table: &ItemTable<'_, A>,
@@ -97,7 +99,7 @@ fn deadlocks<A: Allocator + Copy>(
     Ok(is_deadlock(end))
 }
 
-/// Whether the steps, if there are any, are such a run.
+/// Whether the steps, if there are any, are a run that deadlocks if each group has a workqueue of its own.
 fn show_deadlock<A: Allocator + Copy>(
     alloc: A,
     table: &ItemTable<'_, A>,
@@ -173,12 +175,13 @@ fn check_certificate<A: Allocator + Copy>(
 
 /// Checks a certificate: what it shows, or the first reason why it shows nothing.
 ///
-/// The certificate is one of the declaration, as every certificate is that is read: its assignment has a
-/// lane for each group; its arcs are of items, and their number is one less than the length of the chain
-/// (none for 0), or from 1 to 4,096 in a circle; and it has fewer than 4,294,967,295 steps. A yes to a
-/// plan implies that it is safe, and that in every assignment to fewer workqueues these wait in a circle,
-/// and some run deadlocks. A yes to a circle implies that both hold for every assignment. The only error
-/// is out of memory (20), which comes only if the arcs of a circle go round and steps follow them.
+/// The certificate must be one of the declaration, as all are that are read: its assignment has a lane for each group;
+/// its arcs are between items, one fewer than the length of the chain (none for 0), or 1 to 4,096 in a circle; and it
+/// has fewer than 2^32 - 1 steps.
+///
+/// A yes to a plan implies that the plan is safe, and that in every assignment to fewer workqueues these wait in a
+/// circle, and some run deadlocks. A yes to a circle implies that both hold for every assignment. The only error is out
+/// of memory (20), which can occur only if the arcs of a circle go round and steps follow them.
 pub fn check_answer<A: Allocator + Copy>(
     alloc: A,
     table: &ItemTable<'_, A>,
@@ -196,7 +199,7 @@ pub fn check_answer<A: Allocator + Copy>(
     // What a yes to a circle implies.
     ensures circle { IfOk result (λ r. EachWaitsInCircle (declaration_of table.now groups.now) r) }
     ensures deadlocks { IfOk result (λ r. EachDeadlocks (declaration_of table.now groups.now) r) }
-    // Only a run takes memory.
+    // Only a run needs memory.
     ensures memory { OnErr result (NeedsRun (declaration_of table.now groups.now) (certificate answer.now)) }
 {
     let _items = table.len();

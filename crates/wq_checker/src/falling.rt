@@ -1,7 +1,7 @@
 //! Flushes that don't fall: the first of them by place.
 //!
-//! A plan is safe where each declared flush goes to a workqueue with a lower number; the rule is that of "The command
-//! `check`" in docs/FORMAT.md. The search takes time in the number of items and flushes, and no memory.
+//! A plan is safe if each declared flush goes to a workqueue with a lower number; the rule is that of "The command
+//! `check`" in docs/FORMAT.md. The search takes time linear in the number of items and flushes, and no memory.
 
 ghost use Rattle.std.specs.Prelude.{◌≡◌, ◌<◌, IfSome, IfNone, length};
 ghost use Rattle.wq_groups.specs.Declaration.{declaration_of};
@@ -59,7 +59,7 @@ fn first_of_item<A: Allocator + Copy>(
     None
 }
 
-/// The flush with the lower place, where there are two.
+/// The flush with the lower place, if there are two.
 fn earlier(one: Option<DeclaredFlush>, other: Option<DeclaredFlush>) -> Option<DeclaredFlush>
     ensures { result ≡ earlier one other }
 {

@@ -1,6 +1,6 @@
 //! Laws about answers and about ends, as contracts of functions with empty bodies.
 //!
-//! They are about declarations, certificates and lists of steps alone, whatever code checks them.
+//! They speak of declarations, certificates and lists of steps alone, whatever code checks them.
 
 ghost use Rattle.std.specs.Prelude.{◌≡◌, ℕ, ◌<◌, List, length, Result};
 ghost use Rattle.wq_items.specs.Chain.{Circle};
@@ -18,7 +18,7 @@ ghost use Rattle.wq_checker.specs.Answers.{IsGoodPlan, IsGoodCircle, IsPlanAsked
 ghost use Rattle.wq_checker.specs.Answers.{AnswersCertificate};
 ghost use Rattle.wq_checker.specs.RunEnds.{EndsAs};
 
-/// A good plan is safe, and in every assignment to fewer workqueues these wait in a circle.
+/// A good plan is safe, and the workqueues of every assignment with fewer of them wait in a circle.
 pub fn a_good_plan_is_safe_and_fewer_wait_in_a_circle()
     ensures safe { (d : Declaration) (c : PlanCertificate) → IsDeclaration d → IsGoodPlan d c →
         IsSafe (wiring d c.assignment) }
@@ -33,8 +33,8 @@ pub fn a_good_plan_is_least()
         IsLeast d c.assignment }
 {}
 
-/// The chain of a good plan is one of groups: as many as there are workqueues, each of which waits for the next. The
-/// arcs lead from each group to the next.
+/// The chain of a good plan is a chain of groups, as many as there are workqueues: each waits for the next, along the
+/// arcs.
 pub fn a_good_plan_has_a_chain_of_groups()
     ensures { (d : Declaration) (c : PlanCertificate) → IsDeclaration d → IsPlanAsked d c → IsGoodPlan d c →
         (groups : List ℕ) × IsChainAlong d c.arcs groups × (length groups ≡ c.assignment.lanes) }
@@ -46,7 +46,7 @@ pub fn a_good_circle_goes_round_groups()
         IsCircleAlong d c.arcs }
 {}
 
-/// If a circle is good, the workqueues of every assignment wait in a circle.
+/// If a circle is good, the workqueues wait in a circle in every assignment.
 pub fn a_good_circle_is_one_in_every_assignment()
     ensures { (d : Declaration) (c : CircleCertificate) (b : Assignment) → IsDeclaration d → IsCircleAsked d c →
         IsGoodCircle d c →
@@ -60,7 +60,7 @@ pub fn a_good_circle_deadlocks_every_assignment()
         IsAssignment d.groups b → Deadlocks (wiring d b) }
 {}
 
-/// A certificate has only one answer.
+/// A certificate has at most one answer.
 pub fn a_certificate_has_one_answer()
     ensures one { (d : Declaration) (c : Certificate) → IsDeclaration d →
         (r : Result Yes No) × AnswersCertificate d c r }
@@ -68,7 +68,7 @@ pub fn a_certificate_has_one_answer()
         AnswersCertificate d c r → AnswersCertificate d c s → r ≡ s }
 {}
 
-/// A list of steps has only one end.
+/// A list of steps has at most one end.
 pub fn steps_have_one_end()
     ensures one { (w : Wiring) (steps : List Step) → (end : RunEnd) × EndsAs w steps end }
     ensures at_most_one { (w : Wiring) (steps : List Step) (r s : RunEnd) → EndsAs w steps r → EndsAs w steps s →

@@ -1,7 +1,7 @@
-//! Whether each item is queued once, and none is cancelled.
+//! Whether each item is queued exactly once, and none is cancelled.
 //!
-//! A run that deadlocks must be like that, by "Steps" in docs/FORMAT.md. The queueings of all items are counted in one
-//! pass. It takes time in the number of steps and of items, and memory in the number of items.
+//! This is so in a run that deadlocks, by "Steps" in docs/FORMAT.md. The queueings of all items are counted in one
+//! pass. It takes O(items + steps) time and O(items) memory.
 
 ghost use Rattle.std.specs.Prelude.{◌≡◌, ◌<◌, ◌↔◌, ℕ, IsTrue, IfOk, OnErr, length, replicate, slice_index};
 ghost use Rattle.std.specs.List.{All, count_by};
@@ -28,14 +28,14 @@ fn cancels_none(step: Step) -> bool
     }
 }
 
-/// Whether no step is a cancellation.
+/// Whether none of the steps is a cancellation.
 fn none_cancels(steps: &[Step]) -> bool
     ensures { IsTrue result ↔ All (λ (step : Step). ¬ IsCancel step) steps.now }
 {
     steps.iter().all(|step| cancels_none(*step))
 }
 
-/// This many counts of 0.
+/// A list of `items` zeros.
 fn no_counts<A: Allocator + Copy>(alloc: A, items: usize) -> Result<Vec<u32, A>, AllocError>
     ensures counts { IfOk result (λ counts. counts.items ≡ replicate items 0) }
     ensures memory { OnErr result (0 < items) }
@@ -45,7 +45,7 @@ fn no_counts<A: Allocator + Copy>(alloc: A, items: usize) -> Result<Vec<u32, A>,
     Ok(counts)
 }
 
-/// How often each of this many items is queued, in turn.
+/// How often each of this many items is queued, in item order.
 fn count_queueings<A: Allocator + Copy>(
     alloc: A,
     items: usize,
@@ -69,7 +69,7 @@ fn count_queueings<A: Allocator + Copy>(
     Ok(counts)
 }
 
-/// Whether each number is one.
+/// Whether each number is 1.
 fn are_one(counts: &[u32]) -> bool
     ensures { IsTrue result ↔ All (λ n. n ≡ 1) counts.now }
 {

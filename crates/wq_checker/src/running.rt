@@ -1,8 +1,9 @@
 //! How a list of steps ends.
 //!
-//! The ends are those of "The command `replay`" in docs/FORMAT.md. The steps are made on the core machine, from the
-//! empty state on, by the rules of "Steps". This takes the time of the core machine's steps, and also time and memory
-//! in the number of items, flushes and workqueues.
+//! The ends are those of "The command `replay`" in docs/FORMAT.md. The steps are made on the core machine from the
+//! empty state, by the rules of "Steps". This takes the time of the machine's steps and, beside it,
+//!
+//!   O(items + flushes + workqueues) time and memory.
 
 ghost use Rattle.std.specs.Prelude.{◌≡◌, ◌<◌, ◌↔◌, IsTrue, IfOk, OnErr, IfErr, length};
 ghost use Rattle.wq_groups.specs.Declaration.{declaration_of};
@@ -23,7 +24,7 @@ use wq_core::{Core, Step, Workqueues};
 use wq_groups::{Assignment, Groups, LaneId};
 use wq_items::ItemTable;
 
-/// Whether the step is the one that the lane can make where what it runs flushes as declared.
+/// Whether the step is the one that the lane can make if what it runs flushes as declared.
 fn is_declared<A: Allocator>(core: &Core<A>, q: LaneId, step: Step) -> bool
     ensures { IsTrue result ↔ IsDeclaredStep core.now.wiring core.now.state q step }
 {
@@ -47,8 +48,8 @@ fn keeps_order<A: Allocator>(core: &Core<A>, step: Step) -> bool
     }
 }
 
-/// Makes the steps on a machine without helpers on which nothing was queued yet, and tells whether what ran flushed as
-/// declared. The error is the number, counted from 1, of the first step that isn't lawful.
+/// Makes the steps on a machine without helpers on which nothing has been queued yet, and tells whether what ran
+/// flushed as declared. The error is the number, counted from 1, of the first step that isn't lawful.
 fn play<A: Allocator>(core: &mut Core<A>, steps: &[Step]) -> Result<bool, u32>
     requires helpers { core.old.wiring.helpers ≡ 0 }
     requires empty { core.old.state ≡ empty_state core.old.wiring }
@@ -76,7 +77,7 @@ fn is_stuck<A: Allocator>(core: &Core<A>) -> bool
     core.enabled().is_none() && !core.is_at_rest()
 }
 
-/// How a run without helpers that leaves this machine ends.
+/// How a run without helpers ends that leaves the machine in this state.
 fn end_of<A: Allocator + Copy>(
     alloc: A,
     core: &Core<A>,
@@ -99,7 +100,7 @@ fn end_of<A: Allocator + Copy>(
     }
 }
 
-/// How a list of steps ends that are made on a machine without helpers on which nothing was queued yet.
+/// How a list of steps ends, made on a machine without helpers on which nothing has been queued yet.
 fn ends<A: Allocator + Copy>(
     alloc: A,
     mut core: Core<A>,
@@ -137,7 +138,7 @@ pub fn check_run<A: Allocator + Copy>(
     ends(alloc, core, steps)
 }
 
-/// The same on workqueues of which some may have no rescuer.
+/// As `check_run`, on workqueues of which some may have no rescuer.
 pub fn check_run_on<A: Allocator + Copy>(
     alloc: A,
     table: &ItemTable<'_, A>,

@@ -1,4 +1,4 @@
--- The answer of `circles` to workqueues each of which has a rescuer: it speaks of an assignment alone.
+-- The answer of `circles` if each workqueue has a rescuer: it speaks of an assignment alone.
 use Rattle.std.specs.Prelude.{◌≡◌, ◌≢◌, ℕ, List, [], MatchResult}
 use Rattle.wq_groups.specs.Assignment.{Assignment}
 use Rattle.wq_graph.specs.declared.arc.WaitArc.{WaitArc}
@@ -26,7 +26,7 @@ CirclesAssignment s a Good out = AreComponents (declared_waits s) (all_rescued a
 CirclesAssignment s a Bad out = PrintsCircles s a out
 CirclesAssignment s a Refused out = ⊥
 
--- the answer to the texts of a declaration and an assignment, or the refusal of the first that is refused
+-- the answer to the texts of a declaration and an assignment, or the refusal of the first one that is refused
 abbrev pub CirclesAllRescued : List ℕ → List ℕ → End → List ℕ → Type 0
 CirclesAllRescued declared text end out =
     MatchResult (declaration declared)

@@ -36,8 +36,8 @@ pub record AreOnCircles (d : Declaration) (ws : Workqueues) (components : List (
   pub places : All (λ (arcs : List WaitArc). IsStrictlyIncreasing (map (λ (b : WaitArc). b.place) arcs)) components
   pub workqueues : AllPairs (IsBefore (RescuedWaits (wiring_of d ws)) (item_lane ws.assignment d.group_of)) components
 
--- exactly the declared flushes of an item whose workqueue has a rescuer of one whose
--- workqueue has none, in order of place
+-- exactly the declared flushes from an item whose workqueue has a rescuer to one whose workqueue has none, in order of
+-- place
 pub record AreForBare (d : Declaration) (ws : Workqueues) (waits : List WaitArc) : Type 0 where
   pub declared : All (IsDeclaredFlush d.waits) waits
   pub lie : (b : WaitArc) → IsDeclaredFlush d.waits b
@@ -46,8 +46,8 @@ pub record AreForBare (d : Declaration) (ws : Workqueues) (waits : List WaitArc)
       × (¬ HasRescuer (wiring_of d ws) (item_lane ws.assignment d.group_of b.dst)))
   pub places : IsStrictlyIncreasing (map (λ (b : WaitArc). b.place) waits)
 
--- some run deadlocks on these workqueues, and the flushes are printed that are on circles of those that have a rescuer,
--- and those that lead from such a one to one that has none
+-- some run deadlocks on these workqueues; and the printed flushes are those on circles of workqueues that have a
+-- rescuer, and those that lead from such a workqueue to one that has none
 pub record PrintsFlushes (s : Declared) (ws : Workqueues) (out : List ℕ) : Type 0 where
   pub deadlocks : Deadlocks (wiring_of (declared_waits s) ws)
   pub components : List (List WaitArc)
@@ -63,19 +63,20 @@ KeepsAssigned s ws Good out =
 KeepsAssigned s ws Bad out = IsAssignment s.partition.groups ws.assignment × PrintsFlushes s ws out
 KeepsAssigned s ws Refused out = ⊥
 
--- the same for the text of an assignment of a declaration; a text that isn't one is refused
+-- what is promised for the text of an assignment of a declaration, by how the command ends; a text that isn't one is
+-- refused
 abbrev pub KeepsCirclesDeclared : Declared → List ℕ → End → List ℕ → Type 0
 KeepsCirclesDeclared s text end out =
     MatchResult (workqueues_of_text s.table.names s.partition text)
     (λ ws. KeepsAssigned s ws end out)
     (λ fault. end ≡ Refused)
 
--- the same for the texts of a declaration and an assignment
+-- what is promised for the texts of a declaration and an assignment
 abbrev pub KeepsCircles : List ℕ → List ℕ → End → List ℕ → Type 0
 KeepsCircles declared text end out =
     MatchResult (declaration declared) (λ s. KeepsCirclesDeclared s text end out) (λ r. end ≡ Refused)
 
--- the same for only the text of a declaration: each group has its own workqueue, with the group's number
+-- what is promised for the text of a declaration alone: each group has its own workqueue, with the group's number
 abbrev pub KeepsOwnCircles : List ℕ → End → List ℕ → Type 0
 KeepsOwnCircles declared end out =
     MatchResult (declaration declared)

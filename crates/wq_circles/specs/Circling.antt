@@ -21,8 +21,8 @@ use Rattle.wq_circles.specs.declared.circling.Circling.{Circling}
 use Rattle.wq_circles.specs.Components.{AreComponents}
 use Rattle.wq_circles.specs.ComponentsText.{circles_text}
 
--- these are the components of these workqueues. There is one, or some flush leads from a workqueue that has a rescuer
--- to one that has none; and the components and all such flushes are printed
+-- these are the components of these workqueues; there is a component, or some flush leads from a workqueue that has a
+-- rescuer to one that has none; and the components and all such flushes are printed
 pub record PrintsComponents (s : Declared) (ws : Workqueues) (out : List ℕ) : Type 0 where
   pub components : List (List WaitArc)
   pub some : (components ≢ []) ⊎ (bare_waits (declared_waits s) ws ≢ [])
@@ -49,7 +49,7 @@ abbrev pub Circles : List ℕ → List ℕ → End → List ℕ → Type 0
 Circles declared text end out =
     MatchResult (declaration declared) (λ s. CirclesDeclared s text end out) (λ r. PrintsRefusal r end out)
 
--- the answer to only the text of a declaration: each group has its own workqueue, with the group's number
+-- the answer to the text of a declaration alone: each group has its own workqueue, with the group's number
 abbrev pub OwnCircles : List ℕ → End → List ℕ → Type 0
 OwnCircles declared end out =
     MatchResult (declaration declared)
@@ -58,7 +58,7 @@ OwnCircles declared end out =
 
 -- ---- what is found, and printed
 
--- what is printed of these components and of these flushes to workqueues without a rescuer: `safe` if there are none of
+-- what is printed for these components and these flushes to workqueues without a rescuer: `safe` if there are none of
 -- either
 abbrev pub PrintsCircling : Table → List (List WaitArc) → List WaitArc → End → List ℕ → Type 0
 PrintsCircling t components waits Good out = (components ≡ []) × (waits ≡ []) × (out ≡ safe_text)
@@ -67,7 +67,7 @@ PrintsCircling t components waits Bad out =
 PrintsCircling t components waits Refused out = ⊥
 
 -- these workqueues are found, with their components and the flushes that lead from one that has a rescuer to one that
--- has none; and of these the answer is printed
+-- has none; and the answer is printed from these
 pub record FindsCircles {A : Type 0} (s : Declared) (ws : Workqueues) (found : Found (Circling A)) (end : End)
     (out : List ℕ) : Type 0 where
   pub circling : Circling A
@@ -84,13 +84,13 @@ CirclesText s text =
 
 -- ---- the command, with an assignment or without one
 
--- what it finds in what is declared and in the texts, and its answer: without an assignment, each group has its own
--- workqueue, with the group's number
+-- what the command finds in what is declared and in the texts, and its answer: without an assignment, each group has
+-- its own workqueue, with the group's number
 abbrev pub CirclesTexts : {A : Type 0} → Bool → Declared → Given → Found (Circling A) → End → List ℕ → Type 0
 CirclesTexts true s texts = CirclesText s texts.second
 CirclesTexts false s texts = FindsCircles s (all_rescued (own_lanes s.partition.groups))
 
--- its answer to the texts
+-- the answer of the command to the texts
 abbrev pub AnswersCircles : Bool → Given → End → List ℕ → Type 0
 AnswersCircles true texts end out = Circles texts.first texts.second end out
 AnswersCircles false texts end out = OwnCircles texts.first end out

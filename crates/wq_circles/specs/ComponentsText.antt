@@ -40,7 +40,7 @@ components_lines names waits components =
 abbrev pub components_text : List (List ℕ) → List (List Target) → List (List WaitArc) → List ℕ
 components_text names waits components = flat_map line_text (components_lines names waits components)
 
--- the lines of flushes that lead to workqueues without a rescuer, as words: none if there are no such flushes, and else
+-- the lines of flushes that lead to workqueues without a rescuer, as words: none if there are no such flushes, or else
 -- `norescuer M` and a line for each
 abbrev pub bare_lines : List (List ℕ) → List (List Target) → List WaitArc → List (List (List ℕ))
 bare_lines names waits [] = []
@@ -51,6 +51,6 @@ abbrev pub circles_text : List (List ℕ) → List (List Target) → List (List 
 circles_text names waits components bare =
     components_text names waits components ++ flat_map line_text (bare_lines names waits bare)
 
--- fewer than 4,294,967,296 arcs, each from one of this many items to one of them
+-- fewer than 4,294,967,296 arcs, each between two of this many items
 abbrev pub AreBetween : ℕ → List WaitArc → Type 0
 AreBetween items arcs = (length arcs < 2 ^ 32) × All (λ (a : WaitArc). (a.src < items) × (a.dst < items)) arcs

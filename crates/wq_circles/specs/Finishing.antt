@@ -13,8 +13,8 @@ use Rattle.wq_circles.specs.Searching.{is_marked}
 abbrev pub StandsBy : List ℕ → ℕ → ℕ → Type 0
 StandsBy xs k v = (j : ℕ) × (j ≤ k) × (j < length xs) × (slice_index xs j ≡ v)
 
--- whenever a vertex is finished: if an arc of a finished vertex leads to one that isn't finished yet, then this one
--- leads to the vertex that was finished last
+-- each time a vertex is finished: if an arc of a finished vertex leads to an unfinished one, that one leads to the
+-- vertex finished last
 abbrev pub LeadToLast : (ℕ → ℕ → Type 0) → List ℕ → Type 0
 LeadToLast R finished =
     (k i w : ℕ) → i ≤ k → k < length finished → R (slice_index finished i) w
@@ -29,19 +29,19 @@ pub record IsFinishing (R : ℕ → ℕ → Type 0) (n : ℕ) (finished : List �
 
 -- ---- the search
 
--- which vertices were visited; for each vertex, how many of its arcs are known to lead to visited ones; the path to the
--- vertex where the search is; and the finished vertices, in the order in which they were finished
+-- which vertices have been visited; for each vertex, how many of its arcs are known to lead to visited ones; the path
+-- to the vertex where the search is; and the finished vertices, in the order in which they were finished
 pub record Walk : Type 0 where
   pub visited : List Bool
   pub followed : List ℕ
   pub path : List ℕ
   pub finished : List ℕ
 
--- vertex v was visited
+-- vertex v has been visited
 abbrev pub IsVisited : Walk → ℕ → Type 0
 IsVisited s v = is_marked s.visited v ≡ true
 
--- the search after it came to vertex v
+-- the search after it has visited vertex v
 abbrev pub with_visited : Walk → ℕ → Walk
 with_visited s v =
     record {
@@ -51,12 +51,12 @@ with_visited s v =
       finished = s.finished;
     }
 
--- the search after this many arcs of vertex v were followed
+-- the search after this many arcs of vertex v have been followed
 abbrev pub with_followed : Walk → ℕ → ℕ → Walk
 with_followed s v count =
     record { visited = s.visited; followed = slice_set s.followed v count; path = s.path; finished = s.finished }
 
--- the search after vertex v, the last of the path, was finished
+-- the search after vertex v, the last of the path, has been finished
 abbrev pub with_vertex_finished : Walk → ℕ → Walk
 with_vertex_finished s v =
     record {
@@ -66,21 +66,21 @@ with_vertex_finished s v =
       finished = s.finished ++ (v ∷ []);
     }
 
--- the search went from s to t, as it passed those next in vertex v's list that were
--- visited; `next` is the first one that wasn't
+-- the search goes on from s to t by passing the next vertices in vertex v's list that have been visited; `next` is the
+-- first unvisited one, if there is one
 pub record Follows (s : Walk) (heads : List ℕ) (v : ℕ) (next : Option ℕ) (t : Walk) : Type 0 where
   pub count : ℕ
   pub after : t ≡ with_followed s v count
   pub passed : (k : ℕ) → slice_index s.followed v ≤ k → k < count → k < length heads → IsVisited s (slice_index heads k)
   pub tells : MatchOption next (length heads ≤ count) (λ w. Contains heads w × (is_marked s.visited w ≡ false))
 
--- how many steps led here: one that came to each visited vertex, and one more for each that was finished
+-- how many steps led here: one for each visited vertex, and one more for each finished one
 abbrev pub steps_to : Walk → ℕ
 steps_to s = length s.path + 2 * length s.finished
 
--- what holds between two steps: the visited vertices are those of the path and the
--- finished ones, each once; each vertex of the path leads to the later ones; the
--- arcs of a finished vertex, and those that were followed, lead to visited ones
+-- what holds between two steps: the visited vertices are those of the path and the finished ones, each once; each
+-- vertex of the path leads to the later ones; the arcs of a finished vertex, and those that have been followed, lead to
+-- visited ones
 pub record IsWalkSoFar (lists : List (List ℕ)) (s : Walk) : Type 0 where
   pub marks : length s.visited ≡ length lists
   pub counts : length s.followed ≡ length lists

@@ -27,7 +27,7 @@ abbrev pub IsDeclaredFlush : List (List Target) → WaitArc → Type 0
 IsDeclaredFlush waits b = Any (λ (t : Target). (t.item ≡ b.dst) × (t.place ≡ b.place)) (targets_of waits b.src)
 
 -- for any arc of the first component and any arc of the second: the lowest-numbered workqueue that is together with
--- that of the first arc's item has a lower number than the one for the second arc's item
+-- that of the first arc's item has a lower number than that for the second arc's item
 abbrev pub IsBefore : (ℕ → ℕ → Type 0) → (ℕ → ℕ) → List WaitArc → List WaitArc → Type 0
 IsBefore R lane arcs others =
     (b c : WaitArc) (v w : ℕ) → Contains arcs b → Contains others c → IsLowest R (lane b.src) v

@@ -10,7 +10,7 @@ listed_at lists v = slice_index_or lists v []
 abbrev pub Next : List (List ℕ) → ℕ → ℕ → Type 0
 Next lists v w = Contains (listed_at lists v) w
 
--- the same for lists that are turned round: vertex v is in the list of vertex w
+-- for reversed lists: vertex v is in the list of vertex w
 abbrev pub NextBack : List (List ℕ) → ℕ → ℕ → Type 0
 NextBack lists v w = Next lists w v
 
@@ -18,12 +18,12 @@ NextBack lists v w = Next lists w v
 abbrev pub head_lists : List (List WaitArc) → List (List ℕ)
 head_lists graph = map (λ arcs. map (λ (a : WaitArc). a.head) arcs) graph
 
--- vertex v was added to the list of each of these heads, and to no other list
+-- vertex v is added to the list of each of these heads, and to no other list
 pub record HasTails (old new : List (List ℕ)) (v : ℕ) (heads : List ℕ) : Type 0 where
   pub one_each : length new ≡ length old
   pub tails : (u w : ℕ) → w < length old → Next new w u ↔ (Next old w u ⊎ ((u ≡ v) × Contains heads w))
 
--- the same lists, turned round: vertex u is in the list of w exactly if w is in that of u
+-- the second lists are the first ones reversed: vertex u is in the list of w exactly if w is in that of u
 pub record AreTurned (heads tails : List (List ℕ)) : Type 0 where
   pub one_each : length tails ≡ length heads
   pub turned : (u w : ℕ) → w < length heads → Next tails w u ↔ ((u < length heads) × Next heads u w)

@@ -1,4 +1,4 @@
--- Searching: what a search from vertex to vertex finds, if others were found before it.
+-- Searching: what a search from vertex to vertex finds, if others have been found before.
 use Rattle.std.specs.Prelude.{◌≡◌, ◌⊎◌, ◌↔◌, ℕ, ◌<◌, ◌≤◌, Bool, true, false, cond, List, [], ◌∷◌, ◌++◌, length, fold}
 use Rattle.std.specs.Prelude.{take, slice_index_or, slice_set, Contains}
 use Rattle.std.specs.List.{All}
@@ -15,11 +15,11 @@ pub record Search : Type 0 where
   pub marks : List Bool
   pub order : List ℕ
 
--- the search after it came to vertex w
+-- the search after it has found vertex w
 abbrev pub with_found : Search → ℕ → Search
 with_found s w = cond (is_marked s.marks w) s (record { marks = slice_set s.marks w true; order = s.order ++ (w ∷ []) })
 
--- the search after it came to each of these
+-- the search after it has found each of these vertices
 abbrev pub with_all_found : Search → List ℕ → Search
 with_all_found s ws = fold with_found s ws
 
@@ -29,12 +29,11 @@ pub record AreFound (s : Search) : Type 0 where
   pub marked : (w : ℕ) → w < length s.marks → (is_marked s.marks w ≡ true) ↔ Contains s.order w
   pub once : ¬ Repeats s.order
 
--- vertex w is in the list of vertex v, and wasn't found
+-- vertex w is in the list of vertex v, and hasn't been found
 abbrev pub NextNew : List (List ℕ) → Search → ℕ → ℕ → Type 0
 NextNew lists s v w = Next lists v w × (¬ Contains s.order w)
 
--- the search s went on to t: after what was found before, it found v and what v
--- leads to by way of vertices that weren't found
+-- the search s goes on to t: after what was found before, it finds v and what v leads to by way of unfound vertices
 pub record Spreads (lists : List (List ℕ)) (s : Search) (v : ℕ) (t : Search) : Type 0 where
   pub marks : length t.marks ≡ length s.marks
   pub found : AreFound t
@@ -46,7 +45,7 @@ pub record IsLeastOf (vertices : List ℕ) (c : ℕ) : Type 0 where
   pub one : Contains vertices c
   pub least : All (λ v. c ≤ v) vertices
 
--- the lowest of these vertices is the answer for each of them; the others keep theirs
+-- the lowest of these vertices is the result for each of them; the others keep theirs
 pub record AreSettled (vertices old new : List ℕ) : Type 0 where
   pub one_each : length new ≡ length old
   pub settled : (v : ℕ) → Contains vertices v → IsLeastOf vertices (slice_index_or new v 0)

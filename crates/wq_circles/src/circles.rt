@@ -1,5 +1,5 @@
-//! The command `circles`: from what is declared, and the bytes of an assignment
-//! where one is named, to the bytes of the answer.
+//! The command `circles`: from what is declared and the bytes of an assignment, if one is named, to the bytes of the
+//! answer.
 //!
 //! The answer is built in full before its first byte is written. The rule is that of "The command `circles`" in
 //! docs/FORMAT.md. It takes the time of reading the assignment, of the components and of their text.
@@ -10,7 +10,7 @@ use wq_commands::{Answered, Command, Finds, Found, one_or_two_texts};
 use wq_groups::Declaration;
 use wq_meter::{Limits, Texts};
 
-/// The command `circles`: its texts are a declaration and, where there is one, an assignment.
+/// The command `circles`: its texts are a declaration and perhaps an assignment.
 #[derive(Clone, Copy, Debug)]
 pub struct CirclesCommand {
     /// Whether there is an assignment.

@@ -20,18 +20,18 @@ use wq_deadlock::bare_waits;
 use wq_graph::WaitArc;
 use wq_groups::Declaration;
 
-/// What `circles` finds: of this its answer is printed.
+/// What `circles` finds, and prints its answer from.
 #[derive(Drop)]
 pub struct Circling<A: Allocator> {
     /// The workqueues of the declared groups.
     pub workqueues: Workqueues<A>,
-    /// Their components, each as its flushes.
+    /// The components of the workqueues, each as its flushes.
     pub components: Vec<Vec<WaitArc, A>, A>,
     /// The flushes that lead from a workqueue that has a rescuer to one that has none, in order of place.
     pub waits: Vec<WaitArc, A>,
 }
 
-/// What is printed where these components are found, and these flushes lead to workqueues without a rescuer.
+/// What is printed if these components are found, and the flushes `waits` lead to workqueues without a rescuer.
 fn print_components<A: Allocator + Copy>(
     alloc: A,
     assigned: &Assigned<'_, '_, A>,
@@ -102,7 +102,7 @@ fn circle_groups<A: Allocator + Copy>(
     circle_workqueues(alloc, declared, workqueues)
 }
 
-/// The answer to what is declared and, where there is one, to the text of an assignment.
+/// The answer to what is declared and, if there is one, to the text of an assignment.
 pub(crate) fn circle<A: Allocator + Copy>(
     alloc: A,
     assigned: bool,

@@ -1,7 +1,10 @@
-//! The vertices in the order in which a depth-first search finishes them.
+//! The vertices in the order in which a depth-first search finishes them (a postorder).
 //!
-//! A vertex is finished when all that its arcs lead to was visited. It takes time in the number of vertices and the
-//! length of the lists, and memory in the number of vertices. `walk` has the steps, two for each vertex.
+//! A vertex is finished when all vertices that its arcs lead to have been visited. It takes
+//!
+//!   O(vertices + arcs) time and O(vertices) memory.
+//!
+//! `walk` has the steps, two for each vertex.
 
 ghost use Rattle.std.specs.Prelude.{◌≡◌, ◌<◌, length, map, false, [], IfOk};
 ghost use Rattle.std.specs.List.{All};
@@ -12,7 +15,7 @@ ghost use Rattle.wq_circles.specs.Finishing.{IsFinishing, IsVisited, IsWalkSoFar
 use crate::walk::Walk;
 use std::alloc::{AllocError, Allocator};
 
-/// Visits and finishes a vertex and all that it leads to over vertices that weren't visited yet.
+/// Visits and finishes a vertex and all vertices that it leads to by way of unvisited ones.
 fn walk_from<A: Allocator + Copy>(
     walk: &mut Walk<A>,
     lists: &[Vec<u16, A>],
@@ -34,7 +37,7 @@ fn walk_from<A: Allocator + Copy>(
     Ok(())
 }
 
-/// The vertices in the order in which they are finished. A list holds vertices, and there is one for each.
+/// The vertices in the order in which they are finished. `lists` has the heads of the arcs of each vertex.
 pub(crate) fn finishing_order<A: Allocator + Copy>(
     alloc: A,
     lists: &[Vec<u16, A>],

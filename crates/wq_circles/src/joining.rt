@@ -1,9 +1,10 @@
 //! The components of an assignment: the arcs that lie on a circle.
 //!
-//! The rule is that of "The command `circles`" in docs/FORMAT.md: an arc lies on a circle where the workqueue of its
-//! target leads to that of its item. That is so where the two are one workqueue or lead to one another. So workqueues
-//! that lead to one another are joined, and what then leads from a workqueue to itself lies on a circle. It takes the
-//! time and the memory of two wait graphs and of the components of the first one (`together`).
+//! The rule is that of "The command `circles`" in docs/FORMAT.md: an arc lies on a circle if the workqueue of its
+//! target leads to that of its item, and so if the two are in one strongly connected component. So the workqueues of
+//! each strongly connected component are joined, and what then leads from a workqueue to itself lies on a circle. It
+//! takes the time and the memory of two wait graphs and of the strongly connected components of the first one
+//! (`together`).
 
 ghost use Rattle.std.specs.Prelude.{◌≡◌, ◌<◌, length, map, IfOk, OnErr};
 ghost use Rattle.std.specs.List.{All};
@@ -17,7 +18,7 @@ use wq_deadlock::rescued_graph;
 use wq_graph::{WaitArc, WaitGraph};
 use wq_groups::{Assignment, GroupId, LaneId};
 
-/// For each group in turn, the lane that represents its own.
+/// For each group, the lane that represents its own.
 fn joined_lanes<A: Allocator + Copy>(
     alloc: A,
     assigned: &Assigned<'_, '_, A>,
@@ -72,7 +73,7 @@ fn loops_at<A: Allocator + Copy>(
     Ok(arcs)
 }
 
-/// The loops of each vertex in turn. A vertex without a loop has no entry.
+/// The loops of each vertex, in vertex order. A vertex without a loop has no entry.
 fn loops<A: Allocator + Copy>(
     alloc: A,
     graph: &WaitGraph<A>,
@@ -90,7 +91,7 @@ fn loops<A: Allocator + Copy>(
     Ok(lists)
 }
 
-/// The loops where lanes are joined, of those that aren't bare.
+/// The loops after lanes have been joined, except those of bare lanes.
 fn loops_joined<A: Allocator + Copy>(
     alloc: A,
     assigned: &Assigned<'_, '_, A>,
@@ -111,7 +112,7 @@ fn loops_joined<A: Allocator + Copy>(
 
 /// The components of the workqueues of declared groups that have a rescuer, each as its arcs.
 ///
-/// The only error is out of memory (20), which can't occur where there is no workqueue.
+/// The only error is out of memory (20), which can't occur if there is no workqueue.
 pub fn components<A: Allocator + Copy>(
     alloc: A,
     assigned: &Assigned<'_, '_, A>,

@@ -1,8 +1,8 @@
-//! Laws about components, as contracts of functions with empty bodies. No code runs here: the clauses are the laws.
+//! Laws about components, as contracts of functions with empty bodies.
 //!
 //! They say, in the words of docs/FORMAT.md, "The command `circles`", what components are: of arcs, and of the
 //! workqueues that lead to one another. `RescuedWaits` says which workqueue with a rescuer waits for which, and `Leads`
-//! of it which leads to which. The last two are about the lowest-numbered vertices of a wait graph.
+//! of it which leads to which. The last two laws are about the lowest-numbered vertices of a wait graph.
 
 ghost use Rattle.std.specs.Prelude.{◌≡◌, ◌≤◌, ◌↔◌, Bool, ℕ, ◌<◌, List, length, slice_index, ◌≢◌, [], ◌∷◌, false, map};
 ghost use Rattle.std.specs.Prelude.{◌++◌, AllPairs, Contains, flat_map};
@@ -40,8 +40,8 @@ ghost use Rattle.wq_circles.specs.Flushes.{IsInComponents, AreInOneComponent, Is
 
 use std::alloc::Allocator;
 
-/// A flush is in a component exactly where the workqueue of its target leads to that of its item, by way of workqueues
-/// that have a rescuer. Nothing but declared flushes is in a component.
+/// A flush is in a component exactly if the workqueue of its target leads to that of its item by way of workqueues that
+/// have a rescuer. Only declared flushes are in components.
 pub fn what_lies_on_a_circle_is_in_a_component()
     ensures same { (d : Declaration) (ws : Workqueues) (components : List (List WaitArc)) (b : WaitArc) →
         IsDeclaration d →
@@ -54,8 +54,8 @@ pub fn what_lies_on_a_circle_is_in_a_component()
         All (All (IsDeclaredFlush d.waits)) components }
 {}
 
-/// Two flushes that lie on circles are in one component exactly where their items' workqueues are one, or each leads to
-/// the other; and no component is empty.
+/// Two flushes that lie on circles are in one component exactly if their items' workqueues are the same, or each leads
+/// to the other; and no component is empty.
 pub fn a_component_is_of_workqueues_that_lead_to_one_another()
     ensures together { (d : Declaration) (ws : Workqueues) (components : List (List WaitArc)) (b c : WaitArc) →
         IsDeclaration d →
@@ -80,8 +80,8 @@ pub fn components_are_in_order()
         AllPairs (IsBefore (RescuedWaits (wiring_of d ws)) (item_lane ws.assignment d.group_of)) components }
 {}
 
-/// Each component has a round of waits on the workqueues of its flushes' items. So of each it can be said how its
-/// workqueues hang.
+/// Each component has a round of waits on the workqueues of its flushes' items. So it can be said of each component how
+/// its workqueues hang.
 pub fn a_component_has_a_round()
     ensures { (d : Declaration) (ws : Workqueues) (components : List (List WaitArc)) (arcs : List WaitArc)
         (lanes : List ℕ) → IsDeclaration d →
@@ -90,8 +90,8 @@ pub fn a_component_has_a_round()
         (hops : List Hop) × IsRoundOn (wiring_of d ws) lanes hops }
 {}
 
-/// There is no component, and no flush leads from a workqueue that has a rescuer to one that has none, exactly where
-/// no run ends stuck.
+/// There is no component, and no flush leads from a workqueue that has a rescuer to one that has none, exactly if no
+/// run ends stuck.
 pub fn no_component_is_safe()
     ensures { (d : Declaration) (ws : Workqueues) (components : List (List WaitArc)) → IsDeclaration d →
         IsAssignment d.groups ws.assignment →
@@ -99,8 +99,8 @@ pub fn no_component_is_safe()
         (((components ≡ []) × (bare_waits d ws ≡ [])) ↔ IsSafe (wiring_of d ws)) }
 {}
 
-/// An unsure flush that is in no component, and doesn't lead from a workqueue that has a rescuer to one that has none,
-/// makes no difference: of two readings that differ in it alone both are safe, or neither is.
+/// An unsure flush makes no difference if it is in no component and doesn't lead from a workqueue that has a rescuer to
+/// one that has none: of two readings that differ only in it, both are safe or neither is.
 pub fn what_is_in_no_component_makes_no_difference()
     ensures { (d : Declaration) (ws : Workqueues) (components : List (List WaitArc)) (place : ℕ) (kept : List ℕ) →
         IsDeclaration d → IsAssignment d.groups ws.assignment → ws.assignment.lanes ≤ 4096 →
@@ -110,14 +110,14 @@ pub fn what_is_in_no_component_makes_no_difference()
         (IsSafe (reading (wiring_of d ws) kept) ↔ IsSafe (reading (wiring_of d ws) (place ∷ kept))) }
 {}
 
-/// Workqueues have only one list of components.
+/// Workqueues have at most one list of components.
 pub fn components_are_the_only_ones()
     ensures { (d : Declaration) (ws : Workqueues) (one other : List (List WaitArc)) →
         AreComponents d ws one → AreComponents d ws other → one ≡ other }
 {}
 
-/// A declaration and an assignment, or a declaration alone, have at most one answer: one end, and one text that is
-/// printed. So `what_is_said_changes_no_answer` holds of the command.
+/// A declaration and an assignment, or a declaration alone, have at most one answer: one end, and one printed text. So
+/// `what_is_said_changes_no_answer` holds for the command.
 pub fn circles_have_one_answer<A: Allocator>()
     ensures end { (declared text : List ℕ) (end other : End) (out printed : List ℕ) →
         Circles declared text end out → Circles declared text other printed → end ≡ other }
@@ -131,9 +131,9 @@ pub fn circles_have_one_answer<A: Allocator>()
         (λ s texts (found : Found (Circling A)) end out. CirclesTexts assigned s texts found end out) }
 {}
 
-/// An answer keeps its promise. Where `safe` is printed, no run ends stuck. Else some run deadlocks, and exactly those
-/// declared flushes are printed whose target's workqueue leads to that of their item by way of workqueues that have a
-/// rescuer, and, after `norescuer`, those that lead from a workqueue that has a rescuer to one that has none.
+/// An answer keeps its promise. If `safe` is printed, no run ends stuck. Otherwise some run deadlocks, and exactly
+/// those declared flushes are printed whose target's workqueue leads to that of their item by way of workqueues that
+/// have a rescuer, and, after `norescuer`, those that lead from a workqueue that has a rescuer to one that has none.
 pub fn circles_keep_their_promise()
     ensures assigned { (declared text : List ℕ) (end : End) (out : List ℕ) →
         Circles declared text end out → KeepsCircles declared text end out }
@@ -141,8 +141,8 @@ pub fn circles_keep_their_promise()
         KeepsOwnCircles declared end out }
 {}
 
-/// A run of `circles` ends like a run of `deadlock` that is given the same texts or, where no assignment is named, like
-/// one of `plan`. So `safe` is printed exactly where `deadlock` prints it, or where `plan` prints a plan text.
+/// A run of `circles` ends like a run of `deadlock` with the same texts or, if no assignment is named, like a run of
+/// `plan`. So `safe` is printed exactly if `deadlock` prints it, or if `plan` prints a plan text.
 pub fn the_end_is_that_of_the_other_commands()
     ensures deadlock { (declared text : List ℕ) (end other : End) (out printed : List ℕ) →
         Circles declared text end out → Judges declared text other printed → end ≡ other }
@@ -150,15 +150,15 @@ pub fn the_end_is_that_of_the_other_commands()
         OwnCircles declared end out → Answers declared other printed → end ≡ other }
 {}
 
-/// The flushes that `deadlock` and `circles` take as leading to no rescuer are exactly those that lead from a
+/// The flushes that `deadlock` and `circles` regard as leading to no rescuer are exactly those that lead from a
 /// workqueue that has a rescuer to one that has none, in order of place.
 pub fn bare_waits_are_the_flushes_that_lead_to_no_rescuer()
     ensures { (d : Declaration) (ws : Workqueues) → IsDeclaration d → IsAssignment d.groups ws.assignment →
         AreForBare d ws (bare_waits d ws) }
 {}
 
-/// Where there is no such flush, the workqueues of the items that the run of `deadlock` queues first wait in a
-/// circle: each has a rescuer and waits for the next, and the last for the first.
+/// If no flush leads to a workqueue without a rescuer, the workqueues of the items that the run of `deadlock` queues
+/// first wait in a circle: each has a rescuer and waits for the next, and the last for the first.
 pub fn the_workqueues_of_the_first_items_wait_in_a_circle()
     ensures first { (d : Declaration) (ws : Workqueues) (first : List ℕ) → IsDeclaration d →
         IsAssignment d.groups ws.assignment → AreFirst d ws [] first →
@@ -170,22 +170,22 @@ pub fn the_workqueues_of_the_first_items_wait_in_a_circle()
         × (circle.first ∷ circle.others ≡ map (item_lane ws.assignment d.group_of) hang.first) }
 {}
 
-/// A text of workqueues in which no line begins with `norescuer` keeps the answer that it has as the text of an
-/// assignment: the components alone are printed, and `safe` exactly where there is none.
+/// If no line of a text of workqueues begins with `norescuer`, its answer is that to the text of an assignment: only
+/// the components are printed, and `safe` exactly if there is none.
 pub fn a_text_without_norescuer_lines_keeps_its_components()
     ensures { (declared text : List ℕ) (end : End) (out : List ℕ) →
         list_any is_bare_line (cert_lines (lines_of text)) ≡ false →
         (Circles declared text end out ↔ CirclesAllRescued declared text end out) }
 {}
 
-/// Two vertices have the same answer exactly where they are together.
+/// Two vertices have the same lowest-numbered vertex exactly if they are strongly connected.
 pub fn the_lowest_tells_who_are_together()
     ensures { (graph : List (List WaitArc)) (lowest : List ℕ) (v w : ℕ) →
         AreLowest (HasArc graph) (length graph) lowest → v < length graph →
         w < length graph → (slice_index lowest v ≡ slice_index lowest w) ↔ AreTogether (HasArc graph) v w }
 {}
 
-/// The answer for a vertex is never above it. There is at most one list of answers.
+/// The lowest-numbered vertex for a vertex is never above it. There is at most one list of these.
 pub fn the_list_is_the_only_one()
     ensures below { (graph : List (List WaitArc)) (lowest : List ℕ) (v : ℕ) →
         AreLowest (HasArc graph) (length graph) lowest →

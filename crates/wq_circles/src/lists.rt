@@ -1,6 +1,6 @@
-//! For each vertex the heads of its arcs, and the vertices whose arcs lead to it.
+//! For each vertex, the heads of its arcs, and the vertices whose arcs lead to it. Both take
 //!
-//! Both take time and memory in the number of vertices and arcs.
+//!   O(vertices + arcs) time and memory.
 
 ghost use Rattle.std.specs.Prelude.{◌≡◌, ◌<◌, length, map, replicate, [], IfOk};
 ghost use Rattle.std.specs.List.{All};
@@ -9,7 +9,7 @@ ghost use Rattle.wq_circles.specs.Lists.{AreTurned, HasTails, head_lists};
 use std::alloc::{AllocError, Allocator};
 use wq_graph::{WaitArc, WaitGraph};
 
-/// The heads of these arcs, in their order.
+/// The heads of these arcs, in the order of the arcs.
 fn arc_heads<A: Allocator + Copy>(alloc: A, arcs: &[WaitArc]) -> Result<Vec<u16, A>, AllocError>
     ensures { IfOk result (λ heads. heads.items ≡ map (λ a. a.head) arcs.now) }
 {
@@ -20,7 +20,7 @@ fn arc_heads<A: Allocator + Copy>(alloc: A, arcs: &[WaitArc]) -> Result<Vec<u16,
     Ok(heads)
 }
 
-/// The heads of each vertex's arcs, in turn.
+/// The heads of each vertex's arcs, in vertex order.
 pub(crate) fn heads<A: Allocator + Copy>(
     alloc: A,
     graph: &WaitGraph<A>,
@@ -46,7 +46,7 @@ fn empty_lists<A: Allocator + Copy>(alloc: A, count: u16) -> Result<Vec<Vec<u16,
     Ok(lists)
 }
 
-/// Adds a vertex to the list of each of these heads.
+/// Appends a vertex to the list of each of these heads.
 fn add_tail<A: Allocator + Copy>(
     lists: &mut Vec<Vec<u16, A>, A>,
     vertex: u16,
@@ -63,7 +63,7 @@ fn add_tail<A: Allocator + Copy>(
     Ok(())
 }
 
-/// For each vertex in turn, those that have it in their lists.
+/// For each vertex, those that have it in their lists.
 pub(crate) fn tails<A: Allocator + Copy>(
     alloc: A,
     heads: &[Vec<u16, A>],

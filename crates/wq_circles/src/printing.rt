@@ -1,7 +1,7 @@
 //! Components texts: how many components there are, and the arcs of each.
 //!
-//! The format is that of "The command `circles`" in docs/FORMAT.md. Printing takes time and memory in the length of the
-//! text, and for each arc time in the logarithm of the number of its item's flushes.
+//! The format is that of "The command `circles`" in docs/FORMAT.md. Printing takes time and memory linear in the length
+//! of the text, and O(log n) time for each arc of an item with n flushes.
 
 ghost use Rattle.std.specs.Prelude.{◌≡◌, ◌<◌, ◌++◌, ◌^◌, length, map, flat_map, IfOk, OnOk};
 ghost use Rattle.std.specs.List.{All};
@@ -16,7 +16,7 @@ use wq_graph::WaitArc;
 use wq_items::ItemTable;
 use wq_text::{put, put_end, put_number, put_word};
 
-/// Adds a line of a word and a count, as `components N`.
+/// Appends a line of a word and a count, as `components N`.
 fn put_count_line<A: Allocator + Copy>(
     out: &mut Vec<u8, A>,
     word: &[u8],
@@ -30,7 +30,7 @@ fn put_count_line<A: Allocator + Copy>(
     put_end(out)
 }
 
-/// Adds the line of an arc: `arc`, or `arc?` if its flush is unsure, and its ends.
+/// Appends the line of an arc: `arc`, or `arc?` if its flush is unsure, and its ends.
 fn put_arc<A: Allocator + Copy>(
     out: &mut Vec<u8, A>,
     table: &ItemTable<'_, A>,
@@ -50,7 +50,7 @@ fn put_arc<A: Allocator + Copy>(
     put_end(out)
 }
 
-/// Adds this word with the number of arcs, and the arcs.
+/// Appends this word with the number of arcs, and the arcs.
 fn put_arcs<A: Allocator + Copy>(
     out: &mut Vec<u8, A>,
     table: &ItemTable<'_, A>,
@@ -70,8 +70,8 @@ fn put_arcs<A: Allocator + Copy>(
 
 /// The text of components: how many there are, and the arcs of each, each arc as an item and its target.
 ///
-/// There are fewer than 4,294,967,296 components, and each has fewer than 4,294,967,296 arcs, from items of the table
-/// to items of it. The only error is out of memory (20).
+/// There must be fewer than 2^32 components, each with fewer than 2^32 arcs, between items of the table. The only error
+/// is out of memory (20).
 fn components_text<A: Allocator + Copy>(
     alloc: A,
     table: &ItemTable<'_, A>,
@@ -90,7 +90,7 @@ fn components_text<A: Allocator + Copy>(
     Ok(out)
 }
 
-/// Adds flushes that lead to workqueues without a rescuer: `norescuer M` and the arcs, where there are any.
+/// Appends flushes that lead to workqueues without a rescuer: `norescuer M` and the arcs, if there are any.
 fn put_bare<A: Allocator + Copy>(
     out: &mut Vec<u8, A>,
     table: &ItemTable<'_, A>,

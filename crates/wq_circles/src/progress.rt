@@ -1,7 +1,7 @@
-//! What a search has found so far: a mark for each vertex, and the marked vertices
-//! in the order in which they were found.
+//! What a search has found so far: a mark for each vertex, and the marked vertices in the order in which they were
+//! found.
 //!
-//! Noting a vertex takes constant time. Making the marks takes time and memory in the number of vertices.
+//! Noting a vertex takes constant time. Making the marks takes time and memory linear in the number of vertices.
 
 ghost use Rattle.std.specs.Prelude.{◌≡◌, ◌<◌, ◌≤◌, length, drop, replicate, false, [], slice_get, IfOk};
 ghost use Rattle.std.specs.List.{All};
@@ -26,7 +26,7 @@ impl<A: Allocator> Model for FoundVertices<A> {
 }
 
 impl<A: Allocator + Copy> FoundVertices<A> {
-    /// Nothing found yet, for this many vertices.
+    /// A search among this many vertices that has found none yet.
     pub(crate) fn none(alloc: A, vertices: usize) -> Result<Self, AllocError>
         ensures marks { IfOk result (λ p. p.marks ≡ replicate vertices false) }
         ensures order { IfOk result (λ p. p.order ≡ []) }
@@ -36,7 +36,7 @@ impl<A: Allocator + Copy> FoundVertices<A> {
         Ok(FoundVertices { marks, order })
     }
 
-    /// Whether a vertex was found.
+    /// Whether a vertex has been found.
     pub(crate) fn has(&self, vertex: u16) -> bool
         requires { vertex < length self.now.marks }
         ensures { result ≡ is_marked self.now.marks vertex }
@@ -44,7 +44,7 @@ impl<A: Allocator + Copy> FoundVertices<A> {
         self.marks[usize::from(vertex)]
     }
 
-    /// Notes that a vertex was found.
+    /// Notes that a vertex has been found.
     pub(crate) fn note(&mut self, vertex: u16) -> Result<(), AllocError>
         requires { vertex < length self.old.marks }
         ensures { IfOk result (λ _. self.new ≡ with_found self.old vertex) }
@@ -57,7 +57,7 @@ impl<A: Allocator + Copy> FoundVertices<A> {
         Ok(())
     }
 
-    /// Notes that each of these vertices was found.
+    /// Notes that each of these vertices has been found.
     pub(crate) fn note_all(&mut self, vertices: &[u16]) -> Result<(), AllocError>
         requires { All (λ w. w < length self.old.marks) vertices.now }
         ensures { IfOk result (λ _. self.new ≡ with_all_found self.old vertices.now) }
@@ -68,21 +68,21 @@ impl<A: Allocator + Copy> FoundVertices<A> {
         Ok(())
     }
 
-    /// How many vertices were found.
+    /// How many vertices have been found.
     pub(crate) fn count(&self) -> usize
         ensures { result ≡ length self.now.order }
     {
         self.order.len()
     }
 
-    /// The vertex that was found at this index of the order, where that many were found.
+    /// The vertex at index `place` of the order, if that many have been found.
     pub(crate) fn nth(&self, place: usize) -> Option<u16>
         ensures { result ≡ slice_get self.now.order place }
     {
         self.order.get(place).copied()
     }
 
-    /// The vertices that were found from this index of the order on.
+    /// The vertices that have been found from index `place` of the order on.
     pub(crate) fn since(&self, place: usize) -> &[u16]
         requires { place ≤ length self.now.order }
         ensures { result.now ≡ drop place self.now.order }

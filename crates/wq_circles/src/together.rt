@@ -1,10 +1,12 @@
-//! For each vertex the lowest-numbered one that waits for it and that it waits for.
+//! Strongly connected components: for each vertex, the lowest-numbered vertex of its component.
 //!
 //! A depth-first search gives the order in which the vertices are finished. They are then taken in the reverse of that
-//! order. Each vertex that wasn't found yet finds its component by a search against the arcs, and the lowest-numbered
-//! vertex found is the answer for all of them (S. R. Kosaraju; M. Sharir, "A strong-connectivity algorithm and its
-//! applications in data flow analysis", Computers and Mathematics with Applications 7, 1981). It takes time and memory
-//! in the number of vertices and arcs.
+//! order: each vertex that hasn't been found yet finds its component by a search against the arcs, and the
+//! lowest-numbered vertex found is the result for all of them (S. R. Kosaraju; M. Sharir, "A strong-connectivity
+//! algorithm and its applications in data flow analysis", Computers and Mathematics with Applications 7, 1981). It
+//! takes
+//!
+//!   O(vertices + arcs) time and memory.
 
 ghost use Rattle.std.specs.Prelude.{◌≡◌, ◌<◌, ◌≤◌, length, map, false, MatchOption, IfOk, IfErr};
 ghost use Rattle.std.specs.List.{All};
@@ -20,7 +22,7 @@ use crate::progress::FoundVertices;
 use std::alloc::{AllocError, Allocator};
 use wq_graph::WaitGraph;
 
-/// Finds a vertex that wasn't found yet, and all that it leads to, from list to list, over vertices that weren't found.
+/// Finds the unfound vertex `root` and all that it leads to, from list to list, by way of unfound vertices.
 fn spread<A: Allocator + Copy>(
     found: &mut FoundVertices<A>,
     lists: &[Vec<u16, A>],
@@ -49,7 +51,7 @@ fn least(vertices: &[u16]) -> Option<u16>
     vertices.iter().copied().min()
 }
 
-/// Makes the lowest of these vertices the answer for each of them.
+/// Sets the result for each of these vertices to the lowest of them.
 fn settle(lowest: &mut [u16], vertices: &[u16])
     requires { All (λ v. v < length lowest.old) vertices.now }
     ensures { AreSettled vertices.now lowest.old lowest.new }
@@ -61,8 +63,8 @@ fn settle(lowest: &mut [u16], vertices: &[u16])
     }
 }
 
-/// For each vertex the lowest-numbered one of its component. The lists hold the tails of arcs. The vertices are given
-/// in the order in which a depth-first search along the arcs finishes them.
+/// For each vertex, the lowest-numbered one of its strongly connected component. `tails` has the tails of the arcs that
+/// lead to each vertex; `finished` is the order in which a depth-first search along the arcs finishes the vertices.
 fn lowest_of_components<A: Allocator + Copy>(
     alloc: A,
     tails: &[Vec<u16, A>],
@@ -86,8 +88,8 @@ fn lowest_of_components<A: Allocator + Copy>(
     Ok(lowest)
 }
 
-/// For each vertex the lowest-numbered one that is together with it. Two vertices are together where they are the same,
-/// or where each leads to the other.
+/// For each vertex, the lowest-numbered one that is together with it. Two vertices are together if they are the same or
+/// each leads to the other: if they are in one strongly connected component.
 ///
 /// The only error is out of memory (20), which can't occur for a graph without vertices.
 pub(crate) fn lowest<A: Allocator + Copy>(

@@ -1,7 +1,7 @@
 //! Whether the flush of an arc is unsure.
 //!
-//! The flushes of an item are in order of place, so the one at a place is found by halving. This takes time in the
-//! logarithm of their number.
+//! The flushes of an item are in order of place, so the one at a place is found by binary search, in O(log n) time for
+//! n flushes.
 
 ghost use Rattle.std.specs.Prelude.{◌≡◌, ◌<◌, length};
 ghost use Rattle.wq_circles.specs.ComponentsText.{is_unsure_arc};
@@ -15,7 +15,7 @@ pub fn is_unsure<A: Allocator + Copy>(table: &ItemTable<'_, A>, flush: WaitArc) 
     requires { flush.src < length table.now.names }
     ensures { result ≡ is_unsure_arc table.now.waits flush }
 {
-    // What holds of every table.
+    // What holds for every table.
     let _items = table.len();
     let targets = table.waits(flush.src);
     match targets.binary_search_by_key(&flush.place, |target| target.place) {

@@ -1,4 +1,4 @@
-//! A depth-first search in progress: its steps.
+//! The steps of a depth-first search in progress.
 //!
 //! Each vertex is visited once and finished once, and each place of its list is passed once. Apart from the places that
 //! it passes, a step takes constant time.
@@ -35,7 +35,7 @@ impl<A: Allocator> Model for Walk<A> {
     } };
 }
 
-/// The first index of this list, from `from` on, with a vertex that wasn't visited, or the length of the list.
+/// The first index of `heads`, from `from` on, with an unvisited vertex, or the length of the list.
 fn next_unvisited(heads: &[u16], visited: &[bool], from: usize) -> usize
     requires { All (λ w. w < length visited.now) heads.now }
     ensures passed { (k : ℕ) → from ≤ k → k < result → k < length heads.now
@@ -51,7 +51,7 @@ fn next_unvisited(heads: &[u16], visited: &[bool], from: usize) -> usize
 }
 
 impl<A: Allocator + Copy> Walk<A> {
-    /// Nothing visited yet, for this many vertices.
+    /// A search among this many vertices that has visited none yet.
     pub(crate) fn none(alloc: A, vertices: usize) -> Result<Self, AllocError>
         ensures visited { IfOk result (λ w. w.visited ≡ replicate vertices false) }
         ensures followed { IfOk result (λ w. w.followed ≡ replicate vertices 0) }
@@ -70,7 +70,7 @@ impl<A: Allocator + Copy> Walk<A> {
         })
     }
 
-    /// Whether a vertex was visited.
+    /// Whether a vertex has been visited.
     pub(crate) fn has(&self, vertex: u16) -> bool
         requires { vertex < length self.now.visited }
         ensures { result ≡ is_marked self.now.visited vertex }
@@ -78,14 +78,14 @@ impl<A: Allocator + Copy> Walk<A> {
         self.visited[usize::from(vertex)]
     }
 
-    /// The vertex where the search is.
+    /// The vertex where the search is: the last of its path.
     pub(crate) fn top(&self) -> Option<u16>
         ensures { result ≡ slice_get self.now.path (length self.now.path - 1) }
     {
         self.path.last().copied()
     }
 
-    /// Comes to a vertex.
+    /// Visits a vertex, the next of the path.
     pub(crate) fn visit(&mut self, vertex: u16) -> Result<(), AllocError>
         requires { vertex < length self.old.visited }
         ensures { IfOk result (λ _. self.new ≡ with_visited self.old vertex) }
@@ -95,7 +95,7 @@ impl<A: Allocator + Copy> Walk<A> {
         Ok(())
     }
 
-    /// Goes back from the vertex where the search is.
+    /// Finishes the vertex where the search is, and goes back.
     fn finish(&mut self, vertex: u16) -> Result<(), AllocError>
         ensures { IfOk result (λ _. self.new ≡ with_vertex_finished self.old vertex) }
     {
@@ -104,7 +104,7 @@ impl<A: Allocator + Copy> Walk<A> {
         Ok(())
     }
 
-    /// Passes the places of the list that hold visited vertices, and gives the first vertex that wasn't visited.
+    /// Passes the places of the list that hold visited vertices, and returns the first unvisited vertex.
     fn follow(&mut self, heads: &[u16], vertex: u16) -> Option<u16>
         requires vertex { vertex < length self.old.followed }
         requires within { All (λ w. w < length self.old.visited) heads.now }
@@ -116,7 +116,7 @@ impl<A: Allocator + Copy> Walk<A> {
         heads.get(place).copied()
     }
 
-    /// Comes to the next vertex that wasn't visited, or goes back where there is none.
+    /// Visits the next unvisited vertex or, if there is none, goes back.
     pub(crate) fn step(&mut self, lists: &[Vec<u16, A>], vertex: u16) -> Result<(), AllocError>
         requires walk { IsWalkSoFar (map (λ l. l.items) lists.now) self.old }
         requires top { slice_get self.old.path (length self.old.path - 1) ≡ Some vertex }
@@ -130,7 +130,7 @@ impl<A: Allocator + Copy> Walk<A> {
         }
     }
 
-    /// The vertices that are finished, in that order.
+    /// The finished vertices, in the order in which they were finished.
     pub(crate) fn into_finished(self) -> Vec<u16, A>
         ensures { result.items ≡ self.finished }
     {

@@ -1,9 +1,9 @@
 -- Counting: how many rows there are of an item or a lane, of a kind and with an answer.
 --
 -- Every row is counted except those of starts, which no seat counts. A row of a helper's step counts as that of the
--- same step of the rescuer. A row of a wait, or of its end, counts for the item that is waited for, and if a whole
--- lane is waited for, for the item that names it. A caller's ask about a whole lane, and the end of its wait, count for
--- the lane. Counts stand in slots: slot n holds those of item n and those of lane n.
+-- same step of the rescuer. A row of a wait, or of its end, counts for the item that is waited for or, if a whole lane
+-- is waited for, for the item that names the lane. A caller's ask about a whole lane, and the end of its wait, count
+-- for the lane. Counts stand in slots: slot n holds those of item n and those of lane n.
 use Rattle.std.specs.Prelude.{◌≡◌, ℕ, ◌+◌, ◌*◌, ◌<◌, ◌==◌, ◌&&◌, Option, Some, None, option_map, is_some, Bool, true}
 use Rattle.std.specs.Prelude.{false, List, length, slice_index, slice_set}
 use Rattle.std.specs.List.{All, count_by}
@@ -26,7 +26,7 @@ use Rattle.wq_counts.specs.declared.kind.LaneKind.TheVariants.{Ask as AskLaneKin
 
 -- ---- kinds
 
--- the kind of a helper's step, if it is counted: that of the same step of the rescuer
+-- the kind of a helper's step, if it is counted: that of the rescuer's step
 abbrev pub help_kind_in : HelpStep → Option Kind
 help_kind_in (DoStart i) = None
 help_kind_in (DoWait b) = Some WaitKind
@@ -55,12 +55,12 @@ lane_kind_in (AskLane q) = Some AskLaneKind
 lane_kind_in (ToldLane q) = Some ToldLaneKind
 lane_kind_in _ = None
 
--- the kind of a wait, for an item or a whole lane
+-- the kind of a wait: for an item, or for a whole lane
 abbrev pub wait_kind : Bool → Kind
 wait_kind false = WaitKind
 wait_kind true = WaitAllKind
 
--- the kind of the end of such a wait
+-- the kind of the end of a wait: for an item, or for a whole lane
 abbrev pub over_kind : Bool → Kind
 over_kind false = OverKind
 over_kind true = OverAllKind
@@ -190,11 +190,11 @@ abbrev pub raised_where : List ℕ → Option ℕ → List ℕ
 raised_where counts None = counts
 raised_where counts (Some p) = raised_at counts p
 
--- counts after one more row of this event and with this answer, which is counted unless it is of a start
+-- the counts after one more row of this event with this answer; a start isn't counted
 abbrev pub noted_as : List ℕ → Event → Bool → List ℕ
 noted_as counts event said = raised_where counts (counted_place event said)
 
--- counts after one more row
+-- the counts after one more row
 abbrev pub noted : List ℕ → Row → List ℕ
 noted counts row = noted_as counts row.event row.yes
 
@@ -233,7 +233,7 @@ tally_lane rows q kind said = count_by (is_of_lane q kind said) rows
 abbrev pub counted_rows : List Row → ℕ
 counted_rows rows = count_by (λ (row : Row). is_counted row.event) rows
 
--- this is the place, if there is one
+-- the place is this one, if there is one
 abbrev pub is_at : Option ℕ → ℕ → Bool
 is_at None p = false
 is_at (Some own) p = own == p
@@ -242,8 +242,7 @@ is_at (Some own) p = own == p
 abbrev pub raises : ℕ → Row → Bool
 raises p row = is_at (counted_place row.event row.yes) p
 
--- the counts of this many slots are the tallies of the rows: at each place there is
--- the number of the rows that are counted there
+-- the counts of this many slots are the tallies of the rows: each place has the number of rows that are counted there
 abbrev pub AreTallies : ℕ → List Row → List ℕ → Type 0
 AreTallies slots rows counts = (p : ℕ) → p < counts_each * slots → slice_index counts p ≡ count_by (raises p) rows
 

@@ -1,9 +1,9 @@
-//! How many rows there are, for each item or lane, kind and answer, and in total.
+//! Counts of rows by item or lane, kind and answer, and in total.
 //!
-//! Counts stand in slots. A slot has 22 counts, two for each kind, no before yes: those of the item with its number,
-//! for each of the 9 kinds, and then those of the lane with its number, for each of the 2 kinds of a lane. So there are
-//! as many slots as items or lanes, whichever are more. `new`, `add` and `is_same` take time in the number of slots.
-//! Each other call takes constant time. Only `new` takes memory: 8 bytes for each count.
+//! Counts are kept in slots of 22: for each kind two, no before yes. A slot has the counts of the item with its number,
+//! for each of the 9 kinds of an item, and then those of the lane with its number, for each of the 2 kinds of a lane.
+//! So there are as many slots as items or lanes, whichever are more. `new`, `add` and `is_same` take time linear in the
+//! number of slots, each other call constant time. Only `new` allocates: 8 bytes for each count.
 
 ghost use Rattle.std.specs.Prelude.{◌≡◌, ℕ, ◌+◌, ◌*◌, ◌<◌, ◌≤◌, ◌↔◌, IsTrue, length, replicate, sum, slice_index};
 ghost use Rattle.std.specs.Prelude.{if◌then◌else◌, IfOk, OnErr, true};
@@ -54,7 +54,7 @@ fn lane_place(lane: LaneId, kind: LaneKind, yes: bool) -> usize
     COUNTS_EACH * usize::from(lane.get()) + 2 * kind.place() + usize::from(yes)
 }
 
-/// The index of the count of a helper's step and an answer: that of the rescuer's; none for a start.
+/// The index of the count of a helper's step and an answer: that of the rescuer's step; `None` for a start.
 #[inline(always)]
 fn help_place(step: &HelpStep, yes: bool) -> Option<usize>
     ensures { result ≡ help_place_of step.now yes }
@@ -63,7 +63,7 @@ fn help_place(step: &HelpStep, yes: bool) -> Option<usize>
     Some(place(step.item(), kind, yes))
 }
 
-/// The index of the count of an event and an answer; none for a start.
+/// The index of the count of an event and an answer; `None` for a start.
 #[inline(always)]
 fn counted_place(event: &Event, yes: bool) -> Option<usize>
     ensures { result ≡ counted_place_of event.now yes }
@@ -85,7 +85,7 @@ fn counted_place(event: &Event, yes: bool) -> Option<usize>
     }
 }
 
-/// Adds to each number the one at the same place of the other slice.
+/// Adds to each number the one at the same index of the other slice.
 fn add_each(counts: &mut [u64], more: &[u64])
     requires items { length counts.old ≡ length more.now }
     requires few { sum counts.old + sum more.now < 18446744073709551616 }
@@ -109,7 +109,7 @@ impl<A: Allocator> Counts<A> {
         Ok(Counts { counts, total: 0 })
     }
 
-    /// The count at a place; 0 if there is no such place.
+    /// The count at an index; 0 if there is no such index.
     fn at(&self, place: usize) -> u64
         ensures { result ≡ slice_index self.now place }
     {
@@ -119,14 +119,14 @@ impl<A: Allocator> Counts<A> {
         }
     }
 
-    /// How many rows of an item and a kind there are, with an answer; 0 for an item that doesn't exist.
+    /// How many rows of an item and a kind have this answer; 0 for an item that doesn't exist.
     pub fn made(&self, item: ItemId, kind: Kind, yes: bool) -> u64
         ensures { result ≡ made self.now item kind yes }
     {
         self.at(place(item, kind, yes))
     }
 
-    /// How many asks about a lane there are, with an answer; 0 for a lane that doesn't exist.
+    /// How many asks about a lane have this answer; 0 for a lane that doesn't exist.
     pub fn asked_lane(&self, lane: LaneId, yes: bool) -> u64
         ensures { result ≡ asked_lane self.now lane yes }
     {
@@ -147,7 +147,7 @@ impl<A: Allocator> Counts<A> {
         self.total
     }
 
-    /// Counts another row at a place.
+    /// Counts another row at an index.
     #[inline(always)]
     fn raise_at(&mut self, place: usize)
         requires place { place < length self.old }
@@ -160,7 +160,7 @@ impl<A: Allocator> Counts<A> {
         self.total += 1;
     }
 
-    /// Counts another row of an event, with an answer. That of a start raises no count.
+    /// Counts another row of an event, with an answer. A start raises no count.
     #[inline(always)]
     pub fn note_as(&mut self, event: &Event, yes: bool)
         requires slot { counts_each * slot_in event.now + counts_each ≤ length self.old }
@@ -186,7 +186,7 @@ impl<A: Allocator> Counts<A> {
         self.total += other.total;
     }
 
-    /// Whether there are as many slots in both, and all counts are the same.
+    /// Whether both have the same number of slots and the same counts.
     pub fn is_same(&self, other: &Self) -> bool
         ensures { IsTrue result ↔ (self.now ≡ other.now) }
     {

@@ -1,7 +1,7 @@
-//! Kinds of rows that are counted: those of all events except starts, which no seat counts.
+//! Kinds of rows that are counted: those of all events but starts, which no seat counts.
 //!
 //! The events are those of wq_rows. A helper's step counts as the same step of the rescuer. Asks about a whole lane,
-//! and the ends of such waits, are counted for the lane; all others for an item. Each answer takes constant time.
+//! and the ends of such waits, are counted for the lane; all others for an item. Each call takes constant time.
 
 ghost use Rattle.std.specs.Prelude.{◌≡◌};
 ghost use Rattle.wq_counts.specs.Counting.{help_kind_in, kind_in, kind_place, lane_kind_place};
@@ -12,13 +12,13 @@ use wq_rows::Event;
 /// The kind of a row that is counted for an item.
 #[derive(Clone, Copy, Debug, PartialEq, Eq)]
 pub enum Kind {
-    /// The item was to be queued.
+    /// A request to queue the item.
     Queue,
-    /// The pending entry of the item was to be removed.
+    /// A request to remove the pending entry of the item.
     Cancel,
     /// A lane began to wait for the item.
     Wait,
-    /// A lane had waited for the item.
+    /// A lane ended its wait for the item.
     Over,
     /// A caller asked whether the item has an unfinished entry.
     Ask,
@@ -28,7 +28,7 @@ pub enum Kind {
     Finish,
     /// A lane began to wait for the whole lane of the item.
     WaitAll,
-    /// A lane had waited for the whole lane of the item.
+    /// A lane ended its wait for the whole lane of the item.
     OverAll,
 }
 
@@ -55,7 +55,7 @@ impl Kind {
         Kind::OverAll,
     ];
 
-    /// The kind of a helper's step: that of the same step of the rescuer; none for a start.
+    /// The kind of a helper's step: that of the rescuer's step; `None` for a start.
     pub(crate) fn of_help(step: &HelpStep) -> Option<Self>
         ensures { result ≡ help_kind_in step.now }
     {
@@ -69,7 +69,7 @@ impl Kind {
         }
     }
 
-    /// The kind of an event that is counted for its item; none for a start, and for the events of a whole lane.
+    /// The kind of an event that is counted for its item; `None` for a start and for the events of a whole lane.
     pub fn of(event: &Event) -> Option<Self>
         ensures { result ≡ kind_in event.now }
     {
@@ -89,7 +89,7 @@ impl Kind {
         }
     }
 
-    /// Its place among the kinds, from 0.
+    /// The place of the kind among all kinds, from 0.
     pub(crate) fn place(self) -> usize
         ensures { result ≡ kind_place self }
     {
@@ -108,7 +108,7 @@ impl Kind {
 }
 
 impl LaneKind {
-    /// Its place among the kinds, from 9: after those of an item.
+    /// The place of the kind among all kinds, from 9: after those of an item.
     pub(crate) fn place(self) -> usize
         ensures { result ≡ lane_kind_place self }
     {

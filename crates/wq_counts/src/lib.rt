@@ -1,8 +1,8 @@
-//! Counts of rows: how many there are of each item or lane, of each kind and with each answer.
+//! Counts of rows, by item or lane, kind and answer.
 //!
-//! What the layers above rely on: a row raises exactly one count, or none if it is a start; the counts of two runs
-//! of rows are added place by place; and two lists of counts are equal exactly if each count is. So callers can
-//! count their own rows, and the sums of their counts can be compared with those of a whole history.
+//! The layers above rely on this: a row raises exactly one count, or none if it is a start; the counts of two runs of
+//! rows are added index by index; and two lists of counts are equal exactly if each count is. So callers can count
+//! their own rows, and compare the sums of their counts with those of a whole history.
 #![tactic(auto)]
 
 mod counts;

@@ -1,4 +1,4 @@
--- Verdicts on workqueues, of which some may have no rescuer.
+-- Verdicts on workqueues, some of which may have no rescuer.
 use Rattle.std.specs.Prelude.{◌≡◌, ℕ, ◌&&◌, not, Bool, false, List, [], ◌∷◌, filter, slice_index_or}
 use Rattle.wq_groups.specs.Declaration.{Declaration}
 use Rattle.wq_groups.specs.Assignment.{IsAssignment, item_lane}
@@ -20,7 +20,7 @@ is_on_bare ws group_of i = slice_index_or ws.bare (item_lane ws.assignment group
 abbrev pub leads_to_bare : Workqueues → List ℕ → WaitArc → Bool
 leads_to_bare ws group_of a = not (is_on_bare ws group_of a.src) && is_on_bare ws group_of a.dst
 
--- these flushes, in order of place
+-- the flushes that lead from a workqueue that has a rescuer to one that has none, in order of place
 abbrev pub bare_waits : Declaration → Workqueues → List WaitArc
 bare_waits d ws = filter (leads_to_bare ws d.group_of) (arcs_by_place d.waits d.group_of)
 
@@ -28,8 +28,8 @@ bare_waits d ws = filter (leads_to_bare ws d.group_of) (arcs_by_place d.waits d.
 abbrev pub rescued_graph : Declaration → Workqueues → List (List WaitArc)
 rescued_graph d ws = without ws.bare (lane_graph d ws.assignment)
 
--- these items are queued first: if some flush leads to a workqueue without a rescuer, the item of the first one; else
--- those of the circle of the walk among the lanes that have a rescuer
+-- these items are queued first: if some flush leads to a workqueue without a rescuer, the item of the first such flush;
+-- otherwise those of the circle of the walk among the lanes that have a rescuer
 abbrev pub AreFirst : Declaration → Workqueues → List WaitArc → List ℕ → Type 0
 AreFirst d ws (a ∷ more) first = first ≡ a.src ∷ []
 AreFirst d ws [] first =

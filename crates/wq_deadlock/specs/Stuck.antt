@@ -34,7 +34,7 @@ pub record StuckLanes : Type 0 where
 abbrev pub Awaits : State → ℕ → Waiting → Type 0
 Awaits s q flush = (r : Running) × Runs (lane_at s q) r × (r.waiting ≡ Some flush)
 
--- this item holds the wait back; if none is named, nothing holds it back
+-- this item, if one is given, holds the wait back; otherwise nothing does
 abbrev pub IsHeldBackBy : Wiring → State → Waiting → Option ℕ → Type 0
 IsHeldBackBy w s flush None = ¬ IsHeldBack w s flush.whole flush.target flush.mark
 IsHeldBackBy w s flush (Some i) = IsHolder w s flush.whole flush.target flush.mark i
@@ -47,12 +47,12 @@ IsKnown stuck q = slice_index_or stuck.known q false ≡ true
 abbrev pub held_back_by : StuckLanes → ℕ → List ℕ
 held_back_by stuck i = slice_index_or stuck.waiting i []
 
--- the lists after this item was found to hold back the wait of lane q, or none was
+-- the lists after this item, if any, was found to hold back the wait of lane q
 abbrev pub with_waiting : List (List ℕ) → ℕ → Option ℕ → List (List ℕ)
 with_waiting waiting q None = waiting
 with_waiting waiting q (Some i) = slice_set waiting i (slice_index_or waiting i [] ++ (q ∷ []))
 
--- what is known after lane q was found to be stuck, and this item to hold back its wait, or none
+-- what is known after lane q was found to be stuck, and this item, if any, to hold back its wait
 abbrev pub with_stuck : StuckLanes → ℕ → Option ℕ → StuckLanes
 with_stuck stuck q holder =
     record { known = slice_set stuck.known q true; waiting = with_waiting stuck.waiting q holder }
@@ -62,11 +62,11 @@ pub record IsReleased (old : StuckLanes) (i : ℕ) (new : StuckLanes) : Type 0 w
   pub known : (q : ℕ) → IsKnown new q → IsKnown old q × (¬ Contains (held_back_by old i) q)
   pub waiting : new.waiting ≡ slice_set old.waiting i []
 
--- below this lane every lane that was known to be stuck still is
+-- each lane below this one that was known to be stuck still is
 abbrev pub StayKnownBelow : ℕ → StuckLanes → StuckLanes → Type 0
 StayKnownBelow lowest old new = (q : ℕ) → q < lowest → IsKnown old q → IsKnown new q
 
--- a step was made: only a finish lets other lanes move
+-- what is known after a step: only a finish lets other lanes move
 abbrev pub IsAfter : StuckLanes → Step → StuckLanes → Type 0
 IsAfter old (Queue i) new = new ≡ old
 IsAfter old (Cancel i) new = new ≡ old

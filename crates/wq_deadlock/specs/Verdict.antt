@@ -40,7 +40,7 @@ abbrev pub IsVerdict : {A : Type 0} → Declaration → Assignment → Verdict A
 IsVerdict d a (verdict.Safe ranks) = IsSafeByRanks d a ranks.items
 IsVerdict d a (verdict.Deadlock steps) = IsDeadlock d a steps.items
 
--- no steps if one lane for each group is safe, and else the run by which it deadlocks
+-- no steps if one lane for each group is safe, or else the run by which that deadlocks
 abbrev pub IsGroupsRun : Declaration → Option (List Step) → Type 0
 IsGroupsRun d None = IsSafe (wiring d (own_lanes d.groups))
 IsGroupsRun d (Some steps) = IsDeadlock d (own_lanes d.groups) steps

@@ -1,7 +1,7 @@
 //! Flushes that lead to a workqueue without a rescuer.
 //!
 //! If an item whose workqueue has a rescuer waits for one whose workqueue has none, nothing guarantees that the wait
-//! is ever over. It takes time and memory in the number of items and flushes.
+//! ever ends. Finding these flushes takes O(items + flushes) time and memory.
 
 ghost use Rattle.std.specs.Prelude.{◌≡◌, ◌<◌, length, filter, IfOk, IfErr, OnErr};
 ghost use Rattle.std.specs.List.{All};
@@ -54,8 +54,8 @@ fn bare_among<A: Allocator + Copy>(
     Ok(waits)
 }
 
-/// The flushes that lead from a workqueue that has a rescuer to one that has none, in order of place; and what holds of
-/// each declaration with workqueues.
+/// The flushes that lead from a workqueue that has a rescuer to one that has none, in order of place; and what holds
+/// for each declaration with workqueues.
 ///
 /// The only error is out of memory (20), which can't occur if there is no workqueue.
 pub fn bare_waits<A: Allocator + Copy>(

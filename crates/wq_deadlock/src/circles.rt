@@ -1,7 +1,7 @@
 //! The run that shows a circle of groups: that of the assignment in which each group has a lane of its own.
 //!
-//! If groups wait in a circle, no assignment is safe, not even the one with as many lanes as there are groups. It
-//! takes as long as a verdict on that assignment.
+//! If groups wait in a circle, no assignment is safe, not even the one with as many lanes as groups. Finding the run
+//! takes the time of a verdict on that assignment.
 
 ghost use Rattle.std.specs.Prelude.{◌≡◌, ◌<◌, length, IfOk, OnErr};
 ghost use Rattle.std.specs.List.{range_with_len};
@@ -17,7 +17,7 @@ use wq_core::Step;
 use wq_groups::{Assignment, Groups, LaneId};
 use wq_items::ItemTable;
 
-/// The first `count` lanes in turn, from 0.
+/// The lanes 0 to `count` - 1, in order.
 fn lanes_in_turn<A: Allocator + Copy>(alloc: A, count: u16) -> Result<Vec<LaneId, A>, AllocError>
     ensures lanes { IfOk result (λ lanes. lanes.items ≡ range_with_len 0 count) }
     ensures memory { OnErr result (0 < count) }
@@ -43,8 +43,8 @@ pub fn own_lanes<A: Allocator + Copy>(
     Ok(Assignment::new(groups.len(), lanes).unwrap())
 }
 
-/// The run by which the assignment deadlocks in which group g has lane g. It is `None` exactly if that assignment is
-/// safe, and so where the groups wait in no circle. The groups are those of this table.
+/// The run that deadlocks if each group g has lane g. It is `None` exactly if that assignment is safe, and so if the
+/// groups don't wait in a circle. The groups must be those of this table.
 ///
 /// The only error is out of memory (20), which can't occur if there is no group.
 pub fn circle_run<A: Allocator + Copy>(

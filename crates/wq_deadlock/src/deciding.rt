@@ -1,10 +1,10 @@
 //! Whether an assignment is safe: ranks of its lanes, or the run of the circle in which they wait.
 //!
-//! The graph is that of the lanes, so groups that share a lane are one vertex: a group waits for
-//! all that is on the lanes of what it flushes. A chain of lanes with falling ranks can always move
-//! at its end; lanes in a circle may be unable to. The time is that of the graph and its ranks,
-//! and, where the lanes wait in a circle, that of the run: each of its steps asks a lane what it
-//! can do, and after each finish the stuck lanes below the one that moves next are skipped.
+//! The graph is that of the lanes, so groups that share a lane are one vertex: a group waits for all that is on the
+//! lanes of what it flushes. A chain of lanes with falling ranks can always move at its end; lanes in a circle may be
+//! unable to. The time is that of the graph and its ranks and, if the lanes wait in a circle, that of the run: each of
+//! its steps asks a lane what it can do, and after each finish, the stuck lanes below the one that moves next are
+//! skipped.
 
 ghost use Rattle.std.specs.Prelude.{◌≡◌, ◌<◌, length, IfOk, OnErr};
 ghost use Rattle.wq_graph.specs.Graph.{lane_graph};
@@ -50,12 +50,12 @@ fn run_of_circle<A: Allocator + Copy>(
     Ok(steps)
 }
 
-/// Whether an assignment of a table's items is safe. The groups are those of this
-/// table, and the assignment has a lane for each of them.
+/// Whether an assignment of a table's items is safe. The groups must be those of this table, and the assignment must
+/// have a lane for each of them.
 ///
 /// `Safe` has a rank for each lane, and ranks fall along every declared flush. `Deadlock` has the run of the circle in
-/// which the lanes wait, which ends stuck. The only error is out of memory (20), which can't occur if there is no
-/// lane; any other verdict is a list that takes memory.
+/// which the lanes wait, which ends stuck. The only error is out of memory (20), which can't occur if there is no lane:
+/// any other verdict is a list that takes memory.
 pub fn verdict<A: Allocator + Copy>(
     alloc: A,
     table: &ItemTable<'_, A>,

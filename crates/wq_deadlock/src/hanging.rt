@@ -1,5 +1,5 @@
-//! The run of items that hold up all that wait for them: they are queued first, and
-//! then all others, and what is queued is played.
+//! The run of items that hold up all that wait for them: these items are queued first, then all others, and what is
+//! queued is played to its end.
 
 ghost use Rattle.std.specs.Prelude.{◌≡◌, ◌≤◌, length, IfOk};
 ghost use Rattle.wq_core.specs.State.{empty_state};
@@ -12,7 +12,7 @@ use std::alloc::{AllocError, Allocator};
 use wq_core::{Core, Step};
 use wq_items::ItemId;
 
-/// The run of a machine on which nothing was queued yet, and on which these items hold one another up.
+/// The run of a machine on which nothing has been queued yet, where the items `first` hold one another up.
 pub(crate) fn hanging_run<A: Allocator + Copy>(
     alloc: A,
     mut core: Core<A>,
@@ -23,7 +23,7 @@ pub(crate) fn hanging_run<A: Allocator + Copy>(
     requires few { length first.now ≤ 4096 }
     ensures { IfOk result (λ steps. IsRunOf core.wiring first.now steps.items) }
 {
-    // What holds of every machine.
+    // What holds for every machine.
     let _items = core.items();
     let mut steps = queueings(alloc, &core, first)?;
     make_all(&mut core, steps.as_slice());

@@ -1,6 +1,4 @@
-//! The verdict on workqueues, of which some may have no rescuer.
-//!
-//! Nothing is computed here.
+//! The verdict on workqueues, some of which may have no rescuer.
 
 use std::alloc::Allocator;
 use wq_core::Step;
@@ -8,8 +6,8 @@ use wq_core::Step;
 /// Whether workqueues are safe, and what shows that they aren't.
 #[derive(Drop)]
 pub enum Judged<A: Allocator> {
-    /// They are: no run ends stuck.
+    /// The workqueues are safe: no run ends stuck.
     Safe,
-    /// They aren't: these steps are a run that ends stuck.
+    /// The workqueues aren't safe: these steps are a run that ends stuck.
     Deadlock(Vec<Step, A>),
 }

@@ -1,4 +1,4 @@
-//! Laws about verdicts, as contracts of functions with empty bodies. No code runs here: the clauses are the laws.
+//! Laws about verdicts, as contracts of functions with empty bodies.
 ghost use Rattle.std.specs.Prelude.{◌≡◌, ℕ, ◌+◌, ◌*◌, ◌≤◌, ◌↔◌, ◌⊎◌, List, length};
 ghost use Rattle.std.specs.List.{All};
 ghost use Rattle.wq_items.specs.Table.{flush_count};
@@ -15,13 +15,13 @@ ghost use Rattle.wq_core.specs.Played.{IsPlayedFrom};
 ghost use Rattle.wq_deadlock.specs.Bounds.{IsNamed};
 ghost use Rattle.wq_deadlock.specs.CircleRun.{IsCircleRun};
 
-/// If group g has lane g, the lanes wait as the groups do, arc by arc.
+/// If each group g has lane g, the lanes wait as the groups do, arc by arc.
 pub fn own_lanes_wait_as_groups_do()
     ensures { (d : Declaration) → IsDeclaration d → lane_graph d (own_lanes d.groups) ≡ group_graph d }
 {}
 
-/// Unsafe and deadlocking are the same. An assignment is safe, or some run deadlocks in which each item is queued once
-/// and flushes as declared, but not both.
+/// An assignment is either safe, or some run deadlocks in which each item is queued once and flushes as declared:
+/// unsafe and deadlocking are the same.
 pub fn unsafe_is_deadlocking()
     ensures one { (d : Declaration) (a : Assignment) → IsDeclaration d → IsAssignment d.groups a →
         IsSafe (wiring d a) ⊎ Deadlocks (wiring d a) }
@@ -41,7 +41,7 @@ pub fn a_circle_has_a_run()
         DeadlocksBy (wiring d a) steps }
 {}
 
-/// From a state only one run is played. So a circle has only one run.
+/// Only one run is played from a state. So a circle has only one run.
 pub fn the_run_is_the_only_one()
     ensures played { (w : Wiring) (s : State) (one other : List Step) →
         IsPlayedFrom w s one → IsPlayedFrom w s other → one ≡ other }
@@ -50,8 +50,8 @@ pub fn the_run_is_the_only_one()
 {}
 
 /// The steps of a run by which an assignment deadlocks name items and lanes that exist. There are at most three for
-/// each item, where it is queued, started and finished, and two for each declared flush, where a wait begins and is
-/// over. So there are 45,056 at most.
+/// each item, which is queued, started and finished, and two for each declared flush, whose wait begins and is over. So
+/// a run has at most 45,056 steps.
 pub fn a_deadlocking_run_is_bounded()
     ensures named { (d : Declaration) (a : Assignment) (steps : List Step) → IsDeclaration d → IsAssignment d.groups a →
         DeadlocksBy (wiring d a) steps → All (IsNamed (wiring d a)) steps }

@@ -1,9 +1,9 @@
-//! A machine that is played to its end: again and again the lowest lane that can move moves, and flushes as declared.
+//! Playing a machine to its end: again and again the lowest lane that can move moves, and flushes as declared.
 //!
-//! It is "Played" in the specs of `wq_core`. A lane that was found to be stuck is skipped until an item that holds back
-//! its wait is finished. If it waits for a whole workqueue, that is the item of the last entry that is waited for; a
-//! workqueue finishes its entries in order, so the wait is over then. All lanes below the one that moves are known to
-//! be stuck. So the search for the lowest lane goes on from the lane that moved, or, after a finish, from the lowest
+//! This is "Played" in the specs of `wq_core`. A lane that was found to be stuck is skipped until an item that holds
+//! back its wait is finished. If it waits for a whole workqueue, that is the item of the last entry that is waited for:
+//! a workqueue finishes its entries in order, so the wait is over then. All lanes below the one that moves are known to
+//! be stuck. So the search for the lowest lane goes on from the lane that moved or, after a finish, from the lowest
 //! lane that the finish released. Each lane is asked at most twice for each of its own steps, and once more.
 
 ghost use Rattle.std.specs.Prelude.{◌≡◌, ◌<◌, ◌≤◌, ℕ, length, IfOk, IfSome, OnOk, [], ◌∷◌, ◌++◌};
@@ -22,7 +22,7 @@ use wq_core::{Core, Step};
 use wq_groups::LaneId;
 use wq_items::ItemId;
 
-/// Has the machine make a step of a rescuer, which it can make, and notes the step.
+/// Makes the machine take a step of a rescuer, which must be possible, and notes the step.
 fn make<A: Allocator + Copy>(
     core: &mut Core<A>,
     steps: &mut Vec<Step, A>,
@@ -38,7 +38,7 @@ fn make<A: Allocator + Copy>(
     Ok(())
 }
 
-/// An item that holds back the wait of a lane, if it waits: an unfinished entry of it is waited for.
+/// An item that holds back the wait of a lane, if the lane waits: an unfinished entry of this item is waited for.
 fn holder<A: Allocator>(core: &Core<A>, q: LaneId) -> Option<ItemId>
     ensures item { IfSome result (λ i. i < items core.now.wiring) }
     ensures holder { (flush : Waiting) → Awaits core.now.state q flush
@@ -49,8 +49,8 @@ fn holder<A: Allocator>(core: &Core<A>, q: LaneId) -> Option<ItemId>
     core.holder(flush.whole, flush.target, flush.mark)
 }
 
-/// Has lanes that are known to be stuck asked again after a step of lane `q` that may let them move. Gives the lowest
-/// of them and `q`.
+/// Marks the lanes that a step of lane `q` may let move as no longer known to be stuck. Returns the lowest of them and
+/// `q`.
 fn release_after<A: Allocator>(stuck: &mut Stuck<'_, A>, q: LaneId, step: &Step) -> u16
     requires { (p i : ℕ) → step.now ≡ Finish p i → i < length stuck.old.waiting }
     ensures after { IsAfter stuck.old step.now stuck.new }
@@ -71,7 +71,7 @@ fn release_after<A: Allocator>(stuck: &mut Stuck<'_, A>, q: LaneId, step: &Step)
     }
 }
 
-/// Plays the machine to its end, and gives the steps.
+/// Plays the machine to its end, and returns the steps.
 pub(crate) fn play<A: Allocator + Copy>(
     alloc: A,
     core: &mut Core<A>,

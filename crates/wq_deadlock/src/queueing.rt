@@ -1,8 +1,8 @@
 //! The queueings with which the run of a circle begins.
 //!
-//! The items that flush along the circle's arcs come first, in the circle's order, and then all others, in declaration
-//! order. So each lane of the circle starts with an item that waits for the next lane, and no lane of the circle
-//! finishes anything. It takes time in the number of items times the length of the circle.
+//! The items that flush along the arcs of the circle come first, in the order of the circle, and then all others, in
+//! declaration order. So each lane of the circle starts with an item that waits for the next lane, and no lane of the
+//! circle finishes anything. With n items and a circle of length c, this takes O(n c) time.
 
 ghost use Rattle.std.specs.Prelude.{◌≡◌, ◌+◌, ◌<◌, ◌==◌, length, IfOk};
 ghost use Rattle.std.specs.List.{list_any};
@@ -33,7 +33,7 @@ fn is_among(item: ItemId, items: &[ItemId]) -> bool
     items.iter().any(|j| item == *j)
 }
 
-/// The queueings of all items of a machine: these first, and then the others.
+/// The queueings of all items of a machine: those of `first`, and then the others.
 pub(crate) fn queueings<A: Allocator + Copy>(
     alloc: A,
     core: &Core<A>,
@@ -55,7 +55,7 @@ pub(crate) fn queueings<A: Allocator + Copy>(
     Ok(steps)
 }
 
-/// Has the machine make the steps. It can make all of them.
+/// Makes the machine take these steps, all of which must be possible.
 pub(crate) fn make_all<A: Allocator>(core: &mut Core<A>, steps: &[Step])
     requires run { IsRunFrom core.old.wiring core.old.state steps.now }
     requires numbers { core.old.state.next + length steps.now < 4294967295 }

@@ -1,11 +1,11 @@
 //! Whether an assignment, or workqueues of which some have no rescuer, are safe: no run of them ends stuck.
 //!
-//! The rule is that of Documentation/core-api/workqueue.rst, "Guidelines": work items that are used
-//! during reclaim and depend on one another belong on separate workqueues with WQ_MEM_RECLAIM. If the
-//! workqueues have ranks that fall along every declared flush, a chain of workqueues can always move at
-//! its end. If they wait in a circle, some run ends stuck. This is asked once, when a runtime is
-//! made. No run and no machine is made for it. The wait graph of the workqueues takes time in the number
-//! of items, workqueues and flushes, and its ranks take time in that of workqueues and flushes.
+//! The rule is that of Documentation/core-api/workqueue.rst, "Guidelines": work items that are used during reclaim and
+//! depend on one another belong on separate workqueues with WQ_MEM_RECLAIM. If the workqueues have ranks that fall
+//! along every declared flush, a chain of workqueues can always move at its end. If they wait in a circle, some run
+//! ends stuck. A runtime asks this once, when it is made; no run and no machine is made for it. It takes
+//!
+//!   O(items + workqueues + flushes) time.
 
 ghost use Rattle.std.specs.Prelude.{◌≡◌, ◌<◌, ◌↔◌, [], false, length, IfOk, OnErr, IsTrue};
 ghost use Rattle.wq_groups.specs.Declaration.{declaration_of};
@@ -24,8 +24,8 @@ use wq_groups::{Assignment, Groups};
 use wq_items::ItemTable;
 use wq_levels::{Ranked, rank};
 
-/// Whether an assignment of a table's items is safe. The groups are those of this
-/// table, and the assignment has a workqueue for each of them.
+/// Whether an assignment of a table's items is safe. The groups must be those of this table, and the assignment must
+/// have a workqueue for each of them.
 ///
 /// The only error is out of memory (20), which can't occur if there is no workqueue.
 pub fn is_safe<A: Allocator + Copy>(
@@ -50,7 +50,7 @@ pub fn is_safe<A: Allocator + Copy>(
     }
 }
 
-/// Whether workqueues are safe, where no flush leads from one that has a rescuer to one that has none.
+/// Whether workqueues are safe, if no flush leads from one that has a rescuer to one that has none.
 fn rescued_are_safe<A: Allocator + Copy>(
     alloc: A,
     assigned: &Assigned<'_, '_, A>,

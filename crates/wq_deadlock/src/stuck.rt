@@ -1,10 +1,10 @@
 //! Lanes that are known to be stuck while a machine is played.
 //!
 //! A lane that can't move has nothing to start, or waits, and some item holds its wait back: an unfinished entry of
-//! that item is waited for. Where nothing is queued, the lane can move again only once that item is finished. So it
-//! isn't asked again before. Each call takes constant time, except for two: `new` takes time in the number of lanes and
-//! items, and `release` in the number of lanes that are released. Memory is taken once for all lanes and once for all
-//! items; then only where one item is found to hold back more than eight lanes.
+//! that item is waited for. If nothing is queued meanwhile, the lane can move again only once that item is finished, so
+//! it isn't asked before. Each call takes constant time, but `new` takes O(lanes + items), and `release` time linear in
+//! the number of lanes that are released. Memory is taken once for all lanes and once for all items; after that only if
+//! one item is found to hold back more than eight lanes.
 
 ghost use Rattle.std.specs.Prelude.{◌≡◌, ◌<◌, ◌≤◌, ◌↔◌, ℕ, length, map, replicate, slice_index_or, true, false, []};
 ghost use Rattle.std.specs.Prelude.{Contains, IfOk, OnOk, IfSome, IsTrue};
@@ -16,12 +16,12 @@ use std::marker::Model;
 use wq_groups::LaneId;
 use wq_items::ItemId;
 
-/// The numbers of the lanes that one item was found to hold back: nearly always none or a few. Up to eight lie in the
-/// list itself, which takes as many bytes as with room for four. They are numbers, since a place that isn't used holds
-/// a default. A list keeps its allocator, and the size of that has to be known: that of a reference is.
+/// The numbers of the lanes that one item was found to hold back: nearly always none or a few. Up to eight are stored
+/// in the list itself, which is no larger than one with room for four. They are plain numbers, since an unused slot
+/// holds a default. A list keeps its allocator, whose size must be known: that of a reference is.
 type Waiting<'a, A> = SmallVec<u16, 8, &'a A>;
 
-/// For each lane whether it is known to be stuck, and for each item the lanes whose wait it was found to hold back.
+/// For each lane, whether it is known to be stuck; and for each item, the lanes whose wait it was found to hold back.
 #[derive(Drop)]
 pub(crate) struct Stuck<'a, A: Allocator> {
     known: Vec<bool, &'a A>,
@@ -48,7 +48,7 @@ fn empty_lists<A: Allocator>(alloc: &A, items: u16) -> Result<Vec<Waiting<'_, A>
     Ok(lists)
 }
 
-/// Forgets that any of these lanes was known to be stuck. Gives the lowest of them and `from`.
+/// Forgets that any of these lanes was known to be stuck. Returns the lowest of them and `from`.
 fn forget<A: Allocator>(known: &mut Vec<bool, A>, lanes: &[u16], from: u16) -> u16
     ensures known { (q : ℕ) → slice_index_or known.new.items q false ≡ true
         → (slice_index_or known.old.items q false ≡ true) × (¬ Contains lanes.now q) }
@@ -68,7 +68,7 @@ fn forget<A: Allocator>(known: &mut Vec<bool, A>, lanes: &[u16], from: u16) -> u
 }
 
 impl<'a, A: Allocator> Stuck<'a, A> {
-    /// For this many lanes and items. No lane is known to be stuck.
+    /// A record for this many lanes and items. No lane is known to be stuck.
     pub(crate) fn new(alloc: &'a A, lanes: u16, items: u16) -> Result<Self, AllocError>
         ensures known { IfOk result (λ stuck. stuck.known ≡ replicate lanes false) }
         ensures waiting { IfOk result (λ stuck. stuck.waiting ≡ replicate items []) }
@@ -87,7 +87,7 @@ impl<'a, A: Allocator> Stuck<'a, A> {
         self.known[usize::from(q.get())]
     }
 
-    /// Notes that a lane was found to be stuck, and this item to hold back its wait, or none.
+    /// Notes that a lane was found to be stuck, and which item holds back its wait, if it waits.
     pub(crate) fn note(&mut self, q: LaneId, holder: Option<ItemId>) -> Result<(), AllocError>
         requires lane { q < length self.old.known }
         requires item { IfSome holder (λ i. i < length self.old.waiting) }
@@ -100,8 +100,8 @@ impl<'a, A: Allocator> Stuck<'a, A> {
         Ok(())
     }
 
-    /// Notes that an item is finished: the lanes whose wait it was found to hold back are asked again. Gives the lowest
-    /// of them and `from`.
+    /// Notes that an item is finished: the lanes whose wait it was found to hold back may be asked again. Returns the
+    /// lowest of them and `from`.
     pub(crate) fn release(&mut self, item: ItemId, from: LaneId) -> u16
         requires { item < length self.old.waiting }
         ensures released { IsReleased self.old item self.new }

@@ -1,9 +1,9 @@
-//! Whether workqueues are safe, of which some may have no rescuer.
+//! Whether workqueues are safe, some of which may have no rescuer.
 //!
-//! Nobody can rely on a workqueue without a rescuer. So an item whose workqueue has one may never
-//! finish where it waits for an item whose workqueue has none. If no item does that, what is
-//! on those without a rescuer counts no more, and the others are judged by their graph. It takes
-//! the time of two wait graphs and their ranks, and, where it isn't safe, that of the run.
+//! Nothing can rely on a workqueue without a rescuer. So an item whose workqueue has one may never finish if it waits
+//! for an item whose workqueue has none. If no item does that, what is on workqueues without a rescuer doesn't count
+//! any more, and the others are judged by their graph. This takes the time of two wait graphs and their ranks and, if
+//! the workqueues aren't safe, that of the run.
 
 ghost use Rattle.std.specs.Prelude.{◌≡◌, ◌<◌, [], IfOk, OnErr};
 ghost use Rattle.wq_groups.specs.DeclaredGroups.{declared_waits};
@@ -20,7 +20,7 @@ use wq_graph::WaitGraph;
 use wq_items::ItemId;
 use wq_levels::{Ranked, rank};
 
-/// The wait graph of the lanes that have a rescuer; and what holds of each declaration with workqueues.
+/// The wait graph of the lanes that have a rescuer; and what holds for each declaration with workqueues.
 ///
 /// The only error is out of memory (20), which can't occur if there is no lane.
 pub fn rescued_graph<A: Allocator + Copy>(
@@ -42,7 +42,7 @@ pub fn rescued_graph<A: Allocator + Copy>(
     graph.without(alloc, workqueues.bare())
 }
 
-/// The run by which these workqueues hang, where these items are queued first.
+/// The run by which these workqueues hang if the items `first` are queued first.
 fn hang<A: Allocator + Copy>(
     alloc: A,
     assigned: &Assigned<'_, '_, A>,
@@ -63,7 +63,7 @@ fn hang<A: Allocator + Copy>(
     Ok(Judged::Deadlock(steps))
 }
 
-/// The verdict where no flush leads from a workqueue that has a rescuer to one that has none.
+/// The verdict if no flush leads from a workqueue that has a rescuer to one that has none.
 fn judge_rescued<A: Allocator + Copy>(
     alloc: A,
     assigned: &Assigned<'_, '_, A>,
@@ -84,10 +84,10 @@ fn judge_rescued<A: Allocator + Copy>(
 
 /// Whether the workqueues of declared groups are safe.
 ///
-/// `Deadlock` has a run that ends stuck. The items that are queued first hold up all that wait for them: where a flush
-/// leads from a workqueue that has a rescuer to one that has none, that is the item of the first such flush, and
-/// otherwise those are the items of the circle in which the workqueues wait that have a rescuer. The only error is out
-/// of memory (20), which can't occur if there is no workqueue.
+/// `Deadlock` has a run that ends stuck. The items that are queued first hold up all that wait for them. If some flush
+/// leads from a workqueue that has a rescuer to one that has none, that is the item of the first such flush; otherwise
+/// they are the items of the circle in which the workqueues with a rescuer wait. The only error is out of memory (20),
+/// which can't occur if there is no workqueue.
 pub fn judge<A: Allocator + Copy>(
     alloc: A,
     assigned: &Assigned<'_, '_, A>,

@@ -15,7 +15,7 @@ keyword_of word =
     else (if bytes_eq word (codes "flushwq?") then Some FlushWqUnsure
     else (if bytes_eq word (codes "ordered") then Some Ordered else None)))))
 
--- words cut after the first: it as a keyword, if it is one, and the others; nothing if there are none
+-- the words without the first, which comes as a keyword, if it is one; nothing if there are no words
 abbrev pub keyword_cut : List WordView → Option (Option Keyword × List WordView)
 keyword_cut [] = None
 keyword_cut (first ∷ others) = Some (keyword_of first.bytes, others)

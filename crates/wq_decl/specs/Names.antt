@@ -12,7 +12,7 @@ is_name_byte b = is_ascii_alphanumeric b || (b == 95 || (b == 45 || b == 46))
 abbrev pub max_name : ℕ
 max_name = 63
 
--- from 1 to `max_name` such bytes
+-- 1 to `max_name` bytes that a name may have
 abbrev pub is_name : List ℕ → Bool
 is_name bytes = nat_le 1 (length bytes) && (nat_le (length bytes) max_name && list_all is_name_byte bytes)
 

@@ -41,7 +41,7 @@ flushwq_reading n (name ∷ target ∷ []) =
     if are_names (name ∷ target ∷ []) then Ok (Some (FlushWq name target)) else Err (BadName n)
 flushwq_reading n (name ∷ target ∷ extra ∷ others) = Err (ExtraWord n)
 
--- the words after `flush?` on line n, or after `flushwq?`, of a whole workqueue: two names
+-- the words after `flush?` or, of a whole workqueue, `flushwq?` on line n: two names
 abbrev pub unsure_reading : ℕ → Bool → List WordView → Result (Option Directive) DeclError
 unsure_reading n whole [] = Err (MissingName n)
 unsure_reading n whole (name ∷ []) = Err (MissingName n)
@@ -64,7 +64,7 @@ reading_after (Some keyword.FlushUnsure) n words = unsure_reading n false words
 reading_after (Some keyword.FlushWqUnsure) n words = unsure_reading n true words
 reading_after (Some keyword.Ordered) n words = ordered_reading n words
 
--- the words of line n: none on a blank line, else what follows its keyword says
+-- what the words of line n say: nothing if there are none, or else what follows the keyword says
 abbrev pub words_reading : ℕ → List WordView → Result (Option Directive) DeclError
 words_reading n [] = Ok None
 words_reading n (first ∷ others) = reading_after (keyword_of first.bytes) n others

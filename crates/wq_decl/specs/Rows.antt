@@ -24,7 +24,7 @@ IsUnknown first others =
     × (first.bytes ≢ codes "flushwq?")
     × (first.bytes ≢ codes "ordered")
 
--- the first word is one that exactly two names follow
+-- the first word is one that takes exactly two names
 abbrev pub TakesTwo : WordView → Type 0
 TakesTwo first =
     (first.bytes ≡ codes "flushwq") ⊎ ((first.bytes ≡ codes "flush?") ⊎ (first.bytes ≡ codes "flushwq?"))
@@ -45,7 +45,7 @@ HasExtraWord first others =
 abbrev pub HasBadName : WordView → List WordView → Type 0
 HasBadName first others = Any (λ (w : WordView). ¬ IsTrue (is_name w.bytes)) others
 
--- there is a first word, and this holds for it and the words after it
+-- there is a first word, and the relation holds for it and the words after it
 abbrev pub OfWords : (WordView → List WordView → Type 0) → List WordView → Type 0
 OfWords P [] = ⊥
 OfWords P (first ∷ others) = P first others
@@ -58,7 +58,7 @@ BreaksRow line (MissingName n) = (n ≡ line.no) × OfWords LacksName (words_of 
 BreaksRow line (ExtraWord n) = (n ≡ line.no) × OfWords HasExtraWord (words_of line)
 BreaksRow line (BadName n) = (n ≡ line.no) × OfWords HasBadName (words_of line)
 
--- how many rows of the pass are above the row of this fault; their order is 3, 4, 5, 12, 6
+-- how many rows of this pass are above the row of this fault; their order is 3, 4, 5, 12, 6
 abbrev pub rows_above : DeclError → ℕ
 rows_above (BadByte n) = 0
 rows_above (UnknownWord n) = 1
@@ -66,7 +66,7 @@ rows_above (MissingName n) = 2
 rows_above (ExtraWord n) = 3
 rows_above (BadName n) = 4
 
--- of the rows that the line breaks, the row of this fault is the first
+-- the row of this fault is the first of the rows that the line breaks
 pub record BreaksFirst (line : LineView) (e : DeclError) : Type 0 where
   pub broken : BreaksRow line e
   pub first : (other : DeclError) → BreaksRow line other → rows_above e ≤ rows_above other

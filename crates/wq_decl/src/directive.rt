@@ -12,13 +12,12 @@ use wq_text::{Word, Words};
 pub enum Directive<'a> {
     /// `item NAME`: declares an item.
     Item(Word<'a>),
-    /// `flush NAME TARGET..`: the item with this name may flush each of the targets each time that it runs.
+    /// `flush NAME TARGET..`: the item with this name may flush each of the targets whenever it runs.
     Flush(Word<'a>, Words<'a>),
-    /// `flushwq NAME TARGET`: the item with this name may flush the whole workqueue
-    /// of the target each time that it runs.
+    /// `flushwq NAME TARGET`: the item with this name may flush the whole workqueue of the target whenever it runs.
     FlushWq(Word<'a>, Word<'a>),
-    /// `flush? NAME TARGET`, or `flushwq? NAME TARGET` where the flag is set: whether the item with this name may flush
-    /// the target, or its whole workqueue, isn't decided.
+    /// `flush? NAME TARGET`, or `flushwq? NAME TARGET` if the flag is set: it isn't decided whether the item with this
+    /// name may flush the target, or its whole workqueue.
     Unsure(Word<'a>, Word<'a>, bool),
     /// `ordered NAME..`: the items with these names share one ordered workqueue.
     Ordered(Words<'a>),

@@ -7,7 +7,7 @@ ghost use Rattle.wq_decl.specs.Reading.{decl_refusal};
 
 use thiserror::Error;
 
-/// The first fault of a line, by the rows of the table of refusals in docs/FORMAT.md.
+/// The first fault of a line, by the order of rows in the table of refusals in docs/FORMAT.md.
 #[derive(Clone, Copy, Debug, PartialEq, Eq, Error)]
 pub enum DeclError {
     /// A byte before the comment that is neither TAB nor a printable ASCII character (3).

@@ -1,9 +1,9 @@
 //! The keyword of a line: its first word, which says which directive the line holds.
 //!
-//! The directives are those of "Directives" in docs/FORMAT.md. Each reader of a declaration asks here which of them a
-//! line holds, and nobody else looks at a first word. Most lines begin with `flush`, `flush?`, `item` or `ordered`,
-//! without a blank before it and with a space after it. Of these the word isn't cut: it is compared where it would be.
-//! A call takes time in the bytes up to the end of the first word.
+//! The directives are those of "Directives" in docs/FORMAT.md. All readers of a declaration ask here which of them a
+//! line holds; nothing else looks at a first word. Most lines begin with `flush`, `flush?`, `item` or `ordered`,
+//! without a blank before it and with a space after it. For these no word is cut: the bytes are compared in place. A
+//! call takes time linear in the bytes up to the end of the first word.
 
 ghost use Rattle.std.specs.Prelude.{◌≡◌};
 ghost use Rattle.wq_text.specs.Words.{words_of};
@@ -22,14 +22,14 @@ pub enum Keyword {
     FlushWq,
     /// `flush?`, of `Directive::Unsure`.
     FlushUnsure,
-    /// `flushwq?`, of `Directive::Unsure`, too.
+    /// `flushwq?`, also of `Directive::Unsure`.
     FlushWqUnsure,
     /// `ordered`, of `Directive::Ordered`.
     Ordered,
 }
 
 impl Keyword {
-    /// The keyword that a word is, byte by byte.
+    /// The keyword that `word` is, byte by byte.
     pub fn of(word: &[u8]) -> Option<Keyword>
         ensures { result ≡ keyword_of word.now }
     {
@@ -51,7 +51,7 @@ impl Keyword {
     }
 }
 
-/// Cuts the first word of a line and asks which keyword it is.
+/// Cuts the first word of a line, and looks up which keyword it is.
 #[inline(always)]
 fn cut_first<'a>(line: &Line<'a>) -> Option<(Option<Keyword>, Words<'a>)>
     ensures { result ≡ keyword_cut (words_of line.now) }
@@ -61,7 +61,7 @@ fn cut_first<'a>(line: &Line<'a>) -> Option<(Option<Keyword>, Words<'a>)>
     Some((Keyword::of(first.bytes()), words))
 }
 
-/// The same for a line that doesn't begin with `flush` and a space.
+/// As `cut_keyword`, for a line that doesn't begin with `flush` and a space.
 #[inline(always)]
 fn cut_other<'a>(line: &Line<'a>) -> Option<(Option<Keyword>, Words<'a>)>
     ensures { result ≡ keyword_cut (words_of line.now) }
@@ -78,8 +78,8 @@ fn cut_other<'a>(line: &Line<'a>) -> Option<(Option<Keyword>, Words<'a>)>
     cut_first(line)
 }
 
-/// The first word of a line as a keyword, if it is one, and the words after it;
-/// nothing if the line has no word before its comment.
+/// The first word of a line as a keyword, if it is one, and the words after it; `None` if the line has no word before
+/// its comment.
 #[inline(always)]
 pub fn cut_keyword<'a>(line: &Line<'a>) -> Option<(Option<Keyword>, Words<'a>)>
     ensures { result ≡ keyword_cut (words_of line.now) }

@@ -1,7 +1,7 @@
-//! One line that has no fault, as a directive.
+//! A line without a fault, as a directive.
 //!
-//! Nothing is judged again: the keyword of the line tells which directive it holds, and the words after it are names.
-//! So at most three words of a line are looked at, each byte once.
+//! Nothing is judged again: the keyword tells which directive the line holds, and the words after it are known to be
+//! names. So it looks at no more than three words of a line, at each byte once.
 
 ghost use Rattle.std.specs.Prelude.{◌≡◌, ℕ, Ok, IsOk};
 ghost use Rattle.wq_decl.specs.Reading.{reading_after, reading};
@@ -27,7 +27,7 @@ fn read_known_after<'a>(keyword: Option<Keyword>, mut words: Words<'a>) -> Optio
     }
 }
 
-/// What a line says, if it has no fault: nothing if there is no word before its comment, or else a directive.
+/// What a line without a fault says: a directive, or `None` if no word comes before its comment.
 pub(crate) fn read_known_line<'a>(line: &Line<'a>) -> Option<Directive<'a>>
     requires { IsOk (reading line.now) }
     ensures { reading line.now ≡ Ok result }

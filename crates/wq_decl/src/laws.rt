@@ -10,8 +10,8 @@ ghost use Rattle.wq_decl.specs.Faults.{AllRead, IsLowestDeclFault};
 ghost use Rattle.wq_decl.specs.Origins.{IsFrom};
 ghost use Rattle.wq_decl.specs.Rows.{BreaksRow, BreaksFirst};
 
-/// Lines have no fault exactly where each of them reads. Otherwise the first fault
-/// is that of the lowest line that doesn't read.
+/// Lines have no fault exactly if each of them reads as blank or as a directive. Otherwise the first fault is that of
+/// the first line that doesn't.
 pub fn first_fault_is_the_lowest()
     ensures none { (lines : List LineView) → (first_fault lines ≡ None) ↔ AllRead lines }
     ensures some { (lines : List LineView) (e : DeclError) → (first_fault lines ≡ Some e) ↔ IsLowestDeclFault lines e }
@@ -24,7 +24,7 @@ pub fn the_first_row_of_a_line_decides()
     ensures fault { (line : LineView) (e : DeclError) → (reading line ≡ Err e) ↔ BreaksFirst line e }
 {}
 
-/// Each directive has the number of a line, and all words of that line except the first.
+/// Each directive has the number of its line, and all words of that line except the first.
 pub fn words_are_those_of_the_lines()
     ensures { (lines : List LineView) → All (λ (d : ℕ × Directive). Any (IsFrom d) lines) (directives lines) }
 {}

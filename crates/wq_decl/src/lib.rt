@@ -1,8 +1,8 @@
 //! Declarations as directives: the second pass over a declaration, line by line.
 //!
-//! What the layer above relies on: the directives are those of the grammar, each with the number of its line, or else
+//! The layer above relies on this: the directives are those of the grammar, each with the number of its line, or else
 //! the error is the first fault. The grammar is that of "Directives" in docs/FORMAT.md, a format of this project's own.
-//! Making a view takes time in the length of the text, and so does going through its directives.
+//! Making a view takes time linear in the length of the text, and so does going through its directives.
 #![tactic(auto)]
 
 mod directive;

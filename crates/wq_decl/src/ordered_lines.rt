@@ -1,8 +1,8 @@
 //! The `ordered` lines of a declaration, without its other lines.
 //!
 //! The directives are those of "Directives" in docs/FORMAT.md. The lines have no fault, so nothing is judged again: the
-//! keyword of a line tells whether it is one of them, and the names on it are left to the caller. Going over them takes
-//! time in the length of the text.
+//! keyword tells whether a line is an `ordered` line, and the names on it are left to the caller. Going through them
+//! takes time linear in the length of the text.
 
 ghost use Rattle.std.specs.Prelude.{◌≡◌, ◌∷◌, ℕ, List, None, Some, IsOk, length};
 ghost use Rattle.std.specs.List.{cons_option};
@@ -46,12 +46,12 @@ fn next_ordered_line<'a>(lines: &mut Lines<'a>) -> Option<(u32, Words<'a>)>
     None
 }
 
-/// The `ordered` lines of a view, in order: of each its number and the names on it.
-/// Contracts see the list of those that are left.
+/// The `ordered` lines of a view, in order, each as its number and the names on it. Contracts see the list of those
+/// that are left.
 #[derive(Drop)]
 pub struct OrderedLines<'a> {
     lines: Lines<'a>,
-    /// How many are left, if that is known.
+    /// How many lines are left, if that is known.
     left: Option<u32>,
 }
 
@@ -70,7 +70,7 @@ impl<'a> Model for OrderedLines<'a> {
 }
 
 impl<'a> OrderedLines<'a> {
-    /// Those among these lines, which have no fault.
+    /// The `ordered` lines among these lines, which have no fault.
     pub(crate) fn of(lines: Lines<'a>) -> OrderedLines<'a>
         requires { first_fault lines ≡ None }
         ensures { result ≡ ordered_lines (directives lines.entry) }
@@ -78,8 +78,8 @@ impl<'a> OrderedLines<'a> {
         OrderedLines { lines, left: None }
     }
 
-    /// Those among these lines, which have no fault, and how many there are, where that is known. Then no line after
-    /// the last of them is looked at.
+    /// The `ordered` lines among these lines, which have no fault. If their `count` is known, no line after the last of
+    /// them is looked at.
     pub fn counted(lines: Lines<'a>, count: Option<u32>) -> OrderedLines<'a>
         requires faultless { first_fault lines ≡ None }
         requires count { (n : ℕ) → count ≡ Some n → length (ordered_lines (directives lines)) ≡ n }
@@ -88,7 +88,7 @@ impl<'a> OrderedLines<'a> {
         OrderedLines { lines, left: count }
     }
 
-    /// The same lines again.
+    /// A second iterator over the lines that are left.
     pub fn again(&self) -> OrderedLines<'a>
         ensures { result ≡ self.now }
     {

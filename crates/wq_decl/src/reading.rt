@@ -1,7 +1,7 @@
 //! One line as a directive.
 //!
-//! It looks at each byte of the line a fixed number of times: as words are cut, as
-//! names are judged, and where there is a fault.
+//! Each byte of the line is looked at a fixed number of times: when words are cut, when names are judged, and when
+//! there is a fault.
 
 ghost use Rattle.std.specs.Prelude.{◌≡◌};
 ghost use Rattle.std.specs.List.{list_all};
@@ -15,10 +15,10 @@ use crate::fault::DeclError;
 use crate::keyword::{Keyword, cut_keyword};
 use wq_text::{Line, Words};
 
-/// How many bytes a name may have.
+/// The most bytes that a name may have.
 pub const MAX_NAME: usize = 63;
 
-/// Each byte that a name may have stands at its own place, and a comma at every other place.
+/// Each byte that may be in a name, at its own index, and a comma at every other index.
 static NAME_BYTES: [u8; 256] = *b"\
     ,,,,,,,,,,,,,,,,,,,,,,,,,,,,,,,,\
     ,,,,,,,,,,,,,-.,0123456789,,,,,,\
@@ -48,7 +48,7 @@ fn are_name_bytes(word: &[u8]) -> bool
     true
 }
 
-/// Whether a word is a name: 1 to 63 bytes that a name may have.
+/// Whether a word is a name: 1 to 63 bytes that may be in a name.
 pub fn is_name(word: &[u8]) -> bool
     ensures { result ≡ is_name word.now }
 {
@@ -81,7 +81,7 @@ fn are_text_bytes(content: &[u8]) -> bool
     content.iter().all(|byte| is_text_byte(*byte))
 }
 
-/// The words after `item` on this line.
+/// The words after `item` on this line, as a directive.
 fn read_item<'a>(line: u32, mut words: Words<'a>) -> Result<Option<Directive<'a>>, DeclError>
     ensures { result ≡ item_reading line words.entry }
 {
@@ -97,7 +97,7 @@ fn read_item<'a>(line: u32, mut words: Words<'a>) -> Result<Option<Directive<'a>
     Ok(Some(Directive::Item(name)))
 }
 
-/// The words after `flush` on this line.
+/// The words after `flush` on this line, as a directive.
 fn read_flush<'a>(line: u32, mut words: Words<'a>) -> Result<Option<Directive<'a>>, DeclError>
     ensures { result ≡ flush_reading line words.entry }
 {
@@ -115,7 +115,7 @@ fn read_flush<'a>(line: u32, mut words: Words<'a>) -> Result<Option<Directive<'a
     }
 }
 
-/// The words after `flushwq` on this line.
+/// The words after `flushwq` on this line, as a directive.
 fn read_flushwq<'a>(line: u32, mut words: Words<'a>) -> Result<Option<Directive<'a>>, DeclError>
     ensures { result ≡ flushwq_reading line words.entry }
 {
@@ -134,7 +134,7 @@ fn read_flushwq<'a>(line: u32, mut words: Words<'a>) -> Result<Option<Directive<
     Ok(Some(Directive::FlushWq(name, target)))
 }
 
-/// The words after `flush?` on this line, or after `flushwq?`, whose flush is of a whole workqueue.
+/// The words after `flush?` or, if `whole`, `flushwq?` on this line, as a directive.
 fn read_unsure<'a>(
     line: u32,
     whole: bool,
@@ -157,7 +157,7 @@ fn read_unsure<'a>(
     Ok(Some(Directive::Unsure(name, target, whole)))
 }
 
-/// The words after `ordered` on this line.
+/// The words after `ordered` on this line, as a directive.
 fn read_ordered<'a>(line: u32, mut words: Words<'a>) -> Result<Option<Directive<'a>>, DeclError>
     ensures { result ≡ ordered_reading line words.entry }
 {
@@ -172,7 +172,7 @@ fn read_ordered<'a>(line: u32, mut words: Words<'a>) -> Result<Option<Directive<
     }
 }
 
-/// What the words after the keyword say on this line.
+/// The words after the keyword on this line, as a directive.
 fn read_after<'a>(
     line: u32,
     keyword: Option<Keyword>,
@@ -191,7 +191,7 @@ fn read_after<'a>(
     }
 }
 
-/// What the words of a line say: nothing if there are none, or else a directive or their first fault.
+/// What the words of a line say: a directive, or `None` if there are no words; the error is their first fault.
 fn read_words<'a>(line: &Line<'a>) -> Result<Option<Directive<'a>>, DeclError>
     ensures { result ≡ words_reading line.now.no (words_of line.now) }
 {
@@ -201,9 +201,9 @@ fn read_words<'a>(line: &Line<'a>) -> Result<Option<Directive<'a>>, DeclError>
     }
 }
 
-/// What a line says: nothing if there is no word before its comment, or else a directive or its first fault.
+/// What a line says: a directive, or `None` if no word comes before its comment; the error is its first fault.
 ///
-/// Words that have no fault hold no bad byte. So the bytes of a line are judged only if there is a fault.
+/// Words without a fault hold no bad byte. So the bytes of a line are judged only if there is a fault.
 pub(crate) fn read_line<'a>(line: &Line<'a>) -> Result<Option<Directive<'a>>, DeclError>
     ensures { result ≡ reading line.now }
 {

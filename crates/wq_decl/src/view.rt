@@ -1,7 +1,7 @@
 //! A declaration as the list of its directives.
 //!
-//! Making a view looks at each line once, and so does going through its directives
-//! again, or through its `ordered` lines. It takes no memory.
+//! Making a view looks at each line once, and so does going through its directives or its `ordered` lines. It takes no
+//! memory.
 
 ghost use Rattle.std.specs.Prelude.{◌≡◌, ℕ, List, None, Some, IfErr, IfOk};
 ghost use Rattle.std.specs.Iterator.{YieldsFirst, item_count};
@@ -69,8 +69,8 @@ impl<'a> DeclView<'a> {
         })
     }
 
-    /// The view of a text known to have no faulty line, given whether some line is an `ordered` line, and its `ordered`
-    /// lines, which were found already: nothing is looked at again.
+    /// The view of a text without a faulty line, if the caller knows whether there is an `ordered` line, and which
+    /// lines these are. Nothing is looked at again.
     pub fn of_ordered(text: Text<'a>, orders: bool, ordered: OrderedLines<'a>) -> DeclView<'a>
         requires faultless { first_fault (lines_of text) ≡ None }
         requires orders { orders ≡ has_ordered (directives (lines_of text)) }
@@ -101,8 +101,8 @@ impl<'a> DeclView<'a> {
         }
     }
 
-    /// The `ordered` lines in order: of each its number and the names on it. Of
-    /// another line its first word is looked at, at most.
+    /// The `ordered` lines in order, each as its number and the names on it. At most the first word of any other line
+    /// is looked at.
     pub fn ordered_lines(&self) -> OrderedLines<'a>
         ensures value { result ≡ ordered_lines self.now }
         ensures names { AllByRecursion (λ (l : ℕ × List WordView). HasNames (Ordered l.1)) (ordered_lines self.now) }
@@ -130,7 +130,7 @@ impl<'a> Model for Directives<'a> {
     ghost invariant = { λ d. first_fault d.lines ≡ None };
 }
 
-/// The first directive of some lines, and the lines after it.
+/// The first directive of some lines. What is left are the lines after it.
 fn next_directive<'a>(lines: &mut Lines<'a>) -> Option<(u32, Directive<'a>)>
     requires { first_fault lines.old ≡ None }
     ensures steps { YieldsFirst directives lines.old result lines.new }

@@ -7,7 +7,7 @@ use Rattle.wq_groups.specs.DeclaredGroups.{Declared}
 use Rattle.wq_names.specs.Messages.{no_item}
 use Rattle.wq_diagnosis.specs.Diagnosis.{IsDiagnosis, shown_lines}
 
--- what is said about a text: nothing if it isn't refused, and else a diagnosis of its refusal
+-- what is said about a text: nothing if it isn't refused, or else a diagnosis of its refusal
 abbrev pub Diagnoses : List ℕ → Option Refusal → Option (List ℕ) → Type 0
 Diagnoses file None said = said ≡ None
 Diagnoses file (Some r) said =
@@ -23,8 +23,7 @@ SaysNo file (Some why) said =
 abbrev pub no_item_note : List ℕ → List ℕ
 no_item_note file = shown_lines (no_item file ∷ [])
 
--- what is said beside the answer to a declaration that needs no more words: this line if it has no item, and else
--- nothing
+-- what is said beside the answer to a declaration that needs no more words: the note if it has no item, or else nothing
 abbrev pub NotesNoItem : List ℕ → Declared → Option (List ℕ) → Type 0
 NotesNoItem file s None = 0 < length s.table.names
 NotesNoItem file s (Some said) = (said ≡ no_item_note file) × (length s.table.names ≡ 0)

@@ -42,7 +42,7 @@ named_item (Help q h deed) = deed_item deed
 abbrev pub RunsEntryOf : State → ℕ → ℕ → Running → Type 0
 RunsEntryOf s q j r = Runs (lane_at s q) r × (r.entry.item ≡ j)
 
--- the reason holds in the state, of a step with this workqueue and this item
+-- the reason holds in the state, for a step with this workqueue and this item
 abbrev pub ReasonHolds : Wiring → State → ℕ → ℕ → Unlawful → Type 0
 ReasonHolds w s q i why.NoItem = ¬ (i < items w)
 ReasonHolds w s q i why.Pending = HasPending s i
@@ -62,7 +62,8 @@ ReasonHolds w s q i (why.Unfinished whole) =
     (r : Running) × Runs (lane_at s q) r
     × ((f : Waiting) × (r.waiting ≡ Some f) × (f.whole ≡ whole) × IsHeldBack w s whole i f.mark)
 
--- the reason rules out the step: whatever is declared and whatever the state, where it holds the step isn't lawful
+-- the reason rules out the step: whatever is declared and whatever the state is, the step isn't lawful if the reason
+-- holds
 abbrev pub RulesOut : Unlawful → Step → Type 0
 RulesOut reason step =
     (w : Wiring) (s : State) → ReasonHolds w s (named_workqueue step) (named_item step) reason → ¬ Lawful w s step

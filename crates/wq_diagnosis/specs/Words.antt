@@ -6,7 +6,7 @@ use Rattle.wq_cert.specs.PlanText.{name_of}
 use Rattle.wq_groups.specs.DeclaredGroups.{Declared}
 use Rattle.wq_names.specs.Messages.{a_workqueue, an_item, its_name}
 
--- the name of a workqueue behind its number, if it has a name
+-- the name of a workqueue as it is written after its number, if it has a name
 abbrev pub name_words : List ℕ → List ℕ
 name_words name = if length name == 0 then [] else its_name name
 

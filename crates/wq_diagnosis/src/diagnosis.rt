@@ -1,7 +1,7 @@
 //! The text of a diagnosis, and the diagnoses of the texts of a command.
 //!
 //! The form is that of "Diagnoses" in docs/FORMAT.md. A call takes the time and the memory of searching the text for
-//! the fault; of a declaration that is refused, also those of reading it again, mended.
+//! the fault and, for a declaration, those of reading it again, mended.
 
 ghost use Rattle.std.specs.Prelude.{◌≡◌, ◌∷◌, codes, map, option_map, ℕ, IfOk};
 ghost use Rattle.wq_diagnosis.specs.Diagnosis.{head, shown_lines, IsDiagnosis};
@@ -30,7 +30,7 @@ pub struct Source<'a> {
     pub text: &'a [u8],
 }
 
-/// A refusal, or a `no`: the word, its number, and the line; the line is 0 where none is meant.
+/// A refusal, or a `no`: the word, its number, and the line, which is 0 if none is meant.
 #[derive(Clone, Copy)]
 pub(crate) struct Refusal {
     pub(crate) word: &'static str,
@@ -89,7 +89,7 @@ pub(crate) fn head<A: Allocator + Copy>(
     )
 }
 
-/// Adds the line that is meant and its marks, where bytes of it are meant.
+/// Appends the line that is meant and its marks, if bytes of it are meant.
 pub(crate) fn push_details<A: Allocator + Copy>(
     alloc: A,
     details: &mut Vec<Vec<u8, A>, A>,
@@ -102,7 +102,7 @@ pub(crate) fn push_details<A: Allocator + Copy>(
     Ok(())
 }
 
-/// The lines below the first one: the line and its marks, where bytes of it are meant, or else none.
+/// The lines below the first one: the line and its marks if bytes of it are meant, otherwise none.
 fn details<A: Allocator + Copy>(
     alloc: A,
     line: Option<Line<'_>>,
@@ -177,7 +177,7 @@ fn diagnosis<A: Allocator + Copy>(
     diagnosis_at(alloc, file, refusal, finding.mark, &what, &details)
 }
 
-/// The diagnosis of a declaration that is refused like this, and below it those of its further mistakes.
+/// The diagnosis of a declaration with this refusal, and below it those of its further mistakes.
 fn of_refused<A: Allocator + Copy>(
     alloc: A,
     seed: u64,
@@ -202,10 +202,10 @@ fn of_refused<A: Allocator + Copy>(
     )
 }
 
-/// The diagnosis of a declaration that is refused for the fault of this number on
-/// this line, and below it those of its further mistakes.
+/// The diagnosis of a declaration that is refused with the number `code` for `line`, and below it those of its further
+/// mistakes.
 ///
-/// The only error is out of memory (20). The names are hashed with `seed`. Nothing that is said depends on it.
+/// The only error is out of memory (20). Names are hashed with `seed`; nothing that is said depends on it.
 pub fn of_refused_declaration<A: Allocator + Copy>(
     alloc: A,
     seed: u64,
@@ -218,7 +218,7 @@ pub fn of_refused_declaration<A: Allocator + Copy>(
     of_refused(alloc, seed, declaration, Refusal::new(code, line))
 }
 
-/// Finds what is wrong in a certificate that is refused like this, and the line that is meant, if there is one.
+/// Finds what is wrong in a certificate with this refusal, and the line that is meant, if there is one.
 fn find_fault<'a, A: Allocator + Copy>(
     alloc: A,
     kind: CertificateKind,
@@ -239,7 +239,7 @@ fn find_fault<'a, A: Allocator + Copy>(
     in_certificate(alloc, &refused, refusal.code, refusal.line)
 }
 
-/// The diagnosis of a certificate that is refused like this.
+/// The diagnosis of a certificate with this refusal.
 fn of_fault<A: Allocator + Copy>(
     alloc: A,
     kind: CertificateKind,
@@ -256,8 +256,8 @@ fn of_fault<A: Allocator + Copy>(
     diagnosis(alloc, certificate.file, line, refusal, finding)
 }
 
-/// The diagnosis of a certificate of this declaration, whose text is that one, that is refused for the fault of this
-/// number on this line.
+/// The diagnosis of a certificate that is refused with the number `code` for `line`. `declared` is what the text
+/// `declaration` declares.
 ///
 /// The only error is out of memory (20).
 pub fn of_refused_certificate<A: Allocator + Copy>(
@@ -294,7 +294,7 @@ pub fn of_too_many<A: Allocator + Copy>(
     )
 }
 
-/// The line that is said of a declaration without an item.
+/// The note about a declaration without items.
 fn no_item_note<A: Allocator + Copy>(alloc: A, file: &str) -> Result<Vec<u8, A>, AllocError>
     ensures { IfOk result (λ said. said.items ≡ no_item_note file.now) }
 {
@@ -304,7 +304,7 @@ fn no_item_note<A: Allocator + Copy>(alloc: A, file: &str) -> Result<Vec<u8, A>,
     Ok(out)
 }
 
-/// Says in this file that the declaration has no item; nothing where it has one.
+/// The note that the declaration in this file has no items; `None` if it has one.
 ///
 /// The only error is out of memory (20).
 pub fn of_no_item<A: Allocator + Copy>(
@@ -321,7 +321,7 @@ pub fn of_no_item<A: Allocator + Copy>(
     Ok(Some(said))
 }
 
-/// The number of the line that is meant; 0 where none is.
+/// The number of the line that is meant; 0 if none is.
 fn number_of(line: &Option<Line<'_>>) -> u32 {
     match line {
         Some(line) => line.no(),
@@ -329,7 +329,7 @@ fn number_of(line: &Option<Line<'_>>) -> u32 {
     }
 }
 
-/// The diagnosis of a certificate of this declaration to which the checker answered this no.
+/// The diagnosis of a certificate of this declaration to which the checker answered `no`.
 ///
 /// The only error is out of memory (20).
 pub fn of_lack<A: Allocator + Copy>(

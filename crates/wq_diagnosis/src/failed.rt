@@ -1,4 +1,4 @@
-//! What standard error says of a file that can't be opened, read or written.
+//! What standard error says about a file that can't be opened, read or written.
 //!
 //! The form is that of "Faults and exit statuses" in docs/FORMAT.md. It takes the time and the memory of the line.
 
@@ -10,8 +10,8 @@ use crate::layout::put_line;
 use std::alloc::{AllocError, Allocator};
 use wq_names::messages;
 
-/// The line that names a file which can't be opened, read or written, and says why.
-/// Each byte of it is shown as one of a diagnosis is.
+/// The line that names a file that can't be opened, read or written, and says why. Its bytes are shown as in a
+/// diagnosis.
 ///
 /// The only error is out of memory (20).
 pub fn of_failed<A: Allocator + Copy>(

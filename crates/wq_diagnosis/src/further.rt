@@ -1,7 +1,6 @@
-//! The further mistakes of a declaration that is refused: what it would be refused
-//! for, if the lines before were mended.
+//! The further mistakes of a declaration that is refused: what it would be refused for if the lines before were mended.
 //!
-//! The text is mended and read again, at most 30 times. So it takes the time and the memory of that many readings.
+//! The text is mended and read again, at most 30 times, and takes the time and the memory of that many readings.
 
 use crate::diagnosis::{Refusal, Source, head, push_details};
 use crate::layout::{column, lines_of};
@@ -9,13 +8,13 @@ use std::alloc::{AllocError, Allocator};
 use wq_commands::{Stop, read_declaration};
 use wq_findings::{Mended, Mending, in_mended, line_at};
 
-/// How many further mistakes are told, at most.
+/// The most further mistakes that are told.
 const MOST: u32 = 9;
 
-/// How often a text is read again, at most.
+/// How often a text is read again at most.
 const MOST_READINGS: u32 = 30;
 
-/// Adds the lines about the refusal of a mended text, whose line is as it was.
+/// Appends the lines about the refusal of a mended text, in which the refused line is unchanged.
 fn tell<A: Allocator + Copy>(
     alloc: A,
     lines: &mut Vec<Vec<u8, A>, A>,
@@ -36,7 +35,7 @@ fn tell<A: Allocator + Copy>(
     push_details(alloc, lines, line_at(&text, line), finding)
 }
 
-/// What a text is refused for; nothing where it is a declaration.
+/// What a text is refused for; `None` if it is a declaration.
 fn refusal_of<A: Allocator + Copy>(
     alloc: A,
     seed: u64,
@@ -49,10 +48,10 @@ fn refusal_of<A: Allocator + Copy>(
     }
 }
 
-/// Adds the lines about further mistakes of a declaration that is refused like this:
-/// at most nine of them, and of each line one.
+/// Appends the lines about further mistakes of a declaration with this refusal: at most nine, and at most one for each
+/// line.
 ///
-/// The names are hashed with `seed`. Nothing that is said depends on it.
+/// Names are hashed with `seed`; nothing that is said depends on it.
 pub(crate) fn push_further<A: Allocator + Copy>(
     alloc: A,
     seed: u64,
@@ -88,7 +87,7 @@ pub(crate) fn push_further<A: Allocator + Copy>(
     Ok(())
 }
 
-/// The text with the line mended for which it is refused like this.
+/// The text with the line mended that this refusal is about.
 fn next_of<A: Allocator + Copy>(
     alloc: A,
     mending: &mut Mending<A>,

@@ -1,7 +1,7 @@
 //! Lines as they are shown in a diagnosis, and what is shown of a text.
 //!
-//! Each byte is shown as "Diagnoses" in docs/FORMAT.md says. A call takes time and
-//! memory in the length of what is shown.
+//! Each byte is shown as "Diagnoses" in docs/FORMAT.md says. A call takes time and memory linear in the length of what
+//! is shown.
 
 ghost use Rattle.std.specs.Prelude.{◌≡◌, ◌++◌, ◌∷◌, [], map, IfOk, OnOk};
 ghost use Rattle.wq_findings.specs.Shown.{place_text, shown};
@@ -11,7 +11,7 @@ use std::alloc::{AllocError, Allocator};
 use wq_findings::{Excerpt, Hint, Mark, Marks, put_place, shown};
 use wq_text::Text;
 
-/// Adds a line as it is shown.
+/// Appends a line as it is shown.
 pub fn put_line<A: Allocator>(out: &mut Vec<u8, A>, line: &[u8]) -> Result<(), AllocError>
     ensures { OnOk result (out.new.items ≡ out.old.items ++ (map shown line.now ++ (10 ∷ []))) }
 {
@@ -22,7 +22,7 @@ pub fn put_line<A: Allocator>(out: &mut Vec<u8, A>, line: &[u8]) -> Result<(), A
     Ok(())
 }
 
-/// Adds lines as they are shown.
+/// Appends lines as they are shown.
 pub fn put_lines<A: Allocator>(out: &mut Vec<u8, A>, lines: &[Vec<u8, A>]) -> Result<(), AllocError>
     ensures { OnOk result (out.new.items ≡ out.old.items ++ shown_lines (map (λ line. line.items) lines.now)) }
 {
@@ -41,7 +41,7 @@ pub fn place_words<A: Allocator + Copy>(alloc: A, place: &[u32]) -> Result<Vec<u
     Ok(words)
 }
 
-/// Adds a line and its marks.
+/// Appends a line and its marks.
 pub fn push_excerpt<A: Allocator + Copy>(
     alloc: A,
     details: &mut Vec<Vec<u8, A>, A>,
@@ -60,8 +60,7 @@ pub fn column(mark: Mark) -> u32 {
     u32::try_from(mark.at).unwrap_or(u32::MAX).saturating_add(1)
 }
 
-/// The lines of a text, however long they are. A text of more than 4,294,967,295
-/// bytes, which no command reads, has none.
+/// The lines of a text, however long they are. A text of 2^32 bytes or more, which no command reads, has none.
 pub fn lines_of(text: &[u8]) -> Text<'_> {
     match Text::new(text, u32::MAX, u32::MAX) {
         Ok(text) => text,

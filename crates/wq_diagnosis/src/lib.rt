@@ -1,12 +1,12 @@
-//! Diagnoses: what standard error says of a text that is refused, in addition to the refusal; of a run with a step that
-//! isn't lawful; and of a file that can't be read or written.
+//! Diagnoses: what standard error says, in addition to the refusal, about a text that is refused; about a run with a
+//! step that isn't lawful; and about a file that can't be read or written.
 //!
-//! What the layer above relies on: a diagnosis begins with the file and the line of the refusal, has the number of the
-//! refusal on its first line, and is printable ASCII and line feeds, whatever the text holds; and of the first step
-//! that isn't lawful it says a reason that forbids such a step, and holds in the state that the steps before it leave.
-//! wq_findings decides which word is meant, and what was most likely meant; wq_voice says when which is said. The form
-//! is that of "Diagnoses" in docs/FORMAT.md. Each call takes time in the length of the texts and, where a name is
-//! unknown, in the names of the declaration times the length of one.
+//! The layer above relies on this: a diagnosis begins with the file and the line of the refusal, has the number of the
+//! refusal on its first line, and is printable ASCII and line feeds, whatever the text holds; and about the first step
+//! that isn't lawful, it says a reason that forbids such a step and holds in the state that the steps before it leave.
+//! wq_findings decides which word is meant, and what was most likely meant; wq_voice, what is said when. The form is
+//! that of "Diagnoses" in docs/FORMAT.md. Each call takes time linear in the length of the texts; an unknown name is
+//! compared with each name of the declaration.
 #![tactic(auto)]
 
 mod diagnosis;

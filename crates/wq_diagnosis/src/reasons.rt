@@ -18,7 +18,7 @@ use wq_groups::{Declaration, LaneId};
 use wq_items::ItemId;
 use wq_names::{messages, name_at};
 
-/// The name of the workqueue of an item; no byte where it has none, or where there is no such item.
+/// The name of the workqueue of an item; empty if it has none, or if there is no such item.
 fn workqueue_name<'a, A: Allocator + Copy>(
     assigned: &Assigned<'_, '_, A>,
     names: &[&'a [u8]],
@@ -34,7 +34,7 @@ fn workqueue_name<'a, A: Allocator + Copy>(
     }
 }
 
-/// The name of the workqueue of an item, behind the item.
+/// The name of the workqueue of an item, as it is written after the item.
 fn called_words<A: Allocator + Copy>(
     alloc: A,
     assigned: &Assigned<'_, '_, A>,
@@ -47,7 +47,7 @@ fn called_words<A: Allocator + Copy>(
     name_words(alloc, workqueue_name(assigned, names, item))
 }
 
-/// That a workqueue runs an item.
+/// Says that a workqueue runs an item.
 fn runs_words<A: Allocator + Copy>(
     alloc: A,
     declared: &Declaration<'_, A>,
@@ -63,7 +63,8 @@ fn runs_words<A: Allocator + Copy>(
     messages::runs(alloc, &workqueue, &item)
 }
 
-/// That nothing is pending on a workqueue, or else that nothing runs on it; or that there is none with this number.
+/// Says that nothing is pending on a workqueue (if `pending`) or runs on it; or that there is no workqueue with
+/// this number.
 fn nothing_words<A: Allocator + Copy>(
     alloc: A,
     workqueues: &Workqueues<A>,
@@ -84,7 +85,7 @@ fn nothing_words<A: Allocator + Copy>(
     }
 }
 
-/// That another item comes first on a workqueue.
+/// Says that another item comes first on a workqueue.
 fn first_words<A: Allocator + Copy>(
     alloc: A,
     declared: &Declaration<'_, A>,
@@ -102,7 +103,7 @@ fn first_words<A: Allocator + Copy>(
     messages::isnt_first(alloc, &item, &workqueue, &first)
 }
 
-/// That an item runs on a workqueue and waits.
+/// Says that an item runs on a workqueue and waits.
 fn waiting_words<A: Allocator + Copy>(
     alloc: A,
     assigned: &Assigned<'_, '_, A>,
@@ -124,7 +125,7 @@ fn waiting_words<A: Allocator + Copy>(
     messages::runner_waits_for_all(alloc, &item, &workqueue, &target, &called)
 }
 
-/// That an item runs on a workqueue and declares no such flush.
+/// Says that an item runs on a workqueue and declares no such flush.
 fn undeclared_words<A: Allocator + Copy>(
     alloc: A,
     declared: &Declaration<'_, A>,
@@ -147,7 +148,7 @@ fn undeclared_words<A: Allocator + Copy>(
     }
 }
 
-/// How many flushes an item declares; 0 where there is no such item.
+/// How many flushes an item declares; 0 if there is no such item.
 fn flushes_of<A: Allocator + Copy>(declared: &Declaration<'_, A>, item: ItemId) -> usize
     ensures { result ≡ length (targets_of declared.now.table.waits item) }
 {
@@ -158,7 +159,7 @@ fn flushes_of<A: Allocator + Copy>(declared: &Declaration<'_, A>, item: ItemId) 
     }
 }
 
-/// That an item runs on a workqueue and has made all of its waits.
+/// Says that an item runs on a workqueue and has made all of its waits.
 fn made_words<A: Allocator + Copy>(
     alloc: A,
     declared: &Declaration<'_, A>,
@@ -176,7 +177,7 @@ fn made_words<A: Allocator + Copy>(
     messages::has_made_all(alloc, &item, &workqueue, flushes.as_bytes())
 }
 
-/// That an item runs on a workqueue and doesn't wait.
+/// Says that an item runs on a workqueue and doesn't wait.
 fn awake_words<A: Allocator + Copy>(
     alloc: A,
     declared: &Declaration<'_, A>,
@@ -192,7 +193,7 @@ fn awake_words<A: Allocator + Copy>(
     messages::doesnt_wait(alloc, &item, &workqueue)
 }
 
-/// That an entry of an item is unfinished, or one on its whole workqueue.
+/// Says that an entry of an item is unfinished or, if `whole`, one on its workqueue.
 fn unfinished_words<A: Allocator + Copy>(
     alloc: A,
     assigned: &Assigned<'_, '_, A>,

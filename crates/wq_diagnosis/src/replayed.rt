@@ -1,4 +1,4 @@
-//! What standard error says of a run with a step that isn't lawful.
+//! What standard error says about a run with a step that isn't lawful.
 //!
 //! The form is that of "Diagnoses" in docs/FORMAT.md. It takes the time of making the steps, and the memory of the
 //! machine that makes them.
@@ -31,8 +31,8 @@ struct UnlawfulStep {
     why: Unlawful,
 }
 
-/// Makes the steps up to the first that isn't lawful, on a machine without helpers on which nothing was queued yet, and
-/// says why that one isn't; nothing where each is made.
+/// Makes the steps up to the first that isn't lawful, on a machine without helpers on which nothing has been queued
+/// yet, and says why that step isn't; `None` if all are made.
 fn find<A: Allocator>(core: &mut Core<A>, steps: &[Step]) -> Option<UnlawfulStep>
     requires helpers { core.old.wiring.helpers ≡ 0 }
     requires empty { core.old.state ≡ empty_state core.old.wiring }
@@ -61,8 +61,8 @@ fn is_run_line(line: &Line<'_>) -> bool {
     }
 }
 
-/// The line of a run's step: the one of this number, counted from 1, of the lines with words below that with the number
-/// of steps. Above that there may be an unsure part.
+/// The line of the step with this number, counted from 1: only lines with words count, below the line with the number
+/// of steps. Above that line there may be an unsure part.
 fn step_line<'a>(text: &Text<'a>, number: u32) -> Option<Line<'a>> {
     let mut left = number;
     let mut is_below = false;
@@ -91,7 +91,7 @@ fn last_mark(line: &Line<'_>) -> Mark {
     mark
 }
 
-/// The first line.
+/// The first line of what is said.
 fn head<A: Allocator + Copy>(
     alloc: A,
     file: &str,
@@ -106,7 +106,7 @@ fn head<A: Allocator + Copy>(
     messages::answered_unlawful(alloc, file.as_bytes(), &place, what, number.as_bytes())
 }
 
-/// All lines about the step of this number, with these below the first one.
+/// All lines about the step with this number, with `details` below the first one.
 fn whole_text<A: Allocator + Copy>(
     alloc: A,
     file: &str,
@@ -125,7 +125,7 @@ fn whole_text<A: Allocator + Copy>(
     Ok(out)
 }
 
-/// What is said of the step of this number, at this place.
+/// What is said about the step with this number, at this place.
 fn said_at<A: Allocator + Copy>(
     alloc: A,
     file: &str,
@@ -152,7 +152,7 @@ fn details<A: Allocator + Copy>(
     Ok(details)
 }
 
-/// The line of the step of this number, the number of the line, and the mark of its last word.
+/// The line of the step with this number, the number of the line, and the mark of its last word.
 fn place_of<'a>(text: &'a [u8], number: u32) -> (&'a [u8], u32, Mark) {
     match step_line(&lines_of(text), number) {
         Some(line) => (line.bytes(), line.no(), last_mark(&line)),
@@ -160,7 +160,7 @@ fn place_of<'a>(text: &'a [u8], number: u32) -> (&'a [u8], u32, Mark) {
     }
 }
 
-/// What is said of the step of this number, which isn't lawful for this reason.
+/// What is said about the step with this number, which isn't lawful for the reason `what`.
 fn said_of<A: Allocator + Copy>(
     alloc: A,
     run: Source<'_>,
@@ -175,7 +175,7 @@ fn said_of<A: Allocator + Copy>(
     said_at(alloc, run.file, &[no, column], what, number, &details)
 }
 
-/// What is said of the first of these steps that isn't lawful.
+/// What is said about the first of these steps that isn't lawful.
 fn of_first<A: Allocator + Copy>(
     alloc: A,
     assigned: &Assigned<'_, '_, A>,
@@ -192,7 +192,7 @@ fn of_first<A: Allocator + Copy>(
     said_of(alloc, run, &what, first.number)
 }
 
-/// What is said of these steps on these workqueues: nothing where the step of this number isn't the first that isn't
+/// What is said about these steps on these workqueues; `None` unless the step with this number is the first that isn't
 /// lawful.
 fn of_steps<A: Allocator + Copy>(
     alloc: A,
@@ -223,8 +223,8 @@ fn of_steps<A: Allocator + Copy>(
     Ok(Some(said))
 }
 
-/// Says why the step of this number isn't lawful, of the steps of a run on workqueues with these names. The first step
-/// is 1. Where another step is the first that isn't lawful, or there is none, it says nothing.
+/// Says why the step with this number, counted from 1, isn't lawful, in a run on workqueues with these names. `None` if
+/// another step is the first that isn't lawful, or if all are.
 ///
 /// The only error is out of memory (20).
 pub fn of_unlawful<A: Allocator + Copy>(

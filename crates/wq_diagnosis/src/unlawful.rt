@@ -1,8 +1,8 @@
 //! Why a step of a run isn't lawful.
 //!
 //! The rules are those of "Steps" in docs/FORMAT.md, as `wq_core` has them. A reason rules out its step: whatever is
-//! declared and whatever the state, the step isn't lawful where the reason holds. A call takes the time of a few
-//! questions to the machine.
+//! declared and whatever the state is, the step isn't lawful if the reason holds. A call takes the time of a few
+//! queries to the machine.
 
 ghost use Rattle.std.specs.Prelude.{◌≡◌, IfNone, IfSome, length};
 ghost use Rattle.wq_core.specs.Held.{IsMachine};
@@ -16,7 +16,7 @@ use wq_core::{Core, Step, Waiting};
 use wq_groups::LaneId;
 use wq_items::ItemId;
 
-/// What keeps a step from being lawful. The item and the workqueue are those of the step, where no other one is named.
+/// What keeps a step from being lawful. The item and the workqueue are those of the step, unless another one is named.
 #[derive(Clone, Copy, Debug, PartialEq, Eq)]
 pub enum Unlawful {
     /// There is no such item.
@@ -33,21 +33,21 @@ pub enum Unlawful {
     First(ItemId),
     /// Nothing runs on the workqueue.
     NothingRuns,
-    /// An entry of this item runs on the workqueue, and waits so.
+    /// An entry of this item runs on the workqueue, and waits for this.
     Waits(ItemId, Waiting),
-    /// This item runs on the workqueue, and declares no flush of the other one; or,
-    /// where this is so, none of its whole workqueue.
+    /// This item runs on the workqueue, and declares no flush of the item of the step or, if the flag is set, of its
+    /// whole workqueue.
     Undeclared(ItemId, bool),
     /// This item runs on the workqueue, and has made as many waits as it declares flushes.
     AllMade(ItemId),
     /// This item runs on the workqueue, and doesn't wait.
     Awake(ItemId),
-    /// An entry that was queued before the wait is unfinished: one of the item, or,
-    /// where this is so, one on its workqueue.
+    /// An entry that was queued before the wait is unfinished: one of the item or, if the flag is set, one on its
+    /// workqueue.
     Unfinished(bool),
 }
 
-/// Why the item may not be queued.
+/// Why the item can't be queued, if it can't.
 fn queue_reason<A: Allocator>(core: &Core<A>, item: ItemId) -> Option<Unlawful>
     ensures some { IfSome result (λ why. Forbids core.now.wiring core.now.state why (Queue item)) }
     ensures none { IfNone result (Lawful core.now.wiring core.now.state (Queue item)) }
@@ -61,7 +61,7 @@ fn queue_reason<A: Allocator>(core: &Core<A>, item: ItemId) -> Option<Unlawful>
     None
 }
 
-/// Why the item may not be cancelled.
+/// Why the item can't be cancelled, if it can't.
 fn cancel_reason<A: Allocator>(core: &Core<A>, item: ItemId) -> Option<Unlawful>
     ensures some { IfSome result (λ why. Forbids core.now.wiring core.now.state why (Cancel item)) }
     ensures none { IfNone result (Lawful core.now.wiring core.now.state (Cancel item)) }
@@ -73,7 +73,7 @@ fn cancel_reason<A: Allocator>(core: &Core<A>, item: ItemId) -> Option<Unlawful>
     }
 }
 
-/// Why the workqueue may not start the item.
+/// Why the workqueue can't start the item, if it can't.
 fn start_reason<A: Allocator>(core: &Core<A>, q: LaneId, item: ItemId) -> Option<Unlawful>
     requires { core.now.wiring.helpers ≡ 0 }
     ensures some { IfSome result (λ why. Forbids core.now.wiring core.now.state why (Start q item)) }
@@ -92,7 +92,7 @@ fn start_reason<A: Allocator>(core: &Core<A>, q: LaneId, item: ItemId) -> Option
     }
 }
 
-/// Why what the workqueue runs may not begin to wait for the target, or for its whole workqueue.
+/// Why what the workqueue runs can't begin to wait for the target or, if `whole`, for its workqueue, if it can't.
 fn wait_reason<A: Allocator>(
     core: &Core<A>,
     q: LaneId,
@@ -118,7 +118,7 @@ fn wait_reason<A: Allocator>(
     None
 }
 
-/// Why the wait of what the workqueue runs for the target, or for its whole workqueue, may not be over.
+/// Why the wait of what the workqueue runs for the target or, if `whole`, for its workqueue can't be over, if it can't.
 fn over_reason<A: Allocator>(
     core: &Core<A>,
     q: LaneId,
@@ -142,7 +142,7 @@ fn over_reason<A: Allocator>(
     Some(Unlawful::Unfinished(whole))
 }
 
-/// Why the workqueue may not finish the item.
+/// Why the workqueue can't finish the item, if it can't.
 fn finish_reason<A: Allocator>(core: &Core<A>, q: LaneId, item: ItemId) -> Option<Unlawful>
     ensures some { IfSome result (λ why. Forbids core.now.wiring core.now.state why (Finish q item)) }
     ensures none { IfNone result (Lawful core.now.wiring core.now.state (Finish q item)) }
@@ -157,7 +157,7 @@ fn finish_reason<A: Allocator>(core: &Core<A>, q: LaneId, item: ItemId) -> Optio
     Some(Unlawful::Waits(item, flush))
 }
 
-/// The workqueue that a step names; 0 where it names none.
+/// The workqueue that a step names; 0 if it names none.
 pub(crate) fn named_workqueue(step: Step) -> LaneId
     ensures { result ≡ named_workqueue step }
 {
@@ -190,8 +190,9 @@ pub(crate) fn named_item(step: Step) -> ItemId
     }
 }
 
-/// What keeps the step from being lawful, on a machine without helpers; nothing where it is. Of several reasons it is
-/// the first one in the order of the rules. Of a helper's step nothing is said: no text of a run holds one.
+/// What keeps the step from being lawful, on a machine without helpers; `None` if it is lawful. If there are several
+/// reasons, it is the first one in the order of the rules. About a helper's step nothing is said: no text of a run
+/// holds one.
 pub(crate) fn reason_of<A: Allocator>(core: &Core<A>, step: Step) -> Option<Unlawful>
     requires { core.now.wiring.helpers ≡ 0 }
     ensures some { IfSome result (λ why. Forbids core.now.wiring core.now.state why step) }

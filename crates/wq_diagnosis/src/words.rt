@@ -12,7 +12,7 @@ use wq_groups::{Declaration, LaneId};
 use wq_items::{ItemId, ItemTable};
 use wq_names::{messages, name_at};
 
-/// The name of a workqueue behind its number, if it has a name.
+/// The name of a workqueue as it is written after its number, if it has a name.
 pub(crate) fn name_words<A: Allocator + Copy>(
     alloc: A,
     name: &[u8],
@@ -25,7 +25,7 @@ pub(crate) fn name_words<A: Allocator + Copy>(
     messages::its_name(alloc, name)
 }
 
-/// A workqueue with its name, where it has one.
+/// A workqueue with its name, if it has one.
 pub fn workqueue_words<A: Allocator + Copy>(
     alloc: A,
     names: &[&[u8]],
@@ -47,7 +47,7 @@ pub fn workqueue_of<A: Allocator + Copy>(assigned: &Assigned<'_, '_, A>, item: I
     assigned.workqueues().assignment().lane(group)
 }
 
-/// The name of an item; no byte where there is no such item.
+/// The name of an item; empty if there is no such item.
 fn item_name<'a, A: Allocator + Copy>(table: &ItemTable<'a, A>, item: ItemId) -> &'a [u8]
     ensures { result.now ≡ name_of table.now.names item }
 {

@@ -1,6 +1,6 @@
--- The answer to a declaration and an assignment, or to only a declaration: a drawing.
--- Where workqueues can hang, the flushes are bold red in which a shortest run waits that
--- ends stuck. There may be several such runs: that is the one freedom of an answer.
+-- The answer to a declaration and an assignment, or to a declaration alone: a drawing. If workqueues can hang, the
+-- waits of a shortest run that ends stuck are bold red. There may be several such runs: this is the one freedom of an
+-- answer.
 use Rattle.std.specs.Prelude.{◌≡◌, ◌⊎◌, ◌==◌, ◌&&◌, not, cond, if◌then◌else◌, Bool, false, true, ℕ, List, [], ◌++◌}
 use Rattle.std.specs.Prelude.{length, codes, decimal, MatchResult, Ok}
 use Rattle.std.specs.List.{list_any}
@@ -41,15 +41,15 @@ use Rattle.wq_dot.specs.Flushes.{all_arcs, bold_red, looks_of, marked, red_looks
 
 -- ---- titles
 
--- a space, a number and what there are so many of: ` 1 wait`, ` 2 waits`
+-- a space, a number and the noun that it counts: ` 1 wait`, ` 2 waits`
 abbrev pub counted : ℕ → List ℕ → List ℕ
 counted n thing = spaced (decimal n) ++ codes " " ++ thing ++ cond (n == 1) [] (codes "s")
 
--- so many waits are bold
+-- how many waits are bold
 abbrev pub bold_text : ℕ → List ℕ
 bold_text n = if n == 0 then [] else codes "," ++ counted n (codes "wait") ++ codes " in bold"
 
--- so many flushes are unsure
+-- how many flushes are unsure
 abbrev pub unsure_text : ℕ → List ℕ
 unsure_text unsure = if unsure == 0 then [] else codes "," ++ spaced (decimal unsure) ++ codes " not sure"
 
@@ -57,7 +57,7 @@ unsure_text unsure = if unsure == 0 then [] else codes "," ++ spaced (decimal un
 abbrev pub bold_legend : ℕ → List ℕ
 bold_legend n = if n == 0 then [] else codes "\\lBold: the chain that needs so many workqueues."
 
--- the legend of dotted arrows, if so many flushes are unsure
+-- the legend of dotted arrows, if any flush is unsure
 abbrev pub dotted_legend : ℕ → List ℕ
 dotted_legend unsure = if unsure == 0 then [] else codes "\\lDotted: not sure."
 
@@ -75,7 +75,7 @@ plan_title workqueues bold unsure =
 abbrev pub leading_text : ℕ → List ℕ
 leading_text leading = if leading == 0 then [] else codes "," ++ spaced (decimal leading) ++ codes " to no rescuer"
 
--- the work that red waits are for, if so many of so many lead to no rescuer, and the others lie on a circle
+-- the work that red waits wait for, given how many of how many lead to no rescuer; the others lie on a circle
 abbrev pub awaited : ℕ → ℕ → List ℕ
 awaited leading red =
     if leading == 0 then codes "only it, or one that waits for it, can do"
@@ -86,7 +86,7 @@ awaited leading red =
 abbrev pub shortest_text : ℕ → ℕ → List ℕ
 shortest_text red bold = if red == bold then [] else codes "," ++ spaced (decimal bold) ++ codes " in bold"
 
--- the legend of bold ones, if not all red waits are bold
+-- the legend of bold waits, if not all red waits are bold
 abbrev pub shortest_legend : ℕ → ℕ → List ℕ
 shortest_legend red bold = if red == bold then [] else codes "\\lBold: enough to hang it, in the fewest steps."
 
@@ -95,7 +95,7 @@ abbrev pub red_legend : ℕ → ℕ → List ℕ
 red_legend leading red =
     codes "\\lRed: while memory is short, a worker may wait for work\\lthat " ++ awaited leading red ++ codes "."
 
--- `safe` if no wait is red, else what hangs and the number of red waits
+-- `safe` if no wait is red, or else what hangs and the number of red waits
 abbrev pub red_text : List ℕ → ℕ → ℕ → ℕ → List ℕ
 red_text hanging leading red bold =
     if red == 0 then codes "safe"
@@ -120,8 +120,8 @@ dashed_legend bare =
 abbrev pub legend_end : List Bool → ℕ → ℕ → List ℕ
 legend_end bare red unsure = if red == 0 && (not (some_bare bare) && (unsure == 0)) then [] else codes "\\l"
 
--- the title of a drawing in which so many waits are red, of which so many lead to no rescuer, and so many are bold; and
--- so many flushes are unsure
+-- the title of a drawing of workqueues, given how many waits are red, how many of these lead to no rescuer, how many
+-- are bold, and how many flushes are unsure
 abbrev pub circles_title : List ℕ → ℕ → List Bool → ℕ → ℕ → ℕ → List ℕ
 circles_title hanging leading bare red bold unsure =
     red_text hanging leading red bold ++ unsure_text unsure ++ red_legends leading red bold ++ dashed_legend bare
@@ -129,7 +129,7 @@ circles_title hanging leading bare red bold unsure =
 
 -- ---- drawings
 
--- how the flushes of what is declared look: those of these arcs have this look, and the others are plain
+-- how the flushes of what is declared look: those of these arcs have this look, the others are plain
 abbrev pub declared_looks : Declared → FlushLook → List WaitArc → List FlushLook
 declared_looks s look arcs = looks_of (flush_count s.table.waits) look arcs
 
@@ -152,19 +152,19 @@ pub record DrawsPlan (s : Declared) (comments : List (List ℕ)) (out : List ℕ
 abbrev pub hanging_arcs : Declared → Workqueues → List (List WaitArc) → List WaitArc
 hanging_arcs s ws components = all_arcs components ++ bare_waits (declared_waits s) ws
 
--- these are the waits of a shortest run of the workqueues that ends stuck, in the
--- walk whose run it is; none if no run ends stuck
+-- these are the waits of a shortest run of the workqueues that ends stuck, in the walk whose run it is; none if no run
+-- ends stuck
 abbrev pub AreShortest : Declaration → Workqueues → List Hop → Type 0
 AreShortest d ws hops = (IsSafe (wiring_of d ws) × (hops ≡ [])) ⊎ ((steps : List Step) × IsHangOf d ws hops steps)
 
--- how the flushes of what is declared look: those in which these waits are made are
--- bold red, and of the others those of these arcs red
+-- how the flushes of what is declared look: those of these waits are bold red; of the others, those of these arcs are
+-- red
 abbrev pub hanging_looks : Declared → List Hop → List WaitArc → List FlushLook
 hanging_looks s hops arcs = red_looks_of (flush_count s.table.waits) hops arcs
 
--- workqueues with these names are drawn; the flushes that are on a circle are red, and so are those that lead to a
--- workqueue without a rescuer, and if there are any, this is what hangs; and bold red are those in which these waits
--- are made, which are those of a shortest run that ends stuck
+-- workqueues with these names are drawn: the flushes on a circle are red, and so are those that lead to a workqueue
+-- without a rescuer, and if there are any, this is what hangs; bold red are those of these waits, which are the waits
+-- of a shortest run that ends stuck
 pub record DrawsCircles (s : Declared) (comments : List (List ℕ)) (ws : Workqueues) (called : List (List ℕ))
     (hanging : List ℕ) (hops : List Hop) (out : List ℕ) : Type 0 where
   pub components : List (List WaitArc)
@@ -178,7 +178,7 @@ pub record DrawsCircles (s : Declared) (comments : List (List ℕ)) (ws : Workqu
       (hanging_looks s hops (hanging_arcs s ws components)) comments
 
 -- the groups of a declaration are drawn, with the comments of its flushes: on the workqueues of their plan or, if they
--- wait in a circle, each on its own workqueue, and then these are the waits of a shortest run that ends stuck
+-- wait in a circle, each on its own workqueue; in that case these are the waits of a shortest run that ends stuck
 abbrev pub DrawsGroups : Declared → List (List ℕ) → List Hop → List ℕ → Type 0
 DrawsGroups s comments hops out =
     DrawsPlan s comments out
@@ -211,7 +211,7 @@ DrawsBy hops declared text end out =
 abbrev pub DrawsOwn : Declared → List (List ℕ) → List Hop → End → List ℕ → Type 0
 DrawsOwn s comments hops end out = (end ≡ Good) × DrawsGroups s comments hops out
 
--- the answer to only the text of a declaration
+-- the answer to the text of a declaration alone
 abbrev pub OwnDrawsBy : List Hop → List ℕ → End → List ℕ → Type 0
 OwnDrawsBy hops declared end out =
     MatchResult (declaration declared)
@@ -224,7 +224,7 @@ OwnDrawsBy hops declared end out =
 abbrev pub Draws : List ℕ → List ℕ → End → List ℕ → Type 0
 Draws declared text end out = (hops : List Hop) × DrawsBy hops declared text end out
 
--- the answer to only the text of a declaration
+-- the answer to the text of a declaration alone
 abbrev pub OwnDraws : List ℕ → End → List ℕ → Type 0
 OwnDraws declared end out = (hops : List Hop) × OwnDrawsBy hops declared end out
 
@@ -242,13 +242,13 @@ DrawsText s comments text =
 
 -- ---- the command, with an assignment or without one
 
--- what it finds in what is declared, with these comments, and in the texts behind it, and its answer
+-- what the command finds in what is declared, with these comments, and in the texts after it; and its answer
 abbrev pub DrawsCommented : {A : Type 0} → Bool → Declared → List (List ℕ) → Given → Found (Drawn A) → End → List ℕ
     → Type 0
 DrawsCommented true s comments texts = DrawsText s comments texts.second
 DrawsCommented false s comments texts = FindsDrawing (DrawsOwn s comments)
 
--- what it finds in texts the first of which declares this, and its answer
+-- what the command finds in texts, the first of which declares this; and its answer
 abbrev pub DrawsTexts : {A : Type 0} → Bool → Declared → Given → Found (Drawn A) → End → List ℕ → Type 0
 DrawsTexts assigned s texts found end out =
     declaration texts.first ≡ Ok s → DrawsCommented assigned s (comments_of texts.first) texts found end out
@@ -258,11 +258,12 @@ abbrev pub IsFor : {A : Type 0} → List Hop → Found (Drawn A) → Type 0
 IsFor hops (Read drawn) = drawn.waits.items ≡ hops
 IsFor hops (Refused which code line) = Unit {0}
 
--- what it finds so, if these are the waits whose flushes are bold red
+-- what the command finds in texts, the first of which declares this, if these are the waits whose flushes are bold red;
+-- and its answer
 abbrev pub DrawsTextsBy : {A : Type 0} → List Hop → Bool → Declared → Given → Found (Drawn A) → End → List ℕ → Type 0
 DrawsTextsBy hops assigned s texts found end out = IsFor hops found × DrawsTexts assigned s texts found end out
 
--- its answer to the texts
+-- the answer of the command to the texts
 abbrev pub AnswersDot : Bool → Given → End → List ℕ → Type 0
 AnswersDot true texts end out = Draws texts.first texts.second end out
 AnswersDot false texts end out = OwnDraws texts.first end out

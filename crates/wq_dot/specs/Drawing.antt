@@ -39,8 +39,8 @@ single_line names i = codes "    \"" ++ name_of names i ++ codes "\";"
 abbrev pub member_line : List (List ℕ) → ℕ → List ℕ
 member_line names i = codes "      \"" ++ name_of names i ++ codes "\";"
 
--- a group of several items, of which this one is the first: a box within the
--- workqueue's box, with the word `ordered` and a line for each item
+-- a group of several items, of which `first` is the first: a box within the workqueue's box, with the word `ordered`
+-- and a line for each item
 abbrev pub group_box_lines : List (List ℕ) → ℕ → List ℕ → List (List ℕ)
 group_box_lines names first members =
     (codes "    subgraph \"cluster ordered " ++ name_of names first ++ codes "\" {")
@@ -65,7 +65,7 @@ abbrev pub frame_text : Bool → List ℕ
 frame_text true = codes "style=\"filled,dashed\", fillcolor=gray92, color=black"
 frame_text false = codes "style=filled, color=gray92"
 
--- the second line of workqueue q with this name, which others have too or not, with its frame and its label
+-- the second line of workqueue q, with its frame and its label, given its name and whether others have the same name
 abbrev pub frame_line : List ℕ → Bool → Bool → ℕ → List ℕ
 frame_line name shared bare q =
     codes "    graph [label=\"\", " ++ frame_text bare
@@ -91,13 +91,13 @@ workqueue_box_lines names group_of ws called q =
 abbrev pub is_whole_at : List (List Target) → WaitArc → Bool
 is_whole_at waits flush = list_any (λ (t : Target). (t.place == flush.place) && t.whole) (targets_of waits flush.src)
 
--- the flush is drawn from its target: a flush goes the other way too, and that one
--- is of the item that was declared first
+-- the flush is drawn from its target: a flush goes the other way, too, and that one is of the item that was declared
+-- first
 abbrev pub is_turned : List (List Target) → WaitArc → Bool
 is_turned waits flush =
     nat_lt flush.dst flush.src && list_any (λ (t : Target). t.item == flush.src) (targets_of waits flush.dst)
 
--- the line and the colour of an arrow, of a flush that is unsure or not
+-- the line and the colour of an arrow, given whether the flush is unsure
 abbrev pub look_text : FlushLook → Bool → List ℕ
 look_text Plain false = []
 look_text Red false = codes " [color=red, style=bold]"
@@ -108,7 +108,7 @@ look_text Red true = codes " [color=red, style=\"bold,dotted\"]"
 look_text BoldRed true = codes " [color=red, penwidth=4, style=dotted]"
 look_text Bold true = codes " [style=\"bold,dotted\"]"
 
--- the head of an arrow that is drawn from its target or not, of a flush of a whole workqueue or not
+-- the head of an arrow, given whether it is drawn from its target, and whether the flush is of a whole workqueue
 abbrev pub head_text : Bool → Bool → List ℕ
 head_text false false = []
 head_text false true = codes " [arrowhead=odiamond]"

@@ -1,5 +1,5 @@
--- How the flushes of a drawing look: those of some arcs have a mark, those in which
--- some waits are made another, and the others have none.
+-- How the flushes of a drawing look: those of some arcs have one look, those of some waits another, and the others are
+-- plain.
 use Rattle.std.specs.Prelude.{ℕ, ◌<◌, ◌==◌, Bool, true, false, List, map, flat_map, fold, cond, slice_set}
 use Rattle.std.specs.List.{All, count_by, list_any, range_with_len}
 use Rattle.wq_graph.specs.declared.arc.WaitArc.{WaitArc}
@@ -15,13 +15,14 @@ look_at look arcs place = cond (list_any (λ (a : WaitArc). a.place == place) ar
 abbrev pub looks_of : ℕ → FlushLook → List WaitArc → List FlushLook
 looks_of n look arcs = map (look_at look arcs) (range_with_len 0 n)
 
--- how the flush at this place looks if it is bold red where one of these waits is
--- made in it, and else red where it is that of one of these arcs
+-- how the flush at this place looks: bold red if one of these waits is made in it, or else red if it is the flush of
+-- one of these arcs
 abbrev pub red_look_at : List Hop → List WaitArc → ℕ → FlushLook
 red_look_at hops arcs place =
     cond (list_any (λ (h : Hop). h.flush.place == place) hops) BoldRed (look_at Red arcs place)
 
--- how each of n flushes looks then, in order of place
+-- how each of n flushes looks, in order of place: bold red if one of these waits is made in it, or else red if it is
+-- the flush of one of these arcs
 abbrev pub red_looks_of : ℕ → List Hop → List WaitArc → List FlushLook
 red_looks_of n hops arcs = map (red_look_at hops arcs) (range_with_len 0 n)
 
@@ -57,14 +58,14 @@ bold_red looks = count_by is_bold_red looks
 abbrev pub AreMarkable : ℕ → List WaitArc → Type 0
 AreMarkable n arcs = All (λ (a : WaitArc). a.place < n) arcs
 
--- the looks after the flush of each of these arcs was given this look
+-- the looks after the flushes of these arcs have been given this look
 abbrev pub with_marks : FlushLook → List FlushLook → List WaitArc → List FlushLook
 with_marks look looks arcs = fold (λ (l : List FlushLook) (a : WaitArc). slice_set l a.place look) looks arcs
 
--- the flush in which each wait is made is one of n
+-- the flush of each wait is one of n
 abbrev pub AreFlushes : ℕ → List Hop → Type 0
 AreFlushes n hops = All (λ (h : Hop). h.flush.place < n) hops
 
--- the looks after the flush in which each of these waits is made became bold red
+-- the looks after the flushes of these waits have become bold red
 abbrev pub with_bold_red : List FlushLook → List Hop → List FlushLook
 with_bold_red looks hops = fold (λ (l : List FlushLook) (h : Hop). slice_set l h.flush.place BoldRed) looks hops

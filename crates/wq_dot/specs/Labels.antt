@@ -8,19 +8,19 @@ use Rattle.wq_dot.specs.Tooltips.{escaped}
 abbrev pub numbered : ℕ → List ℕ
 numbered q = codes "wq " ++ decimal q
 
--- several workqueues have this name, where these are the names of the workqueues
+-- several workqueues have this name, given the names of all
 abbrev pub is_shared : List (List ℕ) → List ℕ → Bool
 is_shared called name = nat_le 2 (count_by (bytes_eq name) called)
 
--- what comes before the name of workqueue q: `wq Q ` if others have the name, too
+-- what comes before the name of workqueue q: `wq Q ` if others have the same name
 abbrev pub before_name : Bool → ℕ → List ℕ
 before_name shared q = if shared then numbered q ++ codes " " else []
 
--- how workqueue q is labelled if this is its name, which others have too or not: `wq Q` if it has none
+-- what workqueue q is called, given whether others have the same name: `wq Q` if its name is empty
 abbrev pub named : Bool → ℕ → List ℕ → List ℕ
 named shared q name = if length name == 0 then numbered q else before_name shared q ++ flat_map escaped name
 
--- what follows if it has no rescuer
+-- what follows the label of a workqueue without a rescuer
 abbrev pub rescuer_text : Bool → List ℕ
 rescuer_text bare = cond bare (codes " (no rescuer)") []
 
@@ -28,11 +28,11 @@ rescuer_text bare = cond bare (codes " (no rescuer)") []
 abbrev pub label_of : List ℕ → Bool → Bool → ℕ → List ℕ
 label_of name shared bare q = named shared q name ++ rescuer_text bare
 
--- the label is the same that Graphviz makes of the number
+-- the label is what Graphviz makes of the number
 abbrev pub is_plain : List ℕ → Bool → Bool
 is_plain name bare = length name == 0 && not bare
 
--- the label as an attribute, unless it is the one that Graphviz makes
+-- the label as an attribute, unless it is what Graphviz makes of the number
 abbrev pub label_text : List ℕ → Bool → Bool → ℕ → List ℕ
 label_text name shared bare q =
     if is_plain name bare then [] else codes "label=\"" ++ label_of name shared bare q ++ codes "\", "

@@ -11,17 +11,17 @@ use Rattle.wq_names.specs.Comments.{comment_body}
 
 -- ---- comments
 
--- how many bytes of a comment are shown
+-- the most bytes of a comment that are shown
 abbrev pub max_comment : ℕ
 max_comment = 256
 
--- the comment of a line with these bytes, cut after so many of its own
+-- the comment of a line with these bytes, cut to `max_comment` bytes
 abbrev pub comment_of : List ℕ → List ℕ
 comment_of bytes = take max_comment (comment_body bytes)
 
 -- ---- the comments of flushes
 
--- how many flushes a line declares whose words are cut after the first: one for each name after the item's
+-- how many flushes a line declares that is cut after its first word: one for each name after the item's
 abbrev pub flushes_cut : Option (Option Keyword × List WordView) → ℕ
 flushes_cut (Some (Some Flush, names)) = length names - 1
 flushes_cut (Some (Some FlushWq, names)) = length names - 1

@@ -1,8 +1,8 @@
 //! A flush: an arrow from the item to the target.
 //!
-//! The line is that of "The command `dot`" in docs/FORMAT.md. Printing takes time and memory in the length of what is
-//! printed, and time in the logarithm of the number of flushes that the item declares. If the target was declared
-//! before the item, it also takes time in the number of flushes that the target declares.
+//! The line is that of "The command `dot`" in docs/FORMAT.md. Printing takes time and memory linear in the length of
+//! the output, and O(log n) time if the item declares n flushes. If the target was declared before the item, it also
+//! takes time linear in the number of flushes that the target declares.
 
 ghost use Rattle.std.specs.Prelude.{◌≡◌, ◌<◌, ◌==◌, ◌++◌, cond, length, OnOk};
 ghost use Rattle.std.specs.List.{list_any};
@@ -22,7 +22,7 @@ fn is_whole<A: Allocator + Copy>(table: &ItemTable<'_, A>, flush: WaitArc) -> bo
     requires { flush.src < length table.now.names }
     ensures { result ≡ is_whole_at table.now.waits flush }
 {
-    // What holds of every table.
+    // What holds for every table.
     let _items = table.len();
     let targets = table.waits(flush.src);
     match targets.binary_search_by_key(&flush.place, |target| target.place) {
@@ -31,7 +31,7 @@ fn is_whole<A: Allocator + Copy>(table: &ItemTable<'_, A>, flush: WaitArc) -> bo
     }
 }
 
-/// Whether some target is of this item.
+/// Whether any target is of this item.
 fn have_target(targets: &[Target], item: ItemId) -> bool
     ensures { result ≡ list_any (λ (t : Target). t.item == item) targets.now }
 {
@@ -90,7 +90,7 @@ fn head_text(turned: bool, whole: bool) -> &'static [u8]
     }
 }
 
-/// Adds an arrow between two items.
+/// Appends an arrow between two items.
 fn put_ends<A: Allocator + Copy>(
     out: &mut Vec<u8, A>,
     table: &ItemTable<'_, A>,
@@ -108,7 +108,7 @@ fn put_ends<A: Allocator + Copy>(
     put(out, b"\"")
 }
 
-/// Adds the line of a flush with this look and this comment.
+/// Appends the line of a flush with this look and this comment.
 pub(crate) fn put_flush<A: Allocator + Copy>(
     out: &mut Vec<u8, A>,
     table: &ItemTable<'_, A>,

@@ -1,7 +1,7 @@
-//! Comments: for each flush that a text declares that of its line, in order of place.
+//! Comments: for each flush that a text declares, the comment of its line, in order of place.
 //!
-//! What is shown of them is said in "The command `dot`" of docs/FORMAT.md. It takes time in the length of the text, and
-//! memory in the number of flushes: the bytes stay where they are.
+//! "The command `dot`" in docs/FORMAT.md says what is shown of them. It takes time linear in the length of the text,
+//! and memory linear in the number of flushes: the bytes stay where they are.
 
 ghost use Rattle.std.specs.Prelude.{◌≡◌, ◌-◌, ◌++◌, [], IfOk, None, OnOk, flat_map, length, map, replicate};
 ghost use Rattle.std.specs.Prelude.{slice_index_or, take};
@@ -15,10 +15,10 @@ use wq_decl::{Keyword, cut_keyword};
 use wq_names::comment_body;
 use wq_text::{Line, Lines, Text, Words};
 
-/// How many bytes of a comment are shown.
+/// The most bytes of a comment that are shown.
 const MAX_COMMENT: usize = 256;
 
-/// The first bytes of a comment, as many as are shown.
+/// The bytes of a comment that are shown.
 fn shown(comment: &[u8]) -> &[u8]
     ensures { result.now ≡ take max_comment comment.now }
 {
@@ -29,7 +29,7 @@ fn shown(comment: &[u8]) -> &[u8]
     }
 }
 
-/// The comment of a line; no byte if it has none.
+/// The comment of a line; empty if it has none.
 fn comment<'a>(line: &Line<'a>) -> &'a [u8]
     ensures { result.now ≡ comment_of line.now.bytes }
 {
@@ -56,7 +56,7 @@ fn flushes_on(line: &Line<'_>) -> usize
     }
 }
 
-/// Adds a comment so many times.
+/// Appends a comment this many times.
 fn put_comments<'a, A: Allocator + Copy>(
     comments: &mut Vec<&'a [u8], A>,
     comment: &'a [u8],
@@ -95,12 +95,12 @@ pub(crate) fn comments<A: Allocator + Copy>(
 {
     match Text::new(text, MAX_DECLARATION, MAX_DECLARATION_LINE) {
         Ok(text) => line_comments(alloc, text.lines()),
-        // No declaration is so long.
+        // No declaration is this long.
         Err(_) => Ok(Vec::new(alloc)),
     }
 }
 
-/// The comment of the flush at a place; no byte if there is none.
+/// The comment of the flush at a place; empty if there is none.
 pub(crate) fn comment_at<'a>(comments: &[&'a [u8]], place: u32) -> &'a [u8]
     ensures { result.now ≡ slice_index_or (map (λ c. c.now) comments.now) place [] }
 {

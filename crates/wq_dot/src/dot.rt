@@ -1,5 +1,5 @@
-//! The command `dot`: from what is declared, and the bytes of an assignment where
-//! one is named, to the bytes of the answer.
+//! The command `dot`: from what is declared and the bytes of an assignment, if one is named, to the bytes of the
+//! answer.
 //!
 //! The answer is built in full before its first byte is written. The rule is that of "The command `dot`" in
 //! docs/FORMAT.md. It takes the time of reading the assignment, of the plan or the components, of the search for a
@@ -11,13 +11,13 @@ use wq_commands::{Answered, Command, Finds, Found, one_or_two_texts};
 use wq_groups::Declaration;
 use wq_meter::{Limits, Texts};
 
-/// The command `dot`: its texts are a declaration and, where there is one, an assignment.
+/// The command `dot`: its texts are a declaration and perhaps an assignment.
 ///
-/// The answer to an assignment is the drawing of its workqueues. The flushes that lie on a circle of these are red, and
-/// so are those that lead from a workqueue with a rescuer to one without; of these, the ones in which a shortest run
-/// waits that ends stuck are bold. The answer to a declaration alone is the drawing of its plan, in which the flushes
-/// of the plan's chain are bold; where the groups wait in a circle, each has a workqueue of its own, and the flushes
-/// are red and bold as with an assignment. Where a text is refused, the answer is the refusal of the first that is.
+/// The answer to an assignment is the drawing of its workqueues. Flushes on a circle of workqueues are red, and so are
+/// those that lead from a workqueue with a rescuer to one without; of these, the waits of a shortest run that ends
+/// stuck are bold. The answer to a declaration alone is the drawing of its plan, in which the flushes of the chain are
+/// bold; if the groups wait in a circle, each has a workqueue of its own, and the flushes are red and bold as with an
+/// assignment. If a text is refused, the answer is the refusal of the first such text.
 #[derive(Clone, Copy, Debug)]
 pub struct DotCommand {
     /// Whether there is an assignment.

@@ -38,8 +38,8 @@ use wq_voice::unsure_count;
 /// What `dot` finds besides its drawing.
 #[derive(Drop)]
 pub struct Drawn<A: Allocator> {
-    /// The waits whose flushes are bold red: those of a shortest run that ends stuck. There are none where no run does,
-    /// or where a plan is drawn.
+    /// The waits whose flushes are bold red: those of a shortest run that ends stuck. There are none if no run ends
+    /// stuck, or if a plan is drawn.
     pub waits: Vec<Hop, A>,
 }
 
@@ -65,7 +65,7 @@ impl<A: Allocator> Drawing<A> {
     }
 }
 
-/// The drawing of a plan, with the chain that `solve` gave with it.
+/// The drawing of a plan, with the chain that `solve` returned with it.
 fn draw_plan<A: Allocator + Copy>(
     alloc: A,
     assigned: &Assigned<'_, '_, A>,
@@ -90,7 +90,7 @@ fn draw_plan<A: Allocator + Copy>(
     )
 }
 
-/// The drawing of workqueues with these names and these components, of whose flushes these lead to one without a
+/// The drawing of workqueues with these names and these components; the flushes `waits` lead to workqueues without a
 /// rescuer. `hanging` says what hangs if there are any, and `hops` are the waits of a shortest run that ends stuck.
 fn draw_components<A: Allocator + Copy>(
     alloc: A,
@@ -125,9 +125,8 @@ fn draw_components<A: Allocator + Copy>(
     )
 }
 
-/// The drawing of workqueues with these names, with those flushes marked that lie on
-/// a circle or lead to a workqueue without a rescuer, and those in which a shortest
-/// run waits that ends stuck. `hanging` says what hangs if there are any.
+/// The drawing of workqueues with these names. It marks the flushes that lie on a circle or lead to a workqueue without
+/// a rescuer, and the waits of a shortest run that ends stuck. `hanging` says what hangs if there are any.
 fn draw_circles<A: Allocator + Copy>(
     alloc: A,
     assigned: &Assigned<'_, '_, A>,
@@ -246,7 +245,7 @@ fn draw_assigned<A: Allocator + Copy>(
     Ok(drawing.answered())
 }
 
-/// The answer to workqueues of the declared groups, whose names are in this text.
+/// The answer to workqueues of the declared groups that have their names in this text.
 fn draw_named<A: Allocator + Copy>(
     alloc: A,
     assigned: &Assigned<'_, '_, A>,
@@ -294,7 +293,7 @@ fn draw_unassigned<A: Allocator + Copy>(
     Ok(drawing.answered())
 }
 
-/// The answer to what is declared, with these comments, and, where there is one, to the text of an assignment.
+/// The answer to what is declared, with these comments, and to the text of an assignment, if there is one.
 fn draw_commented<A: Allocator + Copy>(
     alloc: A,
     assigned: bool,
@@ -312,7 +311,7 @@ fn draw_commented<A: Allocator + Copy>(
     }
 }
 
-/// The answer to what the first of these texts declares and, where there is one, to the text of an assignment.
+/// The answer to what the first of these texts declares, and to the text of an assignment, if there is one.
 pub(crate) fn draw<A: Allocator + Copy>(
     alloc: A,
     assigned: bool,

@@ -1,8 +1,7 @@
 //! The text of a drawing: its head, its workqueues, its flushes and its end.
 //!
-//! The format is that of "The command `dot`" in docs/FORMAT.md. Drawing takes time and
-//! memory in the number of items, groups, workqueues and flushes, and in the length of
-//! the text, and as many comparisons of names as sorting those of the workqueues.
+//! The format is that of "The command `dot`" in docs/FORMAT.md. Drawing takes time and memory linear in the number of
+//! items, groups, workqueues and flushes and in the length of the text, and sorts the names of the workqueues.
 
 ghost use Rattle.std.specs.Prelude.{◌≡◌, ◌++◌, flat_map, length, map, IfOk, OnOk};
 ghost use Rattle.std.specs.List.{range_with_len};
@@ -24,7 +23,7 @@ use wq_groups::{Declaration, LaneId};
 use wq_names::name_at;
 use wq_text::put;
 
-/// Adds the workqueues with their groups. `called` has the names of the workqueues.
+/// Appends the workqueues with their groups. `called` has the names of the workqueues.
 fn put_workqueues<A: Allocator + Copy>(
     alloc: A,
     out: &mut Vec<u8, A>,
@@ -59,7 +58,7 @@ fn put_workqueues<A: Allocator + Copy>(
     Ok(())
 }
 
-/// Adds the declared flushes, with these looks and these comments, in order of place.
+/// Appends the declared flushes, with these looks and these comments, in order of place.
 fn put_flushes<A: Allocator + Copy>(
     alloc: A,
     out: &mut Vec<u8, A>,
@@ -86,9 +85,9 @@ fn put_flushes<A: Allocator + Copy>(
     Ok(())
 }
 
-/// The drawing of declared items on workqueues, with this title. `called` has the names of the workqueues: no byte for
-/// one that has none. `looks` says how each flush looks, in order of place, and `comments` what its tooltip says:
-/// nothing if there is no comment at its place.
+/// The drawing of declared items on workqueues, with this title. `called` has the names of the workqueues, empty for a
+/// workqueue without a name. `looks` says how each flush looks, in order of place, and `comments` what its tooltip
+/// says: nothing if there is no comment at its place.
 ///
 /// The only error is out of memory (20).
 pub fn drawing_text<A: Allocator + Copy>(

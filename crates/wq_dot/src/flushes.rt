@@ -1,9 +1,10 @@
-//! How each flush of a drawing looks: those of a chain are bold, those of components
-//! red, and so are those that lead to a workqueue without a rescuer. Those in which
-//! a shortest run waits that ends stuck are bold and red. The others are plain.
+//! How each flush of a drawing looks: the flushes of a chain are bold; those of components, and those that lead to a
+//! workqueue without a rescuer, are red; the waits of a shortest run that ends stuck are bold and red; the others are
+//! plain.
 //!
 //! The rule is that of "The command `dot`" in docs/FORMAT.md. A flush is identified by its place. So if several have
-//! the same item and target, only the one that is meant is marked. It takes time and memory in the number of flushes.
+//! the same item and target, only the one that is meant is marked. It takes time and memory linear in the number of
+//! flushes.
 
 ghost use Rattle.std.specs.Prelude.{◌≡◌, ◌<◌, ◌^◌, ◌++◌, length, map, flat_map, IfOk};
 ghost use Rattle.std.specs.List.{All};
@@ -44,7 +45,7 @@ fn mark(looks: &mut [FlushLook], arcs: &[WaitArc], look: FlushLook)
     }
 }
 
-/// Makes the flushes bold and red in which these waits are made.
+/// Makes the flushes of these waits bold and red.
 fn mark_bold_red(looks: &mut [FlushLook], hops: &[Hop])
     requires { AreFlushes (length looks.old) hops.now }
     ensures { looks.new ≡ with_bold_red looks.old hops.now }
@@ -54,7 +55,7 @@ fn mark_bold_red(looks: &mut [FlushLook], hops: &[Hop])
     }
 }
 
-/// How each flush of a table's items looks, in order of place. Those of this chain are bold.
+/// How each flush of a table's items looks, in order of place: the flushes of the chain are bold.
 pub(crate) fn bold_flushes<A: Allocator + Copy>(
     alloc: A,
     table: &ItemTable<'_, A>,
@@ -68,8 +69,7 @@ pub(crate) fn bold_flushes<A: Allocator + Copy>(
     Ok(looks)
 }
 
-/// How each flush of a table's items looks, in order of place. Those of these
-/// components are red, and so are these waits.
+/// How each flush of a table's items looks, in order of place: the flushes of the components, and `waits`, are red.
 fn red_flushes<A: Allocator + Copy>(
     alloc: A,
     table: &ItemTable<'_, A>,
@@ -90,8 +90,8 @@ fn red_flushes<A: Allocator + Copy>(
     Ok(looks)
 }
 
-/// How each flush of a table's items looks, in order of place. Those of these components are red, and so are these
-/// waits; but those are bold and red in which a run waits as these hops say.
+/// How each flush of a table's items looks, in order of place: the flushes of the components, and `waits`, are red, but
+/// those of the waits `hops` of a run are bold and red.
 pub(crate) fn hanging_flushes<A: Allocator + Copy>(
     alloc: A,
     table: &ItemTable<'_, A>,

@@ -1,7 +1,7 @@
 //! A group: its item, or a box with its items.
 //!
-//! The lines are those of "The command `dot`" in docs/FORMAT.md. Printing takes time
-//! and memory in the length of what is printed.
+//! The lines are those of "The command `dot`" in docs/FORMAT.md. Printing takes time and memory linear in the length of
+//! the output.
 
 ghost use Rattle.std.specs.Prelude.{◌≡◌, ◌<◌, ◌++◌, flat_map, length, OnOk};
 ghost use Rattle.std.specs.List.{All};
@@ -11,7 +11,7 @@ use std::alloc::{AllocError, Allocator};
 use wq_items::{ItemId, ItemTable};
 use wq_text::put;
 
-/// Adds the line of a group of one item.
+/// Appends the line of a group of one item.
 fn put_single<A: Allocator + Copy>(
     out: &mut Vec<u8, A>,
     table: &ItemTable<'_, A>,
@@ -25,7 +25,7 @@ fn put_single<A: Allocator + Copy>(
     put(out, b"\";\n")
 }
 
-/// Adds the line of one item of a group of several.
+/// Appends the line of one item of a group of several.
 fn put_member<A: Allocator + Copy>(
     out: &mut Vec<u8, A>,
     table: &ItemTable<'_, A>,
@@ -39,7 +39,7 @@ fn put_member<A: Allocator + Copy>(
     put(out, b"\";\n")
 }
 
-/// Adds the box of a group of several items. This one is the first of them.
+/// Appends the box of a group of several items, of which `first` is the first.
 fn put_ordered<A: Allocator + Copy>(
     out: &mut Vec<u8, A>,
     table: &ItemTable<'_, A>,
@@ -69,7 +69,7 @@ fn put_ordered<A: Allocator + Copy>(
     put(out, b"    }\n")
 }
 
-/// Adds the lines of a group with these items.
+/// Appends the lines of a group with these items.
 pub(crate) fn put_group<A: Allocator + Copy>(
     out: &mut Vec<u8, A>,
     table: &ItemTable<'_, A>,

@@ -1,7 +1,7 @@
 //! The head of a drawing.
 //!
-//! The lines are those of "The command `dot`" in docs/FORMAT.md. Printing takes time
-//! and memory in the length of the title.
+//! The lines are those of "The command `dot`" in docs/FORMAT.md. Printing takes time and memory linear in the length of
+//! the title.
 
 ghost use Rattle.std.specs.Prelude.{◌≡◌, ◌++◌, flat_map, OnOk};
 ghost use Rattle.wq_dot.specs.Drawing.{ended, head_lines};
@@ -9,7 +9,7 @@ ghost use Rattle.wq_dot.specs.Drawing.{ended, head_lines};
 use std::alloc::{AllocError, Allocator};
 use wq_text::put;
 
-/// Adds the head, with this title.
+/// Appends the head, with this title.
 pub(crate) fn put_head<A: Allocator + Copy>(
     out: &mut Vec<u8, A>,
     title: &[u8],

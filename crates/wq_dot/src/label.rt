@@ -1,7 +1,7 @@
 //! The label of a workqueue: its name, or its number if it has none.
 //!
-//! The rule is that of "The command `dot`" in docs/FORMAT.md. Printing one takes
-//! time and memory in the length of the name.
+//! The rule is that of "The command `dot`" in docs/FORMAT.md. Printing takes time and memory linear in the length of
+//! the name.
 
 ghost use Rattle.std.specs.Prelude.{◌≡◌, ◌++◌, OnOk};
 ghost use Rattle.wq_dot.specs.Labels.{before_name, is_plain, label_of, label_text, named, numbered, rescuer_text};
@@ -10,7 +10,7 @@ use crate::tooltip::put_all_escaped;
 use std::alloc::{AllocError, Allocator};
 use wq_text::{put, put_number};
 
-/// Adds the number of a workqueue.
+/// Appends the number of a workqueue.
 pub(crate) fn put_numbered<A: Allocator + Copy>(
     out: &mut Vec<u8, A>,
     number: u16,
@@ -21,7 +21,7 @@ pub(crate) fn put_numbered<A: Allocator + Copy>(
     put_number(out, u32::from(number))
 }
 
-/// Adds what comes before the name of a workqueue: its number, if others have the name, too.
+/// Appends what comes before the name of a workqueue: its number, if others have the same name.
 fn put_before_name<A: Allocator + Copy>(
     out: &mut Vec<u8, A>,
     shared: bool,
@@ -36,7 +36,7 @@ fn put_before_name<A: Allocator + Copy>(
     put(out, b" ")
 }
 
-/// Adds how a workqueue is labelled that has this name. `shared` says whether others have it, too.
+/// Appends the name of a workqueue, or its number. `shared` says whether others have the same name.
 fn put_named<A: Allocator + Copy>(
     out: &mut Vec<u8, A>,
     shared: bool,
@@ -59,7 +59,7 @@ fn rescuer_text(bare: bool) -> &'static [u8]
     if bare { b" (no rescuer)" } else { b"" }
 }
 
-/// Adds the label of a workqueue.
+/// Appends the label of a workqueue.
 fn put_label_of<A: Allocator + Copy>(
     out: &mut Vec<u8, A>,
     name: &[u8],
@@ -73,15 +73,15 @@ fn put_label_of<A: Allocator + Copy>(
     put(out, rescuer_text(bare))
 }
 
-/// Whether the label is the same that Graphviz makes of the number.
+/// Whether the label is what Graphviz makes of the number.
 fn is_plain(name: &[u8], bare: bool) -> bool
     ensures { result ≡ is_plain name.now bare }
 {
     name.is_empty() && !bare
 }
 
-/// Adds the label of a workqueue as an attribute, unless it is the one that Graphviz makes. `shared` says whether
-/// others have its name, too, and `bare` whether it has no rescuer.
+/// Appends the label of a workqueue as an attribute, unless it is what Graphviz makes of the number. `shared` says
+/// whether others have the same name, and `bare` whether the workqueue has no rescuer.
 pub(crate) fn put_label<A: Allocator + Copy>(
     out: &mut Vec<u8, A>,
     name: &[u8],

@@ -1,6 +1,6 @@
-//! Laws about drawings, as contracts of functions with empty bodies. No code runs here: the clauses are the laws.
+//! Laws about drawings, as contracts of functions with empty bodies.
 //!
-//! `Drawing` puts the lines one after the other. The laws say what that means for an item and for a flush, as in "The
+//! `Drawing` puts the lines one after the other. The laws say what this means for an item and for a flush, as in "The
 //! command `dot`" in docs/FORMAT.md.
 
 ghost use Rattle.std.specs.Prelude.{◌≡◌, ◌<◌, Bool, ℕ, List, Ok, length, map, Contains};
@@ -29,9 +29,9 @@ ghost use Rattle.wq_dot.specs.Dotting.{AreShortest, Draws, DrawsBy, DrawsTextsBy
 
 use std::alloc::Allocator;
 
-/// A declaration and an assignment, or a declaration alone, have at most one end, and at most one text that is printed
-/// for the waits of a shortest run that ends stuck: where there are several such runs, the text says which one is
-/// meant, and nothing else is left open. So the command has one answer for the waits that it finds.
+/// A declaration and an assignment, or a declaration alone, have at most one end, and at most one printed text for the
+/// waits of a shortest run that ends stuck. If there are several such runs, the text says which one is meant, and
+/// nothing else is left open: the command has one answer for the waits that it finds.
 pub fn drawings_have_one_answer<A: Allocator>()
     ensures end { (declared text : List ℕ) (end other : End) (out printed : List ℕ) →
         Draws declared text end out → Draws declared text other printed → end ≡ other }
@@ -45,8 +45,8 @@ pub fn drawings_have_one_answer<A: Allocator>()
         (λ s texts (found : Found (Drawn A)) end out. DrawsTextsBy hops assigned s texts found end out) }
 {}
 
-/// Each item has exactly one line, whatever the title, the looks, the comments and the names of the workqueues, and
-/// whichever of these have no rescuer.
+/// Each item has exactly one line, whatever the title, the looks, the comments and the names of the workqueues are, and
+/// whichever workqueues have no rescuer.
 pub fn each_item_has_one_line()
     ensures { (t : Table) (p : Partition) (ws : Workqueues) (called : List (List ℕ)) (title : List ℕ)
         (looks : List FlushLook) (comments : List (List ℕ)) (i : ℕ) →
@@ -55,8 +55,8 @@ pub fn each_item_has_one_line()
         count_by (is_line_of t.names i) (drawing_lines t p ws called title looks comments) ≡ 1 }
 {}
 
-/// Each flush has exactly one arrow: there are as many arrows as flushes, each of a
-/// declared flush, and their places are 0, 1, 2 and so on.
+/// Each flush has exactly one arrow: there are as many arrows as flushes, each arrow is of a declared flush, and their
+/// places are 0, 1, 2 and so on.
 pub fn each_flush_has_one_arrow()
     ensures arrows { (t : Table) (p : Partition) (ws : Workqueues) (called : List (List ℕ)) (title : List ℕ)
         (looks : List FlushLook) (comments : List (List ℕ)) →
@@ -74,15 +74,15 @@ pub fn each_flush_has_a_comment()
         length (comments_of text) ≡ flush_count s.table.waits }
 {}
 
-/// An arrow has the head of its flush's kind: that of a whole workqueue exactly
-/// where the target that is declared at its place is one.
+/// An arrow has the head of its flush's kind: that of a whole workqueue exactly if the target at its place is a whole
+/// workqueue.
 pub fn an_arrow_has_the_head_of_its_kind()
     ensures { (t : Table) (p : Partition) (i : ℕ) (target : Target) → IsTable t →
         Contains (targets_of t.waits i) target →
         is_whole_at t.waits (arc_of p.group_of i target) ≡ target.whole }
 {}
 
-/// What is bold red is red: each flush in which a shortest run waits that ends stuck is in a component, or leads from a
+/// What is bold red is red: each wait of a shortest run that ends stuck is a flush in a component, or leads from a
 /// workqueue that has a rescuer to one that has none.
 pub fn what_is_bold_red_is_red()
     ensures { (d : Declaration) (ws : Workqueues) (components : List (List WaitArc)) (hops : List Hop) →

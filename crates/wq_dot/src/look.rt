@@ -1,6 +1,4 @@
-//! How a flush is drawn.
-//!
-//! The four kinds are those of "The command `dot`" in docs/FORMAT.md. Nothing is computed here.
+//! How a flush is drawn, as in "The command `dot`" in docs/FORMAT.md.
 
 ghost use Rattle.std.specs.Prelude.{◌≡◌};
 
@@ -9,18 +7,18 @@ ghost use Rattle.std.specs.Prelude.{◌≡◌};
 pub enum FlushLook {
     /// Without a mark: black and thin.
     Plain,
-    /// It lies on a circle, or leads to a workqueue without a rescuer.
+    /// The flush lies on a circle, or leads to a workqueue without a rescuer.
     Red,
-    /// It is red, and a shortest run that ends stuck waits in it.
+    /// The flush is red, and a shortest run that ends stuck waits in it.
     BoldRed,
-    /// The chain of a plan follows it.
+    /// The flush is on the chain of a plan.
     Bold,
 }
 
 impl FlushLook {
     ghost use Rattle.wq_dot.specs.Flushes.{is_bold_red, is_marked};
 
-    /// Whether it isn't plain.
+    /// Whether the look isn't plain.
     pub(crate) fn is_marked(self) -> bool
         ensures { result ≡ is_marked self }
     {
@@ -30,7 +28,7 @@ impl FlushLook {
         }
     }
 
-    /// Whether it is both bold and red.
+    /// Whether the look is both bold and red.
     pub(crate) fn is_bold_red(self) -> bool
         ensures { result ≡ is_bold_red self }
     {

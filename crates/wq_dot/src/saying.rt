@@ -1,5 +1,4 @@
-//! What is said beside the answer of `dot`: of a text that is refused its diagnosis, and of a declaration without an
-//! item that it has none.
+//! What is said beside the answer of `dot`: the diagnosis of a text that is refused, or that a declaration has no item.
 //!
 //! A drawing needs no reason: it shows what hangs. A call takes the time and the memory of the diagnosis or of the
 //! note.
@@ -15,7 +14,7 @@ use wq_diagnosis::{CertificateKind, of_no_item};
 use wq_groups::Declaration;
 use wq_voice::{FileNames, say_refused_text};
 
-/// What is said of a drawing, or of the text that is refused.
+/// What is said beside a drawing, or about the text that is refused.
 fn say_dot<A: Allocator + Copy>(
     alloc: A,
     names: &FileNames<'_>,

@@ -1,7 +1,6 @@
 //! The names that several workqueues have.
 //!
-//! They are kept in order, so it takes n log n comparisons of names, in the number
-//! of workqueues, and memory in this number.
+//! For n workqueues, this takes O(n log n) comparisons of names and O(n) memory, since the names are kept in order.
 
 ghost use Rattle.std.specs.Prelude.{map, IfOk};
 ghost use Rattle.wq_dot.specs.Shared.{HasShared};
@@ -9,7 +8,7 @@ ghost use Rattle.wq_dot.specs.Shared.{HasShared};
 use std::alloc::{AllocError, Allocator};
 use std::collections::BTreeSet;
 
-/// The names that stand more than once among those of the workqueues.
+/// The names that more than one workqueue has.
 pub(crate) fn shared_names<'a, A: Allocator + Copy>(
     alloc: A,
     called: &[&'a [u8]],

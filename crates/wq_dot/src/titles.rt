@@ -1,6 +1,6 @@
 //! The titles of drawings: what is drawn, in words, and the legend of the marks.
 //!
-//! They are those of "The command `dot`" in docs/FORMAT.md. Making one takes time and memory in its length.
+//! They are those of "The command `dot`" in docs/FORMAT.md. Making a title takes time and memory linear in its length.
 
 ghost use Rattle.std.specs.Prelude.{◌≡◌, ◌==◌, ◌++◌, [], codes, cond, IfOk, OnOk};
 ghost use Rattle.wq_dot.specs.Dotting.{awaited, bold_legend, bold_text, circles_title, counted, dashed_legend};
@@ -11,14 +11,14 @@ ghost use Rattle.wq_dot.specs.Dotting.{some_bare};
 use std::alloc::{AllocError, Allocator};
 use wq_text::{put, put_number, put_word};
 
-/// The end of a word that stands for so many things.
+/// The ending of a noun that is counted by this number.
 fn plural_end(number: u32) -> &'static [u8]
     ensures { result.now ≡ cond (number == 1) [] (codes "s") }
 {
     if number == 1 { b"" } else { b"s" }
 }
 
-/// Adds a number, and what there are so many of.
+/// Appends a number and the noun that it counts.
 fn put_counted<A: Allocator + Copy>(
     out: &mut Vec<u8, A>,
     number: u32,
@@ -31,7 +31,7 @@ fn put_counted<A: Allocator + Copy>(
     put(out, plural_end(number))
 }
 
-/// Adds how many waits are bold.
+/// Appends how many waits are bold.
 fn put_bold<A: Allocator + Copy>(out: &mut Vec<u8, A>, bold: u32) -> Result<(), AllocError>
     ensures { OnOk result (out.new.items ≡ out.old.items ++ bold_text bold) }
 {
@@ -43,7 +43,7 @@ fn put_bold<A: Allocator + Copy>(out: &mut Vec<u8, A>, bold: u32) -> Result<(), 
     put(out, b" in bold")
 }
 
-/// Adds how many flushes are unsure.
+/// Appends how many flushes are unsure.
 fn put_unsure<A: Allocator + Copy>(out: &mut Vec<u8, A>, unsure: u32) -> Result<(), AllocError>
     ensures { OnOk result (out.new.items ≡ out.old.items ++ unsure_text unsure) }
 {
@@ -66,7 +66,7 @@ fn bold_legend(bold: u32) -> &'static [u8]
     }
 }
 
-/// The legend of dotted arrows, if so many flushes are unsure.
+/// The legend of dotted arrows, if any flush is unsure.
 fn dotted_legend(unsure: u32) -> &'static [u8]
     ensures { result.now ≡ dotted_legend unsure }
 {
@@ -88,7 +88,7 @@ fn plan_end(bold: u32, unsure: u32) -> &'static [u8]
     }
 }
 
-/// The title of a plan with this many workqueues, so many bold waits and so many unsure flushes.
+/// The title of a plan with this many workqueues, bold waits and unsure flushes.
 pub(crate) fn plan_title<A: Allocator + Copy>(
     alloc: A,
     workqueues: u16,
@@ -108,7 +108,7 @@ pub(crate) fn plan_title<A: Allocator + Copy>(
     Ok(title)
 }
 
-/// Adds how many of the red waits lead to no rescuer.
+/// Appends how many of the red waits lead to no rescuer.
 fn put_leading<A: Allocator + Copy>(out: &mut Vec<u8, A>, leading: u32) -> Result<(), AllocError>
     ensures { OnOk result (out.new.items ≡ out.old.items ++ leading_text leading) }
 {
@@ -120,7 +120,7 @@ fn put_leading<A: Allocator + Copy>(out: &mut Vec<u8, A>, leading: u32) -> Resul
     put(out, b" to no rescuer")
 }
 
-/// Adds how many of the red waits are bold, if not all are.
+/// Appends how many of the red waits are bold, if not all are.
 fn put_shortest<A: Allocator + Copy>(
     out: &mut Vec<u8, A>,
     red: u32,
@@ -136,7 +136,7 @@ fn put_shortest<A: Allocator + Copy>(
     put(out, b" in bold")
 }
 
-/// The legend of bold ones, if not all red waits are bold.
+/// The legend of bold waits, if not all red waits are bold.
 fn shortest_legend(red: u32, bold: u32) -> &'static [u8]
     ensures { result.now ≡ shortest_legend red bold }
 {
@@ -147,7 +147,7 @@ fn shortest_legend(red: u32, bold: u32) -> &'static [u8]
     }
 }
 
-/// The work that red waits are for, if so many of so many lead to no rescuer.
+/// The work that red waits wait for, if `leading` of `red` lead to no rescuer.
 fn awaited(leading: u32, red: u32) -> &'static [u8]
     ensures { result.now ≡ awaited leading red }
 {
@@ -160,7 +160,7 @@ fn awaited(leading: u32, red: u32) -> &'static [u8]
     }
 }
 
-/// Adds the legend of red waits.
+/// Appends the legend of red waits.
 fn put_red_legend<A: Allocator + Copy>(
     out: &mut Vec<u8, A>,
     leading: u32,
@@ -176,7 +176,7 @@ fn put_red_legend<A: Allocator + Copy>(
     put(out, b".")
 }
 
-/// Adds the legend of red waits and of bold ones, if there are any.
+/// Appends the legends of red waits and of bold ones, if there are any.
 fn put_red_legends<A: Allocator + Copy>(
     out: &mut Vec<u8, A>,
     leading: u32,
@@ -192,7 +192,7 @@ fn put_red_legends<A: Allocator + Copy>(
     put(out, shortest_legend(red, bold))
 }
 
-/// Adds what hangs, with the red waits, or that nothing does.
+/// Appends what hangs, with the red waits, or that nothing does.
 fn put_red<A: Allocator + Copy>(
     out: &mut Vec<u8, A>,
     hanging: &[u8],
@@ -213,7 +213,7 @@ fn put_red<A: Allocator + Copy>(
     put_shortest(out, red, bold)
 }
 
-/// Whether some workqueue has no rescuer.
+/// Whether any workqueue has no rescuer.
 fn some_bare(bare: &[bool]) -> bool
     ensures { result ≡ some_bare bare.now }
 {
@@ -242,8 +242,9 @@ fn legend_end(bare: &[bool], red: u32, unsure: u32) -> &'static [u8]
     }
 }
 
-/// The title of a drawing with so many red waits, so many of which lead to no rescuer, and so many of which are bold:
-/// what hangs, or that nothing does; and with so many unsure flushes. `bare` says which workqueues have no rescuer.
+/// The title of a drawing of workqueues: what hangs, or that nothing does. There are `red` red waits, of which
+/// `leading` lead to no rescuer and `bold` are bold, and `unsure` unsure flushes. `bare` says which workqueues have no
+/// rescuer.
 pub(crate) fn circles_title<A: Allocator + Copy>(
     alloc: A,
     hanging: &[u8],

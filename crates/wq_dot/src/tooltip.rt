@@ -1,7 +1,7 @@
 //! The tooltip of an arrow: the comment of the line that declares the flush.
 //!
-//! The escapes are those of "The command `dot`" in docs/FORMAT.md. Printing takes
-//! time and memory in the length of the comment.
+//! The escapes are those of "The command `dot`" in docs/FORMAT.md. Printing takes time and memory linear in the length
+//! of the comment.
 
 ghost use Rattle.std.specs.Prelude.{◌≡◌, ◌++◌, OnOk, flat_map};
 ghost use Rattle.wq_dot.specs.Tooltips.{escaped, tooltip_of, tooltip_text};
@@ -9,7 +9,7 @@ ghost use Rattle.wq_dot.specs.Tooltips.{escaped, tooltip_of, tooltip_text};
 use std::alloc::{AllocError, Allocator};
 use wq_text::put;
 
-/// Adds a byte, with an escape if Graphviz would read it otherwise.
+/// Appends a byte, escaped if Graphviz would read it otherwise.
 fn put_escaped<A: Allocator + Copy>(out: &mut Vec<u8, A>, byte: u8) -> Result<(), AllocError>
     ensures { OnOk result (out.new.items ≡ out.old.items ++ escaped byte) }
 {
@@ -23,7 +23,7 @@ fn put_escaped<A: Allocator + Copy>(out: &mut Vec<u8, A>, byte: u8) -> Result<()
     }
 }
 
-/// Adds bytes, each with an escape if Graphviz would read it otherwise.
+/// Appends bytes, each escaped if Graphviz would read it otherwise.
 pub(crate) fn put_all_escaped<A: Allocator + Copy>(
     out: &mut Vec<u8, A>,
     bytes: &[u8],
@@ -36,7 +36,7 @@ pub(crate) fn put_all_escaped<A: Allocator + Copy>(
     Ok(())
 }
 
-/// Adds a tooltip with this comment.
+/// Appends a tooltip with this comment.
 fn put_comment<A: Allocator + Copy>(out: &mut Vec<u8, A>, comment: &[u8]) -> Result<(), AllocError>
     ensures { OnOk result (out.new.items ≡ out.old.items ++ tooltip_of comment.now) }
 {
@@ -45,7 +45,7 @@ fn put_comment<A: Allocator + Copy>(out: &mut Vec<u8, A>, comment: &[u8]) -> Res
     put(out, b"\"]")
 }
 
-/// Adds the tooltip with this comment, if it isn't empty.
+/// Appends the tooltip with this comment, unless it is empty.
 pub(crate) fn put_tooltip<A: Allocator + Copy>(
     out: &mut Vec<u8, A>,
     comment: &[u8],

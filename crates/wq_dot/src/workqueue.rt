@@ -1,7 +1,7 @@
 //! A workqueue: a box with its groups.
 //!
-//! The lines are those of "The command `dot`" in docs/FORMAT.md. Printing takes time
-//! and memory in the length of what is printed.
+//! The lines are those of "The command `dot`" in docs/FORMAT.md. Printing takes time and memory linear in the length of
+//! the output.
 
 ghost use Rattle.std.specs.Prelude.{◌≡◌, ◌<◌, ◌++◌, flat_map, OnOk};
 ghost use Rattle.std.specs.List.{All};
@@ -24,7 +24,7 @@ fn frame_text(bare: bool) -> &'static [u8]
     }
 }
 
-/// Adds the line with the frame and the label of a workqueue.
+/// Appends the line with the frame and the label of a workqueue.
 fn put_frame<A: Allocator + Copy>(
     out: &mut Vec<u8, A>,
     name: &[u8],
@@ -43,8 +43,8 @@ fn put_frame<A: Allocator + Copy>(
     put(out, b"shape=plaintext, style=\"\", fontsize=14];\n")
 }
 
-/// Adds the lines of a workqueue with this name and these groups. `shared` says whether others have its name, too, and
-/// `bare` whether it has no rescuer.
+/// Appends the lines of a workqueue with this name and these groups. `shared` says whether others have the same name,
+/// and `bare` whether the workqueue has no rescuer.
 pub(crate) fn put_workqueue<A: Allocator + Copy>(
     out: &mut Vec<u8, A>,
     declared: &Declaration<'_, A>,

@@ -12,7 +12,7 @@ use Rattle.wq_explain.specs.declared.words.TheConstants.{WORDS}
 use Rattle.wq_explain.specs.declared.table.TheConstants.{EXPLANATIONS}
 
 -- the numbers that have an explanation: those of a refused declaration, of a refused certificate, of a `no`, and of a
--- plan that is refused because it has too many workqueues to run
+-- plan with too many workqueues to run
 abbrev pub numbers : List ℕ
 numbers = 1 ∷ 2 ∷ 3 ∷ 4 ∷ 5 ∷ 6 ∷ 7 ∷ 8 ∷ 9 ∷ 10 ∷ 11 ∷ 12 ∷ 40 ∷ 41 ∷ 42 ∷ 43 ∷ 50 ∷ 51 ∷ 52 ∷ 53 ∷ 54 ∷ 69 ∷ []
 
@@ -78,7 +78,7 @@ numbered None code = false
 abbrev pub with_number : List Row → ℕ → Option Row
 with_number rows code = find (λ row. numbered row.code code) rows
 
--- whether the two are the same name: upper and lower case don't differ
+-- whether two names are equal, ignoring case
 abbrev pub same_name : List ℕ → List ℕ → Bool
 same_name name other = bytes_eq (map to_ascii_lowercase name) (map to_ascii_lowercase other)
 
@@ -96,7 +96,7 @@ number_in word =
     let digits = without_leading_plus word in
     cond (is_numeral digits && nat_lt (digits_value 10 digits) (2 ^ 32)) (Some (digits_value 10 digits)) None
 
--- the explanation that a word names, if it spells this number or none
+-- the explanation that a word names, given the number that it spells, if any
 abbrev pub explanation_of : List Row → List ℕ → Option ℕ → Option Row
 explanation_of rows word (Some code) = with_number rows code
 explanation_of rows word None = with_name rows word
@@ -110,7 +110,7 @@ abbrev pub text_or_titles : List Row → Option Row → List ℕ
 text_or_titles rows (Some row) = explanation_text row
 text_or_titles rows None = unknown_text rows
 
--- what is printed for a word, or without one, if these are the rows of the table
+-- what is printed with or without a word, if these are the rows of the table
 abbrev pub text_in : List Row → Option (List ℕ) → List ℕ
 text_in rows (Some word) = text_or_titles rows (explanation_in rows word)
 text_in rows None = titles rows
@@ -120,12 +120,12 @@ abbrev pub known_or_not : Option Row → Explained
 known_or_not (Some row) = Known
 known_or_not None = Unknown
 
--- whether a word has an explanation, if these are the rows of the table; listing all is fine, too
+-- whether a word has an explanation, if these are the rows of the table; without a word, yes
 abbrev pub end_in : List Row → Option (List ℕ) → Explained
 end_in rows (Some word) = known_or_not (explanation_in rows word)
 end_in rows None = Known
 
--- what is printed for a word, or without one
+-- what is printed with or without a word
 abbrev pub explained_text : Option (List ℕ) → List ℕ
 explained_text word = text_in explanations word
 

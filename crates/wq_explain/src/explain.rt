@@ -1,7 +1,7 @@
 //! The command `explain`: from a word to what it means, and the list of all that is explained.
 //!
 //! The rule is that of docs/FORMAT.md, "The command `explain`". The text is built in full before its first byte is
-//! written, and nothing is read. It takes time and memory in the length of the text.
+//! written, and nothing is read. It takes time and memory linear in the length of the text.
 
 ghost use Rattle.std.specs.Prelude.{◌≡◌, ◌≢◌, ◌++◌, Err, IfOk, map, option_map};
 ghost use Rattle.wq_explain.specs.Explaining.{end_in, explained_end, explained_text, explanation_in, explanation_text};
@@ -18,9 +18,9 @@ use wq_meter::{Fault, Metered, write_text};
 /// Whether a word has an explanation, or no word was given.
 #[derive(Clone, Copy, Debug, PartialEq, Eq)]
 pub enum Explained {
-    /// The word has one, or all were listed.
+    /// The word has an explanation, or all were listed.
     Known,
-    /// The word has none.
+    /// The word has no explanation.
     Unknown,
 }
 
@@ -106,7 +106,7 @@ fn explain_word<A: Allocator + Copy>(
     }
 }
 
-/// What is printed for a word, or without a word, and whether one of these explanations is for it.
+/// What is printed with or without a word, and whether one of these explanations is for it.
 fn explain<A: Allocator + Copy>(
     alloc: A,
     rows: &[Explanation],
@@ -123,12 +123,11 @@ fn explain<A: Allocator + Copy>(
     }
 }
 
-/// Writes the explanation that a word names, by its number or its name; upper and
-/// lower case don't differ. Without a word it writes the list of all explanations.
-/// For a word without an explanation it writes that list below a line that says so.
+/// Writes the explanation that a word names, by its number or its name, ignoring case. Without a word, or for one
+/// without an explanation, it writes the list of all explanations, in the second case below a line that says so.
 ///
-/// The errors are `Fault::Memory`, where memory ran out, and `Fault::Write`, where a write failed or took no byte.
-/// After `Fault::Write` a prefix of the text is written, and after `Fault::Memory` nothing.
+/// The errors are `Fault::Memory`, if memory ran out, and `Fault::Write`, if a write failed or took no byte. After
+/// `Fault::Write` a prefix of the text is written, after `Fault::Memory` nothing.
 pub fn explain_cmd<W: Write, A: Allocator + Copy>(
     alloc: A,
     word: Option<&str>,
@@ -178,7 +177,7 @@ fn all_rows<A: Allocator + Copy>(alloc: A) -> Result<Vec<Explanation, A>, AllocE
     Ok(rows)
 }
 
-/// What is printed for a word, or without a word, and whether there is an explanation for it.
+/// What is printed with or without a word, and whether there is an explanation for it.
 fn explain_known<A: Allocator + Copy>(
     alloc: A,
     word: Option<&str>,

@@ -1,6 +1,4 @@
-//! Laws about the table.
-//!
-//! Each law is a function that does nothing. Its contract is the law.
+//! Laws about the table, as contracts of functions with empty bodies.
 
 ghost use Rattle.std.specs.Prelude.{◌≡◌, ◌<◌, ◌^◌, ℕ, Some, decimal, map, filter_map};
 ghost use Rattle.wq_explain.specs.Explaining.{explained_end, explanations, names, number_end, numbers};
@@ -15,7 +13,7 @@ pub fn each_name_has_one_explanation()
     ensures { map (λ row. row.name) explanations ≡ names }
 {}
 
-/// A number is explained by the word of its digits exactly where it has an explanation.
+/// A number is found by the word of its digits exactly if it has an explanation.
 pub fn a_number_is_found_by_its_digits()
     ensures { (code : ℕ) → code < 2 ^ 32 → explained_end (Some (decimal code)) ≡ number_end code }
 {}

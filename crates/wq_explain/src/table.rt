@@ -1,16 +1,16 @@
 //! The explanations: one for each number that the program prints in a refusal or in a `no`, and one for each fault.
 //! Those of the words of texts are in `words.rt`.
 //!
-//! docs/FORMAT.md has the rules. tests/cli/explain.sh runs each example. A search
-//! takes time in the number of rows and the length of the word.
+//! docs/FORMAT.md has the rules. tests/cli/explain.sh runs each example. A search takes time linear in the number of
+//! rows and the length of the word.
 
 ghost use Rattle.std.specs.Prelude.{◌≡◌, find, option_map};
 ghost use Rattle.wq_explain.specs.Explaining.{numbered, same_name};
 
-/// An explanation: the number that the program prints, or none for a fault or a word of a
-/// text; its name, or that of the fault, or the word; its line in a list; and what it means.
-/// This last part says what was found, in which section of docs/FORMAT.md the rule is, shell
-/// commands, the last of which is answered like this, and how to mend it or what to do.
+/// An explanation: the number that the program prints, or none for a fault or a word of a text; its name, or that of
+/// the fault, or the word; its line in a list; and what it means. This last part says what was found, which section of
+/// docs/FORMAT.md has the rule, shell commands, the last of which is answered like this, and how to mend it or what to
+/// do.
 pub type Explanation = (Option<u32>, &'static str, &'static str, &'static str);
 
 const TEXT_TOO_LONG: Explanation = (
@@ -625,14 +625,14 @@ pub(crate) fn with_number(rows: &[Explanation], code: u32) -> Option<&Explanatio
     rows.iter().find(|row| is_numbered(row, code))
 }
 
-/// Whether the two are the same name: upper and lower case don't differ.
+/// Whether two names are equal, ignoring case.
 fn is_same_name(name: &str, other: &str) -> bool
     ensures { result ≡ same_name name.now other.now }
 {
     name.eq_ignore_ascii_case(other)
 }
 
-/// The first of these explanations with this name, if there is one. Upper and lower case don't differ.
+/// The first of these explanations with this name, ignoring case, if there is one.
 pub(crate) fn with_name<'a>(rows: &'a [Explanation], name: &str) -> Option<&'a Explanation>
     ensures { option_map (λ row. row.now) result ≡ find (λ row. same_name row.1.now name.now) rows.now }
 {

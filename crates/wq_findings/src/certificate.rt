@@ -1,7 +1,7 @@
 //! What is wrong on a line of a certificate that is refused, and what was most likely meant.
 //!
-//! The refusals are those of "Refusals of certificates" in docs/FORMAT.md. It takes time in the length of the text and,
-//! where a name is unknown, in the names of the declaration times the length of one.
+//! The refusals are those of "Refusals of certificates" in docs/FORMAT.md. It takes time linear in the length of the
+//! text; an unknown name is compared with each name of the declaration.
 
 use crate::finding::{Finding, Found};
 use crate::guess::{foreign_hint, has_separator, most_like, text_with};
@@ -19,7 +19,7 @@ use wq_cert::{MAX_CERTIFICATE, MAX_CERTIFICATE_LINE, MAX_COUNT};
 use wq_items::ItemTable;
 use wq_text::{Line, Text, number};
 
-/// What is wrong in a text that is refused with this number for this line, and that line, if there is one.
+/// What is wrong in a text that is refused with the number `code` for line `no`, and that line, if there is one.
 ///
 /// The only error is out of memory (20).
 pub fn in_certificate<'a, A: Allocator + Copy>(
@@ -39,7 +39,7 @@ pub fn in_certificate<'a, A: Allocator + Copy>(
     }
 }
 
-/// Which items are on no workqueue, and the line that isn't one of a workqueue and so ends these, if there is one.
+/// Which items are on no workqueue, and the line that isn't one of a workqueue and so ends them, if there is one.
 fn unplaced<'a, A: Allocator + Copy>(
     alloc: A,
     refused: &Refused<'_, 'a, A>,
@@ -54,7 +54,7 @@ fn unplaced<'a, A: Allocator + Copy>(
     }
 }
 
-/// Finds that items are on no workqueue since this line, which isn't one of a workqueue, ends these.
+/// Finds that items are on no workqueue since `line`, which isn't one of a workqueue, ends the workqueues.
 fn cut_off<'a, A: Allocator + Copy>(
     alloc: A,
     items: Unplaced<'a>,
@@ -66,7 +66,7 @@ fn cut_off<'a, A: Allocator + Copy>(
     Ok(Finding::marked(first_mark(line), what, hint))
 }
 
-/// What is wrong on this line of a text that is refused with this number for it.
+/// What is wrong on this line of a text that is refused with the number `code` for it.
 fn on_line<'a, A: Allocator + Copy>(
     alloc: A,
     refused: &Refused<'_, 'a, A>,
@@ -99,7 +99,7 @@ fn out_of_order<'a>(line: &Line<'a>, next: u32) -> What<'a> {
     }
 }
 
-/// What is wrong with the number of a workqueue that isn't the next one: it had a line above, or it is too large.
+/// A hint for a workqueue whose number isn't the next one: it had a line above, or the number is too large.
 fn order_hint(line: &Line<'_>, next: u32) -> &'static str {
     match number(bytes_at(line, 1)) {
         Some(given) if given < next =>
@@ -128,7 +128,7 @@ fn out_of_range<'a>(line: &Line<'a>, stage: Stage) -> Finding<'a> {
     Finding::marked(mark, What::Said(what), Hint::Nothing)
 }
 
-/// A line that isn't the one that should be there.
+/// A line that isn't the expected one.
 fn wrong_line<'a, A: Allocator + Copy>(
     alloc: A,
     refused: &Refused<'_, 'a, A>,
@@ -187,7 +187,7 @@ fn other_line<'a, A: Allocator + Copy>(
     Ok(Finding::marked(first_mark(line), what, hint))
 }
 
-/// What a line with another first word was most likely meant to be.
+/// The hint for a line with another first word: what it was most likely meant to be.
 fn other_hint<A: Allocator + Copy>(
     alloc: A,
     line: &Line<'_>,
@@ -204,7 +204,7 @@ fn other_hint<A: Allocator + Copy>(
     }
 }
 
-/// What a line in the place of one of a workqueue was most likely meant to be, where nothing says how many there are.
+/// The hint for a line in the place of one of a workqueue, if nothing says how many workqueues there are.
 fn stray_hint<A: Allocator + Copy>(
     alloc: A,
     word: &[u8],
@@ -232,12 +232,12 @@ fn is_of_plan(word: &[u8]) -> bool {
     word == b"plan".as_slice() || word == b"chain".as_slice() || word == b"arc".as_slice()
 }
 
-/// Whether a word begins lines of flushes that are sure: in an unsure part, such a line was decided since.
+/// Whether a word begins lines of sure flushes: in an unsure part, such a line has been decided since.
 fn is_sure_flush(word: &[u8]) -> bool {
     word == b"flush".as_slice() || word == b"flushwq".as_slice()
 }
 
-/// Which text a line that should be another one belongs to.
+/// Which text a line belongs to that isn't the expected one.
 fn text_hint(word: &[u8], stage: Stage) -> Hint<'static> {
     let is_bare = word == b"norescuer".as_slice();
     match stage {
@@ -267,7 +267,7 @@ fn number_hint(word: &[u8], stage: Stage) -> &'static str {
     }
 }
 
-/// The form of a line with this stage: a `norescuer` line may be in the place of a `wq` line.
+/// The form of a line at this stage: a `norescuer` line may be in the place of a `wq` line.
 fn form_hint(line: &Line<'_>, stage: Stage) -> Hint<'static> {
     match stage {
         Stage::Workqueue { next, .. } if bytes_at(line, 0) == b"norescuer".as_slice() => {
@@ -277,7 +277,7 @@ fn form_hint(line: &Line<'_>, stage: Stage) -> Hint<'static> {
     }
 }
 
-/// Whether a word in the place of a workqueue's number is an item of that workqueue: then the number is missing.
+/// Whether a word in the place of a workqueue's number is an item of that workqueue, so that the number is missing.
 fn lacks_number<A: Allocator + Copy>(table: &ItemTable<'_, A>, word: &[u8], stage: Stage) -> bool {
     matches!(stage, Stage::Workqueue { .. }) && table.find(word).is_some()
 }
@@ -295,7 +295,7 @@ fn no_number_hint<A: Allocator + Copy>(
     Hint::Said(number_hint(word, stage))
 }
 
-/// The word of a line where a number should be, if it isn't one.
+/// The word of a line in the place of a number, if it isn't a number.
 fn wrong_number<'a>(line: &Line<'a>, shape: Shape) -> Option<Token<'a>> {
     match word_at(line, 1) {
         Some(word) if shape.has_number && number(word.bytes).is_none() => Some(word),
@@ -352,7 +352,7 @@ fn wrong_words<'a, A: Allocator + Copy>(
     }
 }
 
-/// The first name of a line that isn't an item's.
+/// The first name of a line that isn't the name of an item.
 fn unknown_name<'a, A: Allocator + Copy>(
     table: &ItemTable<'_, A>,
     line: &Line<'a>,
@@ -376,7 +376,7 @@ fn no_item<'a, A: Allocator + Copy>(
     Ok(Finding::marked(word.mark, What::NoItem(word.quoted()), hint))
 }
 
-/// What a word in the place of an item was most likely meant to be.
+/// The hint for a word that isn't the name of an item: what it was most likely meant to be.
 fn no_item_hint<'a, A: Allocator + Copy>(
     alloc: A,
     declaration: &Text<'a>,

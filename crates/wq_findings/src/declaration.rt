@@ -1,7 +1,7 @@
 //! What is wrong on a line of a declaration that is refused, and what was most likely meant.
 //!
-//! The refusals are those of "Refusals" in docs/FORMAT.md. It takes time in the length of the text and, where a name is
-//! unknown, in the names of the text times the length of one.
+//! The refusals are those of "Refusals" in docs/FORMAT.md. It takes time linear in the length of the text; an unknown
+//! name is compared with each name of the text.
 
 use crate::finding::Finding;
 use crate::guess::{Guess, ZERO_BYTE, begins_comment, encoding_hint, guess_at, has_separator};
@@ -15,7 +15,7 @@ use wq_commands::MAX_DECLARATION_LINE;
 use wq_decl::{Keyword, MAX_NAME, is_name};
 use wq_text::{Line, Text};
 
-/// What is wrong in a declaration that is refused with this number for this line.
+/// What is wrong in a declaration that is refused with the number `code` for line `no`.
 ///
 /// The only error is out of memory (20).
 pub fn in_declaration<'a, A: Allocator + Copy>(
@@ -27,7 +27,7 @@ pub fn in_declaration<'a, A: Allocator + Copy>(
     in_mended(alloc, text, text, code, no)
 }
 
-/// The same of a declaration that was mended. Other lines that a hint names are among its own lines.
+/// As `in_declaration`, for a declaration that was mended. Other lines that a hint names are lines of `own`.
 pub fn in_mended<'a, A: Allocator + Copy>(
     alloc: A,
     text: &Text<'a>,
@@ -41,7 +41,7 @@ pub fn in_mended<'a, A: Allocator + Copy>(
     }
 }
 
-/// What is wrong on this line of a declaration that is refused with this number for it.
+/// What is wrong on this line of a declaration that is refused with the number `code` for it.
 fn on_line<'a, A: Allocator + Copy>(
     alloc: A,
     text: &Text<'a>,
@@ -57,7 +57,7 @@ fn on_line<'a, A: Allocator + Copy>(
     }
 }
 
-/// The same for a refusal whose explanation takes no memory.
+/// What is wrong on this line, for a refusal whose explanation takes no memory.
 fn on_this_line<'a>(text: &Text<'a>, line: &Line<'a>, code: u32) -> Finding<'a> {
     match code {
         2 => Finding::too_long(
@@ -86,7 +86,7 @@ fn may_stand(byte: u8) -> bool {
     matches!(byte, b'\t' | b' '..=b'~')
 }
 
-/// What a byte that may not be before a comment most likely is.
+/// The hint for a byte that may not be before a comment: what it most likely is.
 fn byte_hint(line: &Line<'_>, at: usize) -> &'static str {
     if at == 0
         && let Some(said) = encoding_hint(line.bytes())
@@ -101,7 +101,7 @@ fn byte_hint(line: &Line<'_>, at: usize) -> &'static str {
     }
 }
 
-/// The first byte of a line that may not be before its comment.
+/// The first byte of a line that may not be before the comment.
 fn bad_byte<'a>(line: &Line<'a>) -> Finding<'a> {
     for (at, byte) in line.content().iter().enumerate() {
         if !may_stand(*byte) {
@@ -124,7 +124,7 @@ fn unknown_word<'a, A: Allocator + Copy>(
     Ok(Finding::marked(first_mark(line), what, hint))
 }
 
-/// What a word that isn't a directive was most likely meant to be, in front of that second one.
+/// The hint for a first word that isn't a directive, before the word `second`: what it was most likely meant to be.
 fn directive_hint<A: Allocator + Copy>(
     alloc: A,
     text: &Text<'_>,
@@ -204,7 +204,7 @@ fn name_hint(word: &[u8]) -> Hint<'static> {
     }
 }
 
-/// To which word of a line the mark of this one belongs, if it is a line of flushes and the word has such a mark.
+/// Which word of a line the mark of this word belongs to, if it is a line of flushes and the word has such a mark.
 fn misplaced_mark(line: &Line<'_>, word: &[u8]) -> Option<Hint<'static>> {
     if !word.starts_with(b"?") && !word.ends_with(b"?") {
         return None;
@@ -277,7 +277,7 @@ fn undeclared<'a, A: Allocator + Copy>(
     Ok(Finding::marked(word.mark, what, hint))
 }
 
-/// Where such a name is declared, or which name was most likely meant.
+/// Where a name is declared that isn't declared above, or which name was most likely meant.
 fn undeclared_hint<'a, A: Allocator + Copy>(
     alloc: A,
     text: &Text<'a>,

@@ -1,7 +1,7 @@
 //! The part of a line that is shown, and the marks below it.
 //!
-//! Each byte has one column, so the marks are below the bytes that they mean. It
-//! takes time in the length of what is shown.
+//! Each byte has one column, so the marks are below the bytes that they mean. It takes time linear in the length of
+//! what is shown.
 
 ghost use Rattle.std.specs.Prelude.{None};
 
@@ -10,19 +10,19 @@ use crate::quoted::Quoted;
 use crate::token::Mark;
 use std::fmt;
 
-/// How many columns of a line are shown, at most.
+/// The most columns of a line that are shown.
 const MOST_COLUMNS: usize = 100;
 
-/// How many bytes of a line are shown where it is cut at both ends.
+/// How many bytes of a line are shown if it is cut at both ends.
 const CUT_BYTES: usize = 94;
 
-/// How many bytes are shown before those that are meant.
+/// How many bytes are shown before the marked ones.
 const BEFORE: usize = 40;
 
-/// What is shown in place of the bytes that are cut off at an end.
+/// What is shown in place of bytes that are cut off at an end.
 const CUT: &str = "...";
 
-/// What moves the line and its marks to the right.
+/// The indent of the line and its marks.
 const INDENT: &str = "    ";
 
 /// The part of a line that is shown: the bytes from `start` up to but not including `end`.
@@ -33,7 +33,7 @@ struct Window {
 }
 
 impl Window {
-    /// The part that is shown of a line of this many bytes, around a mark.
+    /// The part that is shown of a line of `len` bytes, around a mark.
     fn round(len: usize, mark: Mark) -> Window {
         if len <= MOST_COLUMNS {
             return Window { start: 0, end: len };
@@ -47,7 +47,7 @@ impl Window {
     }
 }
 
-/// The part of a line that is shown, moved to the right.
+/// The part of a line that is shown, indented.
 #[derive(Clone, Copy)]
 pub struct Excerpt<'a> {
     before: &'static str,
@@ -78,7 +78,7 @@ impl fmt::Display for Excerpt<'_> {
     }
 }
 
-/// The marks below such a part of a line, with the hint after them: some columns before the marks, and some marks.
+/// The marks below an excerpt, with the hint after them: some columns before the marks, and some marks.
 #[derive(Clone, Copy)]
 pub struct Marks<'a> {
     columns: usize,
@@ -87,7 +87,7 @@ pub struct Marks<'a> {
 }
 
 impl<'a> Marks<'a> {
-    /// The marks below the part that is shown of a line of this many bytes. There is at least one mark.
+    /// The marks below the part that is shown of a line of `len` bytes. There is at least one mark.
     pub fn of(len: usize, mark: Mark, hint: Hint<'a>) -> Marks<'a> {
         let Window { start, end } = Window::round(len, mark);
         let cut = if start > 0 { CUT.len() } else { 0 };

@@ -1,6 +1,5 @@
-//! What is found: the line and the bytes that are meant, what is wrong with them, and a hint.
-//!
-//! It takes constant time.
+//! What is found: the line and the bytes that are meant, what is wrong with them, and a hint. Each call takes constant
+//! time.
 
 use crate::hint::Hint;
 use crate::token::{Mark, Token, word_at};
@@ -10,7 +9,7 @@ use wq_text::Line;
 /// What is wrong, with which bytes of a line, and what was most likely meant.
 #[derive(Clone, Copy)]
 pub struct Finding<'a> {
-    /// The bytes that are meant; none where no part of a line is meant.
+    /// The bytes that are meant; `None` if no part of a line is.
     pub mark: Option<Mark>,
     /// What is wrong.
     pub what: What<'a>,
@@ -50,7 +49,7 @@ impl<'a> Finding<'a> {
         }
     }
 
-    /// A line that is longer than this limit.
+    /// The finding that a line is longer than `limit`.
     pub(crate) fn too_long(line: &Line<'a>, limit: usize, what: &'static str) -> Finding<'a> {
         let mark = Mark {
             at: limit,
@@ -59,7 +58,7 @@ impl<'a> Finding<'a> {
         Finding::marked(mark, What::Said(what), Hint::Nothing)
     }
 
-    /// A word that is twice on a line.
+    /// The finding that a word is twice on a line.
     pub(crate) fn twice_on_line(word: Token<'a>) -> Finding<'a> {
         Finding::marked(word.mark, What::TwiceOnLine(word.quoted()), Hint::Nothing)
     }
@@ -68,7 +67,7 @@ impl<'a> Finding<'a> {
 /// What is found in a text, and the line that is meant, if there is one.
 #[derive(Drop)]
 pub struct Found<'a> {
-    /// The line; none where the whole text is meant.
+    /// The line that is meant; `None` if the whole text is.
     pub line: Option<Line<'a>>,
     /// What is found on it, or in the text.
     pub finding: Finding<'a>,

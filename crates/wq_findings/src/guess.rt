@@ -1,7 +1,7 @@
 //! What a word was most likely meant to be.
 //!
-//! `strsim` says how alike two words are, in time of the product of their lengths. Apart from that, a call takes time
-//! in the length of the word, and `guess_at` in that of the text.
+//! `strsim` tells how alike two words are, in time of the product of their lengths. Apart from that, a call takes time
+//! linear in the length of the word, and `guess_at` in the length of the text.
 
 use crate::hint::Hint;
 use crate::quoted::Quoted;
@@ -20,9 +20,9 @@ pub(crate) fn letters<A: Allocator + Copy>(alloc: A, word: &[u8]) -> Result<Stri
     Quoted(word).to_string(alloc)
 }
 
-/// How many letters have to be inserted, deleted, replaced or swapped with the next
-/// one to get from one word to another, if these are few: at most one in three and
-/// fewer than there are, or one in a short word. None where the words aren't alike.
+/// The edit distance of two words, if they are alike: how many letters have to be inserted, deleted, replaced or
+/// swapped with the next one to get from one to the other. For example, it is 1 for `flsuh` and `flush`. Words
+/// are alike if it is at most one in three letters (one in a short word) and less than the number of letters.
 pub(crate) fn edits_between<A: Allocator + Copy>(
     alloc: A,
     word: &str,
@@ -63,7 +63,7 @@ pub(crate) fn encoding_hint(line: &[u8]) -> Option<&'static str> {
     }
 }
 
-/// The hint for a line whose bytes aren't plain ASCII, where its first word is this one.
+/// The hint for a line whose bytes aren't plain ASCII and whose first word is `word`.
 fn unread_hint(line: &[u8], word: &[u8]) -> Option<&'static str> {
     if let Some(said) = encoding_hint(line) {
         return Some(said);
@@ -135,15 +135,15 @@ pub(crate) fn text_with(word: &[u8]) -> Option<&'static str> {
 /// What the first word of a line of a declaration most likely is, if it isn't a directive.
 #[derive(Clone, Copy)]
 pub(crate) enum Guess {
-    /// It begins a comment in another language.
+    /// The word begins a comment in another language.
     Comment,
     /// A call of the kernel, and the hint for it.
     Call(Hint<'static>),
-    /// A mark of what isn't sure, in a place where none belongs, and the hint for it.
+    /// A mark of unsureness in a place where none belongs, and the hint for it.
     Mark(Hint<'static>),
-    /// It begins a line of such a text, and no line of this one begins with a directive.
+    /// The word begins a line of another kind of text, and no line of this text begins with a directive.
     OtherText(&'static str),
-    /// It begins a line of such a text, which is in the file of a declaration.
+    /// The word begins a line of another kind of text, but the file is one of a declaration.
     OtherLine(&'static str),
     /// This directive is meant.
     Directive(&'static str),
@@ -151,8 +151,8 @@ pub(crate) enum Guess {
     Unknown,
 }
 
-/// The hint for a mark of what isn't sure that doesn't belong to the first word of a line, or to no line of this kind,
-/// where these are its first two words.
+/// The hint for a mark of unsureness that belongs to the first word of a line, or to no line of this kind. `word` and
+/// `second` are the first two words of the line.
 fn mark_hint(word: &[u8], second: &[u8]) -> Option<Hint<'static>> {
     if word == b"?flush".as_slice() {
         return Some(Hint::Directive("flush?"));
@@ -175,7 +175,8 @@ fn mark_hint(word: &[u8], second: &[u8]) -> Option<Hint<'static>> {
     })
 }
 
-/// What the first word of a line of this declaration most likely is, if it isn't a directive; the second one is this.
+/// What the first word of a line of this declaration most likely is, if it isn't a directive. `second` is the word
+/// after it.
 pub(crate) fn guess_at<A: Allocator + Copy>(
     alloc: A,
     text: &Text<'_>,
@@ -201,7 +202,7 @@ pub(crate) fn guess_at<A: Allocator + Copy>(
     })
 }
 
-/// What the first word of a line of such a text is.
+/// What the first word of a line of another kind of text is.
 fn other_text(text: &'static str, is_among_directives: bool) -> Guess {
     if is_among_directives {
         Guess::OtherLine(text)
@@ -220,7 +221,7 @@ fn has_directive(text: &Text<'_>) -> bool {
     false
 }
 
-/// Whether a word has a byte in it that parts names in other languages.
+/// Whether a word holds a byte that separates names in other languages.
 pub(crate) fn has_separator(word: &[u8]) -> bool {
     word.iter().any(|byte| matches!(*byte, b',' | b';'))
 }
@@ -237,7 +238,8 @@ pub(crate) fn directive_like<A: Allocator + Copy>(
     )
 }
 
-/// The one of these words that a word of a text is most like, if it is like one; of several the first.
+/// The one of the words `known` that a word of a text is most like, if it is like any of them; the first if there are
+/// several.
 pub(crate) fn most_like<A: Allocator + Copy>(
     alloc: A,
     word: &[u8],
@@ -247,7 +249,7 @@ pub(crate) fn most_like<A: Allocator + Copy>(
     most_like_shown(alloc, &word, known)
 }
 
-/// The same for a word as it is shown.
+/// As `most_like`, for a word as it is shown.
 fn most_like_shown<A: Allocator + Copy>(
     alloc: A,
     word: &str,

@@ -1,6 +1,5 @@
-//! What was most likely meant, or how to mend it, in the words of a message.
-//!
-//! It takes time in the length of the message.
+//! What was most likely meant, or how to mend it, in the words of a message. Writing it takes time linear in the length
+//! of the message.
 
 ghost use Rattle.std.specs.Prelude.{None};
 
@@ -14,7 +13,7 @@ use std::fmt;
 pub enum Hint<'a> {
     /// Nothing is known.
     Nothing,
-    /// A hint in these words, the same for any text.
+    /// A hint in words that are the same for any text.
     Said(&'static str),
     /// The form that the line should have.
     Form(&'static str),
@@ -24,7 +23,7 @@ pub enum Hint<'a> {
     BareLine(u32),
     /// The text that this one looks like.
     LooksLike(&'static str),
-    /// The text that this line looks like, in the file of a declaration.
+    /// The text that this line looks like, which is in the file of a declaration.
     OwnFile(&'static str),
     /// The directive, or another first word of a line, that was most likely meant.
     Directive(&'static str),
@@ -56,22 +55,22 @@ impl Hint<'_> {
     /// The hint for a call that waits for a whole workqueue, in the place of a directive.
     pub(crate) const FLUSHWQ: Hint<'static> = Hint::Directive("flushwq");
 
-    /// The hint for a mark of what isn't sure on a line that isn't one of flushes.
+    /// The hint for a mark of unsureness on a line that isn't one of flushes.
     pub(crate) const ONLY_FLUSHES: Hint<'static> = Hint::Said(
         "only a `flush` or `flushwq` line can be unsure",
     );
 
-    /// The hint for a place in a draft at which it isn't known what is waited for.
+    /// The hint for a place in a draft where it isn't known what is waited for.
     pub(crate) const UNDECIDED: Hint<'static> = Hint::Said(
         "a site of a draft that isn't decided: write who ends the wait, or take it out",
     );
 
-    /// The hint for a mark at a name on a line of flushes.
+    /// The hint for a mark of unsureness at a name on a line of flushes.
     pub(crate) const MARK_OF_FLUSH: Hint<'static> = Hint::Said(
         "the mark belongs to the first word: `flush?`",
     );
 
-    /// The hint for a mark at a name on a line of a flush of a whole workqueue.
+    /// The hint for a mark of unsureness at a name on a line of a flush of a whole workqueue.
     pub(crate) const MARK_OF_FLUSHWQ: Hint<'static> = Hint::Said(
         "the mark belongs to the first word: `flushwq?`",
     );
@@ -79,10 +78,10 @@ impl Hint<'_> {
     /// The hint for a line of an unsure part that isn't unsure in the declaration.
     pub(crate) const ASK_AGAIN: Hint<'static> = Hint::Said("ask `hang` again");
 
-    /// The hint for a word in which names are parted by something else.
+    /// The hint for a word in which names are separated by something other than blanks.
     pub(crate) const BLANKS: Hint<'static> = Hint::Said("only blanks come between names");
 
-    /// The hint for a name behind `flushwq` that no line declares.
+    /// The hint for a name after `flushwq` that no line declares.
     pub(crate) const OF_WORKQUEUE: Hint<'static> = Hint::Said(
         "`flushwq` takes an item of that workqueue, not the workqueue's name",
     );
@@ -112,7 +111,7 @@ impl Hint<'_> {
         "in a plan each workqueue has a rescuer",
     );
 
-    /// The hint for a line of a plan in an assignment that isn't one.
+    /// The hint for a line of a plan in an assignment that isn't a plan.
     pub(crate) const IN_A_PLAN: Hint<'static> = Hint::Said(
         "in a plan the line `plan K` comes first",
     );
@@ -156,7 +155,7 @@ impl fmt::Display for Hint<'_> {
     }
 }
 
-/// Writes the line that a name is on, and the workqueue of that line, where it has a name.
+/// Writes the line that a name is on, and the workqueue of that line, if it has a name.
 fn on_line<W: fmt::Write>(
     f: &mut fmt::Formatter<W>,
     before: &str,

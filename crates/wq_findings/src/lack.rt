@@ -1,7 +1,7 @@
-//! What a certificate lacks to which the checker says no.
+//! What a certificate lacks if the checker says no to it.
 //!
-//! The reasons are those of "The command `check`" in docs/FORMAT.md. It takes time in the length of the text and in the
-//! number of flushes that one item declares.
+//! The reasons are those of "The command `check`" in docs/FORMAT.md. It takes time linear in the length of the text and
+//! the number of flushes that one item declares.
 
 use crate::finding::{Finding, Found};
 use crate::hint::Hint;
@@ -16,7 +16,7 @@ use wq_text::{Line, Text};
 /// What is wrong with an arc whose names aren't known.
 const WRONG_ARC: &str = "an arc isn't a flush, or doesn't begin where the one before it ends";
 
-/// What a certificate of these items lacks, from the answer to it, and the line that is meant, if there is one.
+/// What a certificate of these items lacks, by the checker's answer to it, and the line that is meant, if there is one.
 pub fn in_answer<'a, A: Allocator + Copy>(
     table: &ItemTable<'_, A>,
     text: &Text<'a>,
@@ -75,7 +75,7 @@ fn flushes_whole<A: Allocator + Copy>(
     false
 }
 
-/// An item that isn't above what it flushes.
+/// The finding that an item isn't above what it flushes.
 fn not_falling<'a, A: Allocator + Copy>(
     table: &ItemTable<'_, A>,
     text: &Text<'a>,
@@ -108,7 +108,7 @@ fn not_falling<'a, A: Allocator + Copy>(
     }
 }
 
-/// The line of this number, counted from 1, among those that begin with this word.
+/// The line with this number, counted from 1, among those that begin with the word `first`.
 fn nth_line<'a>(text: &Text<'a>, first: &[u8], number: u32) -> Option<Line<'a>> {
     let mut left = number;
     for line in text.lines() {
@@ -122,7 +122,7 @@ fn nth_line<'a>(text: &Text<'a>, first: &[u8], number: u32) -> Option<Line<'a>> 
     None
 }
 
-/// What is wrong with the number on the line that begins with this word.
+/// What is wrong with the number on the line that begins with the word `first`.
 fn counted<'a>(text: &Text<'a>, first: &[u8], what: &'static str) -> Found<'a> {
     match nth_line(text, first, 1) {
         Some(line) => wrong_number(line, what),
@@ -149,7 +149,7 @@ fn broken_arc<'a>(text: &Text<'a>, at: u32, before: &'static str) -> Found<'a> {
     }
 }
 
-/// The line of such an arc.
+/// The finding for the line of an arc that isn't a flush, or doesn't begin where the one before it ends.
 fn wrong_arc<'a>(line: Line<'a>, before: &'static str) -> Found<'a> {
     match (word_at(&line, 1), word_at(&line, 2)) {
         (Some(item), Some(target)) => {

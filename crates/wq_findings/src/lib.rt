@@ -1,11 +1,11 @@
 //! What is found in a text that is refused, or to which the checker says no: which bytes are meant, what is wrong with
 //! them, and what was most likely meant.
 //!
-//! A finding is plain: words of the texts, and numbers. Which word is meant, and what was most likely meant, is
-//! searched for in the text, and not promised. What the layer above relies on: each call ends, its only error is out of
+//! A finding consists of words of the texts and of numbers. Which word is meant, and what was most likely meant, is
+//! searched for in the text and not promised. The layer above relies on this: each call ends, its only error is out of
 //! memory, and a byte and a place are shown as `shown` and `put_place` say. The rows are those of "Diagnoses" in
-//! docs/FORMAT.md. A call takes time in the length of the text, in the words of a line times the names among which they
-//! are searched for, and, where a name is unknown, in the names of the declaration times the length of one.
+//! docs/FORMAT.md. A call takes time linear in the length of the text; each word of a line is compared with the names
+//! among which it is searched for, an unknown name with each name of the declaration.
 #![tactic(auto)]
 
 mod certificate;

@@ -1,8 +1,8 @@
-//! A declaration with a refused line mended, so that what would be refused next can be told.
+//! A declaration with a refused line mended, so that it can be told what would be refused next.
 //!
-//! A line is mended as the hint says, or else taken out. Where nobody can say whether a
-//! line that is taken out declares an item, nothing that depends on the items is told
-//! from then on. It takes time in the length of the text, and memory for another one.
+//! A line is mended as the hint says, or else taken out. If a line is taken out that may have declared an item, nothing
+//! that depends on the items is told from then on. It takes time linear in the length of the text, and memory for
+//! another one.
 
 use crate::declaration::not_above;
 use crate::guess::{Guess, begins_comment, encoding_hint, guess_at, text_with};
@@ -16,7 +16,7 @@ use wq_text::{Line, Text};
 /// What becomes of the lines of a text.
 #[derive(Clone, Copy)]
 enum Mend<'a> {
-    /// The line of this number is taken out.
+    /// The line with this number is taken out.
     Out(u32),
     /// Each line with this first word is taken out.
     EachOut(&'a [u8]),
@@ -24,13 +24,13 @@ enum Mend<'a> {
     OtherLinesOut,
     /// Each line with this first word begins with this directive.
     EachBegins(&'a [u8], &'static str),
-    /// Of the line of this number only this part is left.
+    /// Only this part is left of the line with this number.
     Part(u32, Mark),
-    /// The line of the first number declares this item, and that of the second one is taken out.
+    /// The first line declares this item, and the second line is taken out.
     Declares(u32, &'a [u8], u32),
 }
 
-/// What is left of a line that is mended.
+/// What is left of a mended line.
 #[derive(Clone, Copy)]
 enum Left<'a> {
     /// Nothing.
@@ -50,14 +50,14 @@ fn begun<'a>(line: &Line<'a>, directive: &'static str) -> Left<'a> {
     Left::Begun(directive, line.bytes().get(behind..).unwrap_or(b""))
 }
 
-/// This part of a line.
+/// The marked part of a line.
 fn part<'a>(line: &Line<'a>, mark: Mark) -> Left<'a> {
     let end = mark.at.saturating_add(mark.len);
     Left::Bytes(line.bytes().get(mark.at..end).unwrap_or(b""))
 }
 
 impl<'a> Mend<'a> {
-    /// What is left of this line; none where it stays as it is.
+    /// What is left of this line; `None` if it stays as it is.
     fn left_of(self, line: &Line<'a>) -> Option<Left<'a>> {
         let (no, word) = (line.no(), first_word(line));
         match self {
@@ -74,7 +74,7 @@ impl<'a> Mend<'a> {
 }
 
 impl<'a> Mend<'a> {
-    /// What becomes of the lines of which the hints are.
+    /// What becomes of the lines that hints are about.
     fn of_own(self) -> Mend<'a> {
         match self {
             Mend::Declares(meant, _, _) => Mend::Out(meant),
@@ -88,7 +88,7 @@ fn is_of_other_text(word: &[u8]) -> bool {
     Keyword::of(word).is_none() && text_with(word).is_some()
 }
 
-/// Adds what is left of a line.
+/// Appends what is left of a line.
 fn put_left<A: Allocator + Copy>(out: &mut Vec<u8, A>, left: Left<'_>) -> Result<(), AllocError> {
     match left {
         Left::Nothing => Ok(()),
@@ -100,26 +100,26 @@ fn put_left<A: Allocator + Copy>(out: &mut Vec<u8, A>, left: Left<'_>) -> Result
     }
 }
 
-/// A text that was mended.
+/// A mended text.
 #[derive(Drop)]
 pub struct Mended<A: Allocator> {
-    /// The text that is read again.
+    /// The text, which is read again.
     pub text: Vec<u8, A>,
-    /// The same without items that no line of the text was to declare. Hints are of these lines.
+    /// The text without items that none of its lines was meant to declare. Hints are about these lines.
     pub own: Vec<u8, A>,
 }
 
 /// What is mended in a declaration, one refused line after the other.
 #[derive(Drop)]
 pub struct Mending<A: Allocator> {
-    /// The numbers of the lines that were mended.
+    /// The numbers of the mended lines.
     lines: Vec<u32, A>,
     /// Whether the lines that are left declare all items.
     knows_items: bool,
 }
 
 impl<A: Allocator + Copy> Mending<A> {
-    /// Nothing is mended yet.
+    /// A mending that has mended nothing yet.
     pub fn new(alloc: A) -> Mending<A> {
         Mending {
             lines: Vec::new(alloc),
@@ -141,8 +141,8 @@ impl<A: Allocator + Copy> Mending<A> {
         self.lines.iter().any(|line| *line == no)
     }
 
-    /// The text with the line mended for which it is refused with this number, and the same of its own lines. Nothing
-    /// where no one can say what would be refused next.
+    /// The text, and its own lines, with the line mended for which it is refused with the number `code`. `None` if it
+    /// can't be told what would be refused next.
     ///
     /// The only error is out of memory (20).
     pub fn mended(
@@ -167,7 +167,7 @@ impl<A: Allocator + Copy> Mending<A> {
         }
     }
 
-    /// How this line is mended, for which the text is refused with this number.
+    /// How this line is mended, if the text is refused for it with the number `code`.
     fn mend_of<'a>(
         &mut self,
         alloc: A,
@@ -186,7 +186,7 @@ impl<A: Allocator + Copy> Mending<A> {
         }
     }
 
-    /// Takes this line out, which may declare an item unless it has another directive.
+    /// Takes this line out. It may have declared an item, unless it has another directive.
     fn out<'a>(&mut self, line: &Line<'a>) -> Mend<'a> {
         match Keyword::of(first_word(line)) {
             Some(
@@ -201,7 +201,8 @@ impl<A: Allocator + Copy> Mending<A> {
         Mend::Out(line.no())
     }
 
-    /// The same for a line that is refused with this number. An item that is declared twice is declared without it.
+    /// Takes this line out, if it is refused with the number `code`. An item that is declared twice stays declared
+    /// without it.
     fn out_for<'a>(&mut self, line: &Line<'a>, code: u32) -> Mend<'a> {
         if code == 7 {
             return Mend::Out(line.no());
@@ -209,7 +210,7 @@ impl<A: Allocator + Copy> Mending<A> {
         self.out(line)
     }
 
-    /// A line with bytes that no line may have. Where it is UTF-16, so is the text.
+    /// Mends a line with bytes that no line may have. If it is UTF-16, so is the text.
     fn of_bytes<'a>(&mut self, line: &Line<'a>) -> Option<Mend<'a>> {
         let bytes = line.bytes();
         if line.content().iter().any(|byte| *byte == 0) {
@@ -225,7 +226,7 @@ impl<A: Allocator + Copy> Mending<A> {
         }
     }
 
-    /// A line whose first word isn't a directive. Others with this word are mended as it is.
+    /// Mends a line whose first word isn't a directive. Other lines with this word are mended in the same way.
     fn of_first_word<'a>(
         &mut self,
         alloc: A,
@@ -253,8 +254,8 @@ impl<A: Allocator + Copy> Mending<A> {
         })
     }
 
-    /// A line with a word that isn't a name. Where an `item` line has one with a
-    /// comma or a semicolon behind it, that is left out.
+    /// Mends a line with a word that isn't a name. If that is a name on an `item` line with a comma or a semicolon
+    /// after it, the comma or semicolon is left out.
     fn of_bad_name<'a>(&mut self, line: &Line<'a>) -> Mend<'a> {
         match (Keyword::of(first_word(line)), word_at(line, 1)) {
             (Some(Keyword::Item), Some(word)) => match word.bytes {
@@ -268,7 +269,7 @@ impl<A: Allocator + Copy> Mending<A> {
         }
     }
 
-    /// A line with a word too many. Where a comment in another language begins there, it is left out.
+    /// Mends a line with a word too many. If that begins a comment in another language, the comment is left out.
     fn of_extra_word<'a>(&mut self, line: &Line<'a>) -> Mend<'a> {
         match (Keyword::of(first_word(line)), word_at(line, 2)) {
             (Some(Keyword::Item), Some(word)) if begins_comment(word.bytes) => {
@@ -279,7 +280,7 @@ impl<A: Allocator + Copy> Mending<A> {
         }
     }
 
-    /// The text and its own lines with these lines mended, whose numbers are noted.
+    /// The text and its own lines, mended. The numbers of the mended lines are noted.
     fn rewritten(
         &mut self,
         alloc: A,
@@ -299,7 +300,7 @@ impl<A: Allocator + Copy> Mending<A> {
     }
 }
 
-/// A text with these lines mended.
+/// A text, mended.
 fn rewritten<A: Allocator + Copy>(
     alloc: A,
     text: &Text<'_>,
@@ -321,8 +322,8 @@ fn rewritten<A: Allocator + Copy>(
     Ok(out)
 }
 
-/// A line with a name that isn't declared above: it declares the item in place of
-/// the line below that does, if there is one.
+/// Mends a line with a name that isn't declared above: the line declares the item in place of a line below that does,
+/// if there is one.
 fn of_unknown_item<'a, A: Allocator + Copy>(
     alloc: A,
     text: &Text<'a>,

@@ -1,7 +1,7 @@
 //! Names of a declaration, each with the line that it is on.
 //!
-//! Reading takes time in the length of the text, and memory in the number of names. Finding a name takes time in the
-//! number of names; there are at most 4,096 above a line that is refused.
+//! Reading takes time linear in the length of the text, and memory linear in the number of names. Finding a name takes
+//! time linear in the number of names, of which at most 4,096 are above a line that is refused.
 
 use crate::guess::{edits_between, letters};
 use crate::token::{bytes_at, first_word};
@@ -23,7 +23,7 @@ pub(crate) struct LineNames<'a, A: Allocator> {
 }
 
 impl<'a, A: Allocator + Copy> LineNames<'a, A> {
-    /// The names above the line with this number, on those lines of a text that have this keyword.
+    /// The names above line `no`, on those lines of a text that have this keyword.
     pub(crate) fn above(
         alloc: A,
         text: &Text<'a>,
@@ -37,7 +37,7 @@ impl<'a, A: Allocator + Copy> LineNames<'a, A> {
         Ok(names)
     }
 
-    /// Adds the names on such lines of a text.
+    /// Adds the names above line `no`, on those lines of a text that have this keyword.
     fn add_lines(&mut self, text: &Text<'a>, keyword: Keyword, no: u32) -> Result<(), AllocError> {
         for line in text.lines() {
             if line.no() < no
@@ -97,7 +97,7 @@ pub(crate) fn declared_on(text: &Text<'_>, name: &[u8]) -> Option<u32> {
     None
 }
 
-/// The item of a declaration whose name is most like a word, if one is like it.
+/// The item of a declaration whose name is most like a word, if any is like it.
 pub(crate) fn nearest<'a, A: Allocator + Copy>(
     alloc: A,
     text: &Text<'a>,
@@ -107,7 +107,7 @@ pub(crate) fn nearest<'a, A: Allocator + Copy>(
     nearest_to(alloc, text, &word)
 }
 
-/// The name of the item of a declaration that is most like a word, if one is like it; of several the first.
+/// The name of the item of a declaration that is most like a word, if any is like it; the first if there are several.
 ///
 /// The only error is out of memory.
 pub fn nearest_item<'a, A: Allocator + Copy>(
@@ -121,7 +121,7 @@ pub fn nearest_item<'a, A: Allocator + Copy>(
     })
 }
 
-/// The same for a word as it is shown.
+/// As `nearest`, for a word as it is shown.
 fn nearest_to<'a, A: Allocator + Copy>(
     alloc: A,
     text: &Text<'a>,

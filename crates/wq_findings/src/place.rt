@@ -1,6 +1,6 @@
 //! The place of a finding in a text, as in the first line of a diagnosis: the numbers of the line and of the column.
 //!
-//! It takes time and memory in the number of digits.
+//! Printing it takes time and memory linear in the number of digits.
 
 ghost use Rattle.std.specs.Prelude.{◌≡◌, ◌++◌, ◌∷◌, OnErr, OnOk, decimal};
 ghost use Rattle.wq_text.specs.LineText.{IsBegun};
@@ -8,7 +8,7 @@ ghost use Rattle.wq_findings.specs.Shown.{place_text};
 
 use std::alloc::{AllocError, Allocator};
 
-/// Adds the numbers of a place, each after a colon. The only error is out of memory (20).
+/// Appends the numbers of a place, each after a colon, as `:12:3`. The only error is out of memory (20).
 pub fn put_place<A: Allocator + Copy>(
     alloc: A,
     out: &mut Vec<u8, A>,
@@ -23,7 +23,7 @@ pub fn put_place<A: Allocator + Copy>(
     Ok(())
 }
 
-/// Adds a number after a colon.
+/// Appends a number after a colon.
 fn put_part<A: Allocator + Copy>(
     alloc: A,
     out: &mut Vec<u8, A>,

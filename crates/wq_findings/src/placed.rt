@@ -1,7 +1,7 @@
-//! Which items are on which lines of workqueues of a certificate that is refused because of that.
+//! Which items are on which lines of workqueues, in a certificate that is refused because of that.
 //!
-//! It takes time in the length of the text, and, for a group that is split, in the
-//! number of items times the names on its line.
+//! It takes time linear in the length of the text. If a group is split, each name on its line is compared with the
+//! group of each item.
 
 ghost use Rattle.std.specs.Prelude.{◌<◌, length};
 
@@ -17,14 +17,14 @@ use std::alloc::{AllocError, Allocator};
 use wq_items::{ItemId, ItemTable};
 use wq_text::Line;
 
-/// For each item, the number of the first line of a workqueue that it is on; 0 where it is on none.
+/// For each item, the number of the first line of a workqueue that it is on; 0 if it is on none.
 #[derive(Drop)]
 struct Places<A: Allocator> {
     lines: Vec<u32, A>,
 }
 
 impl<A: Allocator + Copy> Places<A> {
-    /// The places of the items on the lines of workqueues above a line, or on all where the line is 0.
+    /// The places of the items on the lines of workqueues above line `no`, or on all of them if `no` is 0.
     fn above(alloc: A, refused: &Refused<'_, '_, A>, no: u32) -> Result<Self, AllocError> {
         let mut places = Places {
             lines: vec![in alloc; 0; usize::from(refused.table.len())]?,
@@ -33,7 +33,7 @@ impl<A: Allocator + Copy> Places<A> {
         Ok(places)
     }
 
-    /// Adds the items of such lines.
+    /// Adds the items on the lines of workqueues above line `no`, or on all of them if `no` is 0.
     fn add_lines(&mut self, refused: &Refused<'_, '_, A>, no: u32) {
         let mut stage = None;
         for line in refused.text.lines() {
@@ -55,7 +55,7 @@ impl<A: Allocator + Copy> Places<A> {
         }
     }
 
-    /// Adds the items of such a line that are on none above.
+    /// Adds the items on the line of a workqueue that are on no line above.
     fn add(&mut self, table: &ItemTable<'_, A>, line: &Line<'_>) {
         for word in line.words().skip(2) {
             if let Some(item) = table.find(word.bytes())
@@ -97,7 +97,7 @@ fn unplaced<'a, A: Allocator + Copy>(table: &ItemTable<'a, A>, places: &Places<A
     unplaced
 }
 
-/// An item that is on a second workqueue, or twice on one.
+/// The finding that an item is on a second workqueue, or twice on one.
 pub(crate) fn find_twice<'a, A: Allocator + Copy>(
     alloc: A,
     refused: &Refused<'_, 'a, A>,
@@ -107,7 +107,7 @@ pub(crate) fn find_twice<'a, A: Allocator + Copy>(
     Ok(placed_twice(refused, &places, line))
 }
 
-/// The first item of a line that has a place already, or is also earlier on the line.
+/// The finding for the first item of a line that has a place already, or comes earlier on the line, too.
 fn placed_twice<'a, A: Allocator + Copy>(
     refused: &Refused<'_, 'a, A>,
     places: &Places<A>,
@@ -150,7 +150,7 @@ fn placed_member<'a, A: Allocator + Copy>(
     None
 }
 
-/// An item whose group is on another workqueue already.
+/// The finding that the group of an item is on another workqueue already.
 pub(crate) fn find_split<'a, A: Allocator + Copy>(
     alloc: A,
     refused: &Refused<'_, 'a, A>,
@@ -160,7 +160,7 @@ pub(crate) fn find_split<'a, A: Allocator + Copy>(
     Ok(split(refused, &places, line))
 }
 
-/// The first item of a line whose group has a place already.
+/// The finding for the first item of a line whose group has a place already.
 fn split<'a, A: Allocator + Copy>(
     refused: &Refused<'_, 'a, A>,
     places: &Places<A>,

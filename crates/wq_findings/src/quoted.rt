@@ -1,13 +1,11 @@
-//! Bytes of a text in a message, and how a byte is shown.
-//!
-//! It takes time in the number of bytes.
+//! Bytes of a text in a message, and how a byte is shown. It takes time linear in the number of bytes.
 
 ghost use Rattle.std.specs.Prelude.{◌≡◌, None};
 ghost use Rattle.wq_findings.specs.Shown.{shown};
 
 use std::fmt;
 
-/// The byte as it is shown: printable ASCII as it is, a TAB as a space, and any other as `?`.
+/// The byte as it is shown: printable ASCII as it is, a TAB as a space, any other byte as `?`.
 pub fn shown(byte: u8) -> u8
     ensures { result ≡ shown byte }
 {

@@ -1,7 +1,7 @@
 //! What should come next in a certificate, judging by the lines above.
 //!
 //! The forms are those of "Certificates" in docs/FORMAT.md. The lines above have their forms, since a certificate is
-//! judged line by line. Going through them takes time in the length of the text.
+//! judged line by line. Going through them takes time linear in the length of the text.
 
 ghost use Rattle.std.specs.Prelude.{None};
 
@@ -28,28 +28,28 @@ pub enum Stage {
     Plan,
     /// `circle N`.
     Circle,
-    /// The `wq` line of this number; this many are left, or nothing says how many.
-    /// Where nothing does, it may be a `norescuer` line.
+    /// The `wq` line with this number; `left` is how many are left, if the text says so. If it doesn't, the line may be
+    /// a `norescuer` line.
     Workqueue { next: u32, left: Option<u32> },
     /// `chain N`.
     Chain,
-    /// An arc of a chain; this many are left to come.
+    /// An arc of a chain; this many are left.
     ChainArc { left: u32 },
-    /// An arc of a circle; this many are left to come.
+    /// An arc of a circle; this many are left.
     CircleArc { left: u32 },
     /// `unsure M`.
     Part,
-    /// A line of an unsure part; this many are left to come.
+    /// A line of an unsure part; this many are left.
     Unsure { left: u32 },
     /// `run M`.
     Run,
-    /// A step; this many are left to come.
+    /// A step; this many are left.
     Step { left: u32 },
     /// No line.
     End,
 }
 
-/// The number after the first word of a line; 0 where there is none.
+/// The number after the first word of a line; 0 if there is none.
 fn count_on(line: &Line<'_>) -> u32 {
     number(bytes_at(line, 1)).unwrap_or(0)
 }
@@ -69,7 +69,7 @@ impl Stage {
         }
     }
 
-    /// The stage with this many `wq` lines to come.
+    /// The stage with `left` `wq` lines to come, the next of which has the number `next`.
     fn workqueues(next: u32, left: u32) -> Stage {
         if left == 0 {
             return Stage::Chain;
@@ -112,7 +112,7 @@ impl Stage {
         Stage::Step { left }
     }
 
-    /// What should come after a line that is right.
+    /// The stage after a line that is right.
     pub(crate) fn behind(self, line: &Line<'_>) -> Stage {
         match self {
             Stage::Plan => Stage::workqueues(0, count_on(line)),
@@ -146,7 +146,7 @@ impl Stage {
         self.is_open() || matches!(self, Stage::End)
     }
 
-    /// Whether a line that should be here may begin with this word.
+    /// Whether the expected line may begin with this word.
     pub(crate) fn may_begin_with(self, word: &[u8]) -> bool {
         let first: &[u8] = match self {
             Stage::Plan => b"plan",
@@ -164,7 +164,7 @@ impl Stage {
         word == first
     }
 
-    /// What is after the first word of such a line.
+    /// What comes after the first word of the expected line.
     pub(crate) fn shape(self, word: &[u8]) -> Shape {
         match self {
             Stage::Plan | Stage::Circle | Stage::Chain | Stage::Part | Stage::Run => Shape {
@@ -188,7 +188,7 @@ impl Stage {
     }
 }
 
-/// The line that should be here, in the words of a message.
+/// The expected line, in the words of a message.
 impl fmt::Display for Stage {
     ghost output = { λ _. None };
 
@@ -208,8 +208,8 @@ impl fmt::Display for Stage {
     }
 }
 
-/// What comes after the first word of a line: a number or none, and then a fixed
-/// number of names, or any number of them.
+/// What comes after the first word of a line: a number or none, and then a fixed number of names, or any number of
+/// them.
 #[derive(Clone, Copy)]
 pub(crate) struct Shape {
     pub(crate) has_number: bool,
@@ -217,12 +217,12 @@ pub(crate) struct Shape {
 }
 
 impl Shape {
-    /// The place at which the names begin, where the first word of the line is at 0.
+    /// The index of the first name, if the first word of the line has index 0.
     pub(crate) fn first_name(self) -> usize {
         if self.has_number { 2 } else { 1 }
     }
 
-    /// How many words such a line has, at least.
+    /// The fewest words that such a line has.
     pub(crate) fn fewest(self) -> usize {
         self.first_name().saturating_add(self.names.unwrap_or(0))
     }
@@ -249,8 +249,8 @@ fn is_step(word: &[u8]) -> bool {
         || word == b"finish".as_slice()
 }
 
-/// The first line that isn't one of a workqueue, in an assignment of these lines
-/// alone, if there is such a line, and what should be in its place.
+/// In an assignment by lines of workqueues alone, the first other line, if there is one, and what should be in its
+/// place.
 pub(crate) fn stray_line<'a>(kind: CertificateKind, text: &Text<'a>) -> Option<(Line<'a>, Stage)> {
     let mut stage = None;
     for line in text.lines() {
@@ -267,8 +267,8 @@ pub(crate) fn stray_line<'a>(kind: CertificateKind, text: &Text<'a>) -> Option<(
     None
 }
 
-/// The line of this number, and what should be on it, judging by the lines above. Where there is no such line, that is
-/// what should come at the end of the text.
+/// The line with this number, and what should be on it, judging by the lines above. If there is no such line, what
+/// should come at the end of the text.
 pub(crate) fn line_and_stage<'a>(
     kind: CertificateKind,
     text: &Text<'a>,

@@ -1,6 +1,6 @@
-//! Lines and words of a text, and which bytes of its line a word is made of.
+//! Lines and words of a text, and which bytes of its line a word consists of.
 //!
-//! Each call takes time in the length of the line or, where it looks for a line, of the text.
+//! Each call takes time linear in the length of the line or, if it looks for a line, of the text.
 
 use crate::quoted::Quoted;
 use wq_text::{Line, Text, Word};
@@ -15,7 +15,7 @@ pub struct Mark {
 }
 
 impl Mark {
-    /// The place after the last word of a line, where another one should be.
+    /// The place after the last word of a line, where another word should be.
     pub(crate) fn behind(line: &Line<'_>) -> Mark {
         let mut at = 0;
         for word in line.words() {
@@ -25,7 +25,7 @@ impl Mark {
     }
 }
 
-/// A word of a line: which bytes of the line it is made of, and these bytes.
+/// A word of a line: which bytes of the line it consists of, and these bytes.
 #[derive(Clone, Copy)]
 pub(crate) struct Token<'a> {
     pub(crate) mark: Mark,
@@ -33,7 +33,7 @@ pub(crate) struct Token<'a> {
 }
 
 impl<'a> Token<'a> {
-    /// This word of the line.
+    /// This word of the line, as a token.
     pub(crate) fn of(line: &Line<'_>, word: &Word<'a>) -> Token<'a> {
         let span = word.span();
         Token {
@@ -51,7 +51,7 @@ impl<'a> Token<'a> {
     }
 }
 
-/// The line of this number, if there is one.
+/// The line with this number, if there is one.
 pub fn line_at<'a>(text: &Text<'a>, no: u32) -> Option<Line<'a>> {
     for line in text.lines() {
         if line.no() == no {
@@ -69,7 +69,7 @@ pub(crate) fn word_at<'a>(line: &Line<'a>, place: usize) -> Option<Token<'a>> {
     }
 }
 
-/// The bytes of the word at this place of a line; none where there is no such word.
+/// The bytes of the word at this place of a line; empty if there is no such word.
 pub(crate) fn bytes_at<'a>(line: &Line<'a>, place: usize) -> &'a [u8] {
     match line.words().nth(place) {
         Some(word) => word.bytes(),
@@ -77,7 +77,7 @@ pub(crate) fn bytes_at<'a>(line: &Line<'a>, place: usize) -> &'a [u8] {
     }
 }
 
-/// The bytes of the first word of a line; none where it has no word. Empty lines and comments, of which a text may have
+/// The bytes of the first word of a line; empty if it has no word. Empty lines and comments, of which a text may have
 /// millions, are told by their first byte.
 pub(crate) fn first_word<'a>(line: &Line<'a>) -> &'a [u8] {
     match line.bytes() {
@@ -86,7 +86,7 @@ pub(crate) fn first_word<'a>(line: &Line<'a>) -> &'a [u8] {
     }
 }
 
-/// Whether a line of a text has a word.
+/// Whether any line of a text has a word.
 pub fn has_words(text: &Text<'_>) -> bool {
     for line in text.lines() {
         if !first_word(&line).is_empty() {
@@ -104,7 +104,7 @@ pub(crate) fn first_mark(line: &Line<'_>) -> Mark {
     }
 }
 
-/// Whether the same word comes earlier on the line, at this place or after it.
+/// Whether the same word comes earlier on the line, at `place` or after it.
 pub(crate) fn stands_before(line: &Line<'_>, place: usize, word: Token<'_>) -> bool {
     for other in line.words().skip(place) {
         let other = Token::of(line, &other);

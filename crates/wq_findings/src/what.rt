@@ -1,6 +1,4 @@
-//! What is wrong, in the words of a message.
-//!
-//! It takes time in the length of the message.
+//! What is wrong, in the words of a message. Writing it takes time linear in the length of the message.
 
 ghost use Rattle.std.specs.Prelude.{None};
 
@@ -14,43 +12,43 @@ const HEX_DIGITS: &[u8] = b"0123456789ABCDEF";
 /// What is wrong.
 #[derive(Clone, Copy)]
 pub enum What<'a> {
-    /// A fault in these words, the same for any text.
+    /// A fault in words that are the same for any text.
     Said(&'static str),
-    /// A byte that may not be before a comment.
+    /// This byte may not be before a comment.
     BadByte(u8),
-    /// A first word that isn't a directive.
+    /// This first word isn't a directive.
     NoDirective(Quoted<'a>),
-    /// A word that should be a name and isn't one.
+    /// This word should be a name and isn't one.
     NoName(Quoted<'a>),
-    /// A word that should be a number and isn't one.
+    /// This word should be a number and isn't one.
     NoNumber(Quoted<'a>),
-    /// The name of an item that is declared twice.
+    /// The item with this name is declared twice.
     DeclaredTwice(Quoted<'a>),
-    /// A name that no line above declares.
+    /// No line above declares this name.
     NotAbove(Quoted<'a>),
-    /// A name that no line declares.
+    /// No line declares this name.
     NoItem(Quoted<'a>),
-    /// A name that is on two `ordered` lines.
+    /// This name is on two `ordered` lines.
     OnTwoLines(Quoted<'a>),
-    /// A word that is twice on a line.
+    /// This word is twice on a line.
     TwiceOnLine(Quoted<'a>),
-    /// The line that should be where a text ends.
+    /// The text ends where this line should come.
     EndsAt(Stage),
-    /// The words of a line of an unsure part, and how many unsure lines of the declaration have these.
+    /// The words of a line of an unsure part, and how many unsure lines of the declaration have the same words.
     NotUnsure(Words<'a>, u32),
-    /// A first word, and the line that should be there.
+    /// A first word, and the line that should be there instead.
     Other(Quoted<'a>, Stage),
-    /// The first word of the line of a workqueue, and the number that should be there.
+    /// The first word of the line of a workqueue, and the number that should follow it.
     OutOfOrder(Quoted<'a>, u32),
-    /// Items that are on no workqueue.
+    /// These items are on no workqueue.
     OnNoWorkqueue(Unplaced<'a>),
-    /// Items that are on no workqueue, and the number of the line that isn't one of a workqueue and so ends these.
+    /// These items are on no workqueue; the line with this number isn't one of a workqueue, and so ends them.
     CutOff(Unplaced<'a>, u32),
-    /// A name that is on a workqueue already.
+    /// This name is on a workqueue already.
     PlacedAlready(Quoted<'a>),
-    /// Two names of one `ordered` line that are on two workqueues.
+    /// These two names of one `ordered` line are on two workqueues.
     Split(Quoted<'a>, Quoted<'a>),
-    /// An item that should be above this target, and whether it flushes the whole workqueue of the target.
+    /// This item should be above this target; and whether it flushes the whole workqueue of the target.
     TooLow(Quoted<'a>, Quoted<'a>, bool),
     /// The item and the target of an arc, and which arc it should follow.
     WrongArc(Quoted<'a>, Quoted<'a>, &'static str),
@@ -87,7 +85,7 @@ impl fmt::Display for What<'_> {
     }
 }
 
-/// Writes a word between what is before and after it.
+/// Writes a word, with `before` and `behind` around it.
 fn say<W: fmt::Write>(
     f: &mut fmt::Formatter<W>,
     before: &str,
@@ -97,7 +95,7 @@ fn say<W: fmt::Write>(
     write!(f, "{before}`{word}`{behind}")
 }
 
-/// Writes that a line isn't unsure in the declaration, or not as often.
+/// Writes that a line isn't unsure in the declaration, or not that often.
 fn not_unsure<W: fmt::Write>(
     f: &mut fmt::Formatter<W>,
     words: Words<'_>,
@@ -172,7 +170,7 @@ fn wrong_arc<W: fmt::Write>(
     f.write_str(before)
 }
 
-/// The words of a line, of which these are the bytes before its comment, with one space between each two.
+/// The words of the line with these bytes before its comment, with one space between two of them.
 #[derive(Clone, Copy)]
 pub struct Words<'a>(pub(crate) &'a [u8]);
 
@@ -205,7 +203,7 @@ pub struct Unplaced<'a> {
 }
 
 impl<'a> Unplaced<'a> {
-    /// No item.
+    /// No items.
     pub(crate) fn none() -> Unplaced<'a> {
         Unplaced {
             count: 0,
@@ -215,7 +213,7 @@ impl<'a> Unplaced<'a> {
         }
     }
 
-    /// Adds an item after the others.
+    /// Adds an item at the end.
     pub(crate) fn add(&mut self, name: Quoted<'a>) {
         match self.count {
             0 => self.first = name,

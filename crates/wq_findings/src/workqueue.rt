@@ -1,6 +1,6 @@
 //! A workqueue in a message, and the lines of workqueues and of flushes in a text.
 //!
-//! Finding a line takes time in the length of the text.
+//! Finding a line takes time linear in the length of the text.
 
 ghost use Rattle.std.specs.Prelude.{None};
 
@@ -11,12 +11,12 @@ use wq_decl::Keyword;
 use wq_names::name_on;
 use wq_text::{Line, Text, number};
 
-/// A workqueue: its number, and its name; no byte where it has none.
+/// A workqueue: its number, and its name, which is empty if it has none.
 #[derive(Clone, Copy)]
 pub struct Workqueue<'a> {
-    /// The number.
+    /// The number of the workqueue.
     pub number: u32,
-    /// The name.
+    /// The name of the workqueue; empty if it has none.
     pub name: Quoted<'a>,
 }
 
@@ -29,7 +29,7 @@ impl<'a> Workqueue<'a> {
         }
     }
 
-    /// The workqueue on the line of this number.
+    /// The workqueue on line `no`.
     pub(crate) fn on(text: &Text<'a>, no: u32) -> Workqueue<'a> {
         for line in text.lines() {
             if line.no() == no {
@@ -42,7 +42,7 @@ impl<'a> Workqueue<'a> {
         }
     }
 
-    /// Whether it has a name.
+    /// Whether the workqueue has a name.
     pub(crate) fn is_named(self) -> bool {
         !self.name.0.is_empty()
     }
@@ -88,7 +88,7 @@ fn declares_flushes(line: &Line<'_>) -> bool {
     )
 }
 
-/// How many flushes such a line declares: one for each name after the item's.
+/// How many flushes a line of flushes declares: one for each name after the item's.
 fn flushes_on(line: &Line<'_>) -> usize {
     let mut flushes: usize = 0;
     for _ in line.words().skip(2) {
@@ -97,7 +97,7 @@ fn flushes_on(line: &Line<'_>) -> usize {
     flushes
 }
 
-/// The line of the flush at this place among all that are declared, counted from 0, and the name of its target.
+/// The line of the flush at this place among all declared flushes, from 0, and the name of its target.
 pub fn flush_at<'a>(text: &Text<'a>, place: u32) -> Option<(Line<'a>, Mark)> {
     let mut left = place as usize;
     for line in text.lines() {

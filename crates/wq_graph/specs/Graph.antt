@@ -9,7 +9,7 @@ use Rattle.wq_groups.specs.Declaration.{Declaration}
 use Rattle.wq_groups.specs.Assignment.{Assignment, max_lanes, item_lanes}
 use Rattle.wq_graph.specs.declared.arc.WaitArc.{WaitArc}
 
--- the arc of a flush that item `src` declares, where `vertex_of` has the vertex of each item in turn
+-- the arc of a flush that item `src` declares, where `vertex_of` has the vertex of each item
 abbrev pub arc_of : List ℕ → ℕ → Target → WaitArc
 arc_of vertex_of src t = record { src = src; dst = t.item; head = slice_index vertex_of t.item; place = t.place }
 
@@ -30,7 +30,7 @@ arcs_by_place waits vertex_of = filter_map (arc_at waits vertex_of) (range_with_
 abbrev pub arcs_from : List (List Target) → List ℕ → ℕ → List WaitArc
 arcs_from waits vertex_of v = filter (λ (a : WaitArc). slice_index vertex_of a.src == v) (arcs_by_place waits vertex_of)
 
--- for each of n vertices in turn, the arcs that leave it
+-- for each of n vertices, the arcs that leave it
 abbrev pub graph_of : List (List Target) → List ℕ → ℕ → List (List WaitArc)
 graph_of waits vertex_of n = map (arcs_from waits vertex_of) (range_with_len 0 n)
 
@@ -65,7 +65,7 @@ arcs_at graph v = slice_index_or graph v []
 abbrev pub HasArc : List (List WaitArc) → ℕ → ℕ → Type 0
 HasArc graph v w = Any (λ (a : WaitArc). a.head ≡ w) (arcs_at graph v)
 
--- vertex v is left out, if these say of each vertex in turn whether it is
+-- vertex v is left out, given for each vertex whether it is
 abbrev pub is_left_out : List Bool → ℕ → Bool
 is_left_out out v = slice_index_or out v false
 

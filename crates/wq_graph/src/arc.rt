@@ -1,6 +1,6 @@
 //! An arc of a wait graph.
 //!
-//! It stands for a declared flush: `flush_work` of the target in the function of the item. Nothing is computed here.
+//! An arc stands for a declared flush: `flush_work` of the target in the function of the item.
 
 use wq_items::ItemId;
 
@@ -13,6 +13,6 @@ pub struct WaitArc {
     pub dst: ItemId,
     /// The vertex of `dst`.
     pub head: u16,
-    /// The number of the flush among all that are declared, from 0, by line and then by place in the line.
+    /// The number of the flush among all declared flushes, from 0, by line and then by place in the line.
     pub place: u32,
 }

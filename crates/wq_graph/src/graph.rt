@@ -1,9 +1,12 @@
-//! Who waits for whom: for each vertex the declared flushes that leave it.
+//! Wait graphs: for each vertex, the declared flushes that leave it.
 //!
-//! The vertices are the groups of the items, or their lanes. So an arc leaves a group or a lane
-//! whichever of its items declares the flush. All arcs are in one vector, those of vertex 0
-//! first, and for each vertex it is known where its arcs begin. Making a graph takes time and
-//! memory in the number of items, vertices and flushes. Each other call takes constant time.
+//! The vertices are the groups of the items, or their lanes. So an arc leaves a group or a lane, whichever of its items
+//! declares the flush. All arcs are in one vector, those of vertex 0 first, with the index where the arcs of each
+//! vertex begin. Making a graph takes
+//!
+//!   O(items + vertices + flushes) time and memory.
+//!
+//! Each other call takes constant time.
 
 ghost use Rattle.std.specs.Prelude.{◌≡◌, ◌<◌, ◌≤◌, length, flat_map, IfOk, IfErr};
 ghost use Rattle.std.specs.List.{All};
@@ -38,7 +41,7 @@ impl<A: Allocator> Model for WaitGraph<A> {
 }
 
 impl<A: Allocator + Copy> WaitGraph<A> {
-    /// The wait graph of a table's items, where `vertex_of` has the vertex of each item. There are this many vertices.
+    /// The wait graph of a table's items with `vertices` vertices, where `vertex_of` has the vertex of each item.
     fn of_vertices(
         alloc: A,
         table: &ItemTable<'_, A>,
@@ -55,7 +58,7 @@ impl<A: Allocator + Copy> WaitGraph<A> {
         Ok(WaitGraph { arcs })
     }
 
-    /// The wait graph of the groups of a table's items. The groups are those of this table.
+    /// The wait graph of the groups of a table's items. The groups must be those of this table.
     ///
     /// The only error is out of memory (20), which can't occur if there is no group.
     pub fn of_groups(
@@ -70,8 +73,8 @@ impl<A: Allocator + Copy> WaitGraph<A> {
         Self::of_vertices(alloc, table, groups.numbers(), groups.len())
     }
 
-    /// The wait graph of the lanes of an assignment. The groups are those of this table, and the assignment has a lane
-    /// for each of them. A lane that serves no group has no arc.
+    /// The wait graph of the lanes of an assignment. The groups must be those of this table, and the assignment must
+    /// have a lane for each of them. A lane that serves no group has no arc.
     ///
     /// The only error is out of memory (20), which can't occur if there is no lane.
     pub fn of_lanes(
@@ -90,7 +93,7 @@ impl<A: Allocator + Copy> WaitGraph<A> {
         Self::of_vertices(alloc, table, vertex_of.as_slice(), lanes)
     }
 
-    /// The same graph without the vertices of which this says so: no arc leaves one or leads to one. They keep their
+    /// The graph without the vertices that `left_out` marks: no arc leaves one or leads to one. They keep their
     /// numbers. A vertex past the end of the list stays.
     ///
     /// The only error is out of memory (20), which can't occur if there is no vertex.
@@ -118,7 +121,7 @@ impl<A: Allocator + Copy> WaitGraph<A> {
         self.arcs.get(vertex)
     }
 
-    /// All arcs: those of vertex 0, then those of vertex 1, and so on. Their places have numbers below 2^32.
+    /// All arcs: those of vertex 0, then those of vertex 1, and so on. Their places are below 2^32.
     pub fn all(&self) -> &[WaitArc]
         ensures arcs { result.now ≡ flat_map (λ arcs. arcs) self.now }
         ensures few { length result.now < 4294967296 }

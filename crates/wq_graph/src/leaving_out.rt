@@ -1,7 +1,7 @@
-//! A wait graph without some of its vertices: those of workqueues on which nobody is waited for.
+//! A wait graph without some of its vertices: those of workqueues on which nothing is waited for.
 //!
-//! The vertices keep their numbers; none of their arcs is kept, and no arc to them. It takes time in the number of
-//! vertices and arcs, and memory in those that are kept.
+//! The vertices keep their numbers, but lose the arcs that leave them or lead to them. It takes time linear in the
+//! number of vertices and arcs, and memory linear in the number of vertices and kept arcs.
 
 ghost use Rattle.std.specs.Prelude.{◌≡◌, ◌<◌, ◌++◌, length, IfOk, IfErr};
 ghost use Rattle.wq_graph.specs.Graph.{IsGraph, is_left_out, arcs_kept, arcs_without, without};
@@ -21,7 +21,7 @@ fn is_left_out(left_out: &[bool], vertex: u16) -> bool
     }
 }
 
-/// Adds those of these arcs that don't lead to a vertex that is left out.
+/// Appends those of these arcs that don't lead to a vertex that is left out.
 fn add_kept<A: Allocator + Copy>(
     kept: &mut PiecesBuilder<WaitArc, A>,
     left_out: &[bool],
@@ -38,7 +38,7 @@ fn add_kept<A: Allocator + Copy>(
     Ok(())
 }
 
-/// Adds the arcs that leave a vertex and are kept.
+/// Appends the arcs that leave a vertex and are kept.
 fn add_from<A: Allocator + Copy>(
     kept: &mut PiecesBuilder<WaitArc, A>,
     left_out: &[bool],

@@ -1,9 +1,11 @@
 //! The wait graphs of a declaration: which group, or which lane of an assignment, waits for which, flush by flush.
 //!
-//! What the layer above relies on: the arcs of a vertex are the declared flushes that leave it, in order of place, one
+//! The layer above relies on this: the arcs of a vertex are the declared flushes that leave it, in order of place, one
 //! for each. The rules are those of "Items and groups" in docs/FORMAT.md. An arc says that work items depend on one
 //! another, so that they belong on separate workqueues (Documentation/core-api/workqueue.rst, "Guidelines"). Making a
-//! graph takes time in the number of items, vertices and flushes.
+//! graph takes
+//!
+//!   O(items + vertices + flushes) time and memory.
 #![tactic(auto)]
 
 mod arc;

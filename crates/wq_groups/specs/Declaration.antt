@@ -6,7 +6,7 @@ use Rattle.wq_items.specs.Table.{Table, VertexWaits, TargetsBelow, PlacesRise, m
 use Rattle.wq_items.specs.Readings.{compact}
 use Rattle.wq_groups.specs.Partition.{Partition, IsPartition}
 
--- for each item in turn the targets of its flushes and the number of its group; and how many groups there are
+-- for each item, the targets of its flushes and the number of its group; and how many groups there are
 pub record Declaration : Type 0 where
   pub waits : List (List Target)
   pub group_of : List ℕ

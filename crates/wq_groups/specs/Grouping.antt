@@ -27,8 +27,8 @@ abbrev pub has_twin : List (List ℕ) → Bool
 has_twin [] = false
 has_twin (name ∷ names) = list_any (bytes_eq name) names || has_twin names
 
--- the number of the first line with a name that is on it twice, or on an `ordered` line before it, where these are
--- the names on the `ordered` lines so far
+-- the number of the first line with a name that is on it twice or on an earlier `ordered` line, given the names on the
+-- `ordered` lines so far
 abbrev pub first_regrouped : List (List ℕ) → List (ℕ × Directive) → Option ℕ
 first_regrouped before [] = None
 first_regrouped before (d ∷ ds) =
@@ -38,8 +38,8 @@ first_regrouped before (d ∷ ds) =
 abbrev pub all_ordered : List (ℕ × Directive) → List (List ℕ)
 all_ordered ds = flat_map names_ordered ds
 
--- line n is the first that orders a name again: the names on the `ordered` lines before it all differ, but together
--- with those on the line they don't
+-- line n is the first that orders a name again: the names on the `ordered` lines before it all differ, but with its own
+-- names they don't
 pub record IsLowestRegrouped (ds : List (ℕ × Directive)) (n : ℕ) : Type 0 where
   pub before : List (ℕ × Directive)
   pub line : ℕ × Directive
@@ -89,7 +89,7 @@ groups_of ds names = unless_regrouped (first_regrouped [] ds)
     unless_regrouped (Some line) = Err (GroupedTwice line)
     unless_regrouped None = Ok (partition_of ds names)
 
--- what a call answers instead of groups: that memory ran out, or else the first fault
+-- what a call returns instead of groups: that memory ran out, or else the first fault
 abbrev pub IsGroupFaultOf : GroupError → Result Partition GroupError → Type 0
 IsGroupFaultOf (GroupedTwice line) r = r ≡ Err (GroupedTwice line)
 IsGroupFaultOf OutOfMemory r = Unit {0}

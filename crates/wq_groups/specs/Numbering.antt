@@ -1,4 +1,4 @@
--- Numbering: the numbers of groups, where the head of each item is known: the first-declared item of its group.
+-- Numbering: the numbers of groups, given the head of each item: the first-declared item of its group.
 use Rattle.std.specs.Prelude.{◌≡◌, ℕ, zero, suc, ◌+◌, ◌<◌, ◌≤◌, ◌==◌, if◌then◌else◌, map}
 use Rattle.std.specs.List.{range_with_len}
 use Rattle.wq_groups.specs.Partition.{Partition}

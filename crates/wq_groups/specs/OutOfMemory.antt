@@ -1,4 +1,4 @@
--- Out of memory: where reading the items and the groups of a declaration may end because a growth was refused.
+-- Out of memory: when an allocation can fail while the items and the groups of a declaration are read.
 use Rattle.std.specs.Prelude.{◌≡◌, ◌⊎◌, ℕ, ◌<◌, List, length, Ok, IsOk}
 use Rattle.wq_decl.specs.declared.directive.Directive.{Directive}
 use Rattle.wq_items.specs.Table.{Table}

@@ -1,4 +1,4 @@
--- Reading: what is noted about the items while the directives are gone through.
+-- Reading: what is noted about the items while the directives are read.
 use Rattle.std.specs.Prelude.{◌≡◌, ◌≢◌, ℕ, Bool, List, map, bytes_eq, AllPairs}
 use Rattle.std.specs.List.{list_any, position_or_len}
 use Rattle.wq_text.specs.Words.{WordView}
@@ -18,7 +18,7 @@ abbrev pub lowest_of : List (List ℕ) → List (List ℕ) → ℕ
 lowest_of names ordered = position_or_len (λ (name : List ℕ). list_any (bytes_eq name) ordered) names
 
 -- what is noted after these directives: for each item, the first-declared item of its group, and whether its name is on
--- an `ordered` line; no name is there twice
+-- an `ordered` line; no name is on them twice
 pub record IsNoted (ds : List (ℕ × Directive)) (names : List (List ℕ)) (first : List ℕ) (ordered : List Bool)
     : Type 0 where
   pub firsts : first ≡ map (first_member ds names) names

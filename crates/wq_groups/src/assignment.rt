@@ -1,8 +1,8 @@
 //! Which workqueue serves each group.
 //!
-//! An assignment is what a driver's author decides: one `alloc_workqueue` with WQ_MEM_RECLAIM for each lane, and one
-//! lane for each group (Documentation/core-api/workqueue.rst, "Guidelines"). Making one takes time in the number of
-//! groups, and a list of lanes time and memory in its length; each other call takes constant time.
+//! An assignment is what the author of a driver decides: one `alloc_workqueue` with WQ_MEM_RECLAIM for each lane, and
+//! one lane for each group (Documentation/core-api/workqueue.rst, "Guidelines"). Making an assignment takes time linear
+//! in the number of groups, a list of lanes time and memory linear in its length; each other call takes constant time.
 
 ghost use Rattle.std.specs.Prelude.{◌≡◌, ◌<◌, ◌≤◌, ◌↔◌, length, slice_get, Some, IsSome, IsTrue, IfSome, IfOk, OnErr};
 ghost use Rattle.std.specs.List.{All};
@@ -15,12 +15,12 @@ use crate::lane_id::LaneId;
 use std::alloc::{AllocError, Allocator};
 use std::marker::Model;
 
-/// How many lanes an assignment may have: as many as a declaration may have items,
-/// since no plan needs more. A runtime takes fewer.
+/// The most lanes that an assignment may have: as many as a declaration may have items, since no plan needs more. A
+/// runtime takes fewer.
 pub const MAX_ASSIGNED_LANES: u16 = 4096;
 
-/// An assignment puts each group on a lane, which is a workqueue: how many lanes there are, and the lane of each group.
-/// A lane may serve no group. Contracts see only these.
+/// An assignment puts each group on a lane, which is a workqueue. Contracts see how many lanes there are, and the lane
+/// of each group. A lane may serve no group.
 #[derive(Drop)]
 pub struct Assignment<A: Allocator> {
     lanes: u16,
@@ -39,7 +39,7 @@ impl<A: Allocator> Model for Assignment<A> {
     ghost invariant = { λ a. (a.lanes ≤ 4096) × All (λ l. l < a.lanes) a.of_group.items };
 }
 
-/// Whether each number is that of a lane below `lanes`.
+/// Whether each lane is below `lanes`.
 fn are_below(of_group: &[LaneId], lanes: u16) -> bool
     ensures { IsTrue result ↔ All (λ l. l < lanes) of_group.now }
 {
@@ -47,9 +47,9 @@ fn are_below(of_group: &[LaneId], lanes: u16) -> bool
 }
 
 impl<A: Allocator> Assignment<A> {
-    /// The assignment with this many lanes, in which group g is on lane `of_group[g]`.
+    /// The assignment with this many lanes that puts group g on lane `of_group[g]`.
     ///
-    /// It is `None` where a number isn't below `lanes`, or `lanes` is above 4,096. The list is then dropped.
+    /// `None` if a lane isn't below `lanes`, or `lanes` is above 4,096. The list is then dropped.
     pub fn new(lanes: u16, of_group: Vec<LaneId, A>) -> Option<Self>
         ensures some { IfSome result (λ a. (a.lanes ≡ lanes) × (a.lane_of_group ≡ of_group.items)) }
         ensures exactly { IsSome result ↔ ((lanes ≤ 4096) × All (λ l. l < lanes) of_group.items) }
@@ -86,7 +86,7 @@ impl<A: Allocator> Assignment<A> {
 }
 
 impl<A: Allocator + Copy> Assignment<A> {
-    /// The number of each group's lane, in turn.
+    /// The number of each group's lane, in group order.
     ///
     /// The only error is out of memory (20), which can't occur if there is no group.
     pub fn lanes_of_groups(&self, alloc: A) -> Result<Vec<u16, A>, AllocError>
@@ -100,7 +100,7 @@ impl<A: Allocator + Copy> Assignment<A> {
         Ok(lanes)
     }
 
-    /// The number of each item's lane, in turn: that of its group. Each of the groups has a lane.
+    /// The number of each item's lane, in item order: that of its group. Each group must have a lane.
     ///
     /// The only error is out of memory (20), which can't occur if there is no item.
     pub fn item_lanes(&self, alloc: A, groups: &Groups<A>) -> Result<Vec<u16, A>, AllocError>

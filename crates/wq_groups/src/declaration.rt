@@ -1,6 +1,6 @@
 //! What is declared: items with their flushes, and the groups of these items.
 //!
-//! One value holds both, so that whoever has it knows that each item is in a group. `new` takes constant time.
+//! One value holds both, so each item is known to be in a group. `new` takes constant time.
 
 ghost use Rattle.std.specs.Prelude.{◌≡◌, length, IfOk};
 ghost use Rattle.wq_groups.specs.DeclaredGroups.{reading_with_names};
@@ -28,20 +28,21 @@ impl<'a, A: Allocator> Model for Declaration<'a, A> {
 }
 
 impl<'a, A: Allocator + Copy> Declaration<'a, A> {
-    /// These items, in these groups.
+    /// Joins a table of items and their groups.
     pub fn new(table: ItemTable<'a, A>, groups: Groups<A>) -> Self
         requires { length groups.group_of ≡ length table.names }
         ensures { result ≡ record { table = table.entry; partition = groups } }
     {
-        // What holds of every table and of all groups.
+        // What holds for every table and its groups.
         let _items = table.len();
         let _groups = groups.len();
         Declaration { table, groups }
     }
 
-    /// What is declared in the reading that keeps the unsure flushes at these places. Other places mean nothing.
+    /// What is declared in the reading that keeps the unsure flushes at the places `kept`. Any other place is ignored.
+    /// With k places, it takes
     ///
-    /// It takes time and memory in the number of items and flushes, and time in the number of these places.
+    ///   O(items + flushes + k) time and O(items + flushes) memory.
     pub fn reading(&self, alloc: A, kept: &[u32]) -> Result<Self, AllocError>
         ensures { IfOk result (λ d. d ≡ reading_with_names self.now kept.now) }
     {

@@ -1,6 +1,6 @@
 //! Why directives don't make groups.
 //!
-//! The fault is that of the last pass in "Refusals" of docs/FORMAT.md. Every call takes constant time.
+//! The fault is that of the last pass in "Refusals" in docs/FORMAT.md. Each call takes constant time.
 
 ghost use Rattle.std.specs.Prelude.{◌≡◌};
 ghost use Rattle.wq_groups.specs.Grouping.{group_refusal};
@@ -12,7 +12,7 @@ use thiserror::Error;
 /// The first fault of the `ordered` lines, or out of memory.
 #[derive(Clone, Copy, Debug, PartialEq, Eq, Error)]
 pub enum GroupError {
-    /// A name that is already on this or an earlier `ordered` line (11).
+    /// A name is already on this or an earlier `ordered` line (11).
     #[error("line {line}: the item is already in a group")]
     GroupedTwice { line: u32 },
     /// Memory ran out (20, without a line).

@@ -1,11 +1,11 @@
 //! The number of a group.
 //!
-//! Every call takes constant time.
+//! Each call takes constant time.
 ghost use Rattle.std.specs.Prelude.{◌≡◌, ℕ};
 
 use std::marker::Model;
 
-/// The number of a group, from 0 in order of the groups' first-declared items.
+/// The number of a group, from 0, in the order of the groups' first-declared items.
 #[derive(Clone, Copy, Debug, PartialEq, Eq)]
 pub struct GroupId(u16);
 
@@ -18,14 +18,14 @@ impl Model for GroupId {
 }
 
 impl GroupId {
-    /// The group of this number.
+    /// The group with this number.
     pub fn new(number: u16) -> Self
         ensures { result ≡ number }
     {
         GroupId(number)
     }
 
-    /// Its number.
+    /// The number of the group.
     pub fn get(self) -> u16
         ensures { result ≡ self }
     {

@@ -1,9 +1,9 @@
 //! The groups of the items: those that share one ordered workqueue.
 //!
 //! The rules are those of "Items and groups" in docs/FORMAT.md. An ordered workqueue executes at most one work item at
-//! any time, in queued order (Documentation/core-api/workqueue.rst), so the items of a group are on one workqueue
-//! whatever the plan. Reading takes time in the number of words of the declaration, and memory in the number of items.
-//! Afterwards each question is answered in constant time.
+//! any time, in queued order (Documentation/core-api/workqueue.rst), so any plan has the items of a group on one
+//! workqueue. Reading takes time linear in the number of words of the declaration, and memory linear in the number of
+//! items. Afterwards each query takes constant time.
 
 ghost use Rattle.std.specs.Prelude.{◌≡◌, ◌<◌, ◌≤◌, length, Ok, IfOk, IfErr, slice_get, slice_index, Some};
 ghost use Rattle.wq_items.specs.Building.{table_of};
@@ -45,12 +45,12 @@ impl<A: Allocator> Model for Groups<A> {
 }
 
 impl<A: Allocator + Copy> Groups<A> {
-    /// Reads the groups that the directives of a view declare for the items of its
-    /// table. The table was read from this view.
+    /// Reads the groups that the directives of a view declare for the items of its table, which was read from this
+    /// view.
     ///
     /// The error is `GroupedTwice` (11), with the lowest `ordered` line that has a name twice, or one that is on an
-    /// earlier `ordered` line; or `OutOfMemory` (20), if a growth was refused. Nothing grows before all lines are
-    /// judged, nor where there is no item.
+    /// earlier `ordered` line; or `OutOfMemory` (20). No memory is taken before all lines are judged, or if there is no
+    /// item.
     pub fn read(alloc: A, view: &DeclView<'_>, table: &ItemTable<'_, A>) -> Result<Self, GroupError>
         requires { table_of view.now ≡ Ok table.now }
         ensures groups { IfOk result (λ g. groups_of view.now table.now.names ≡ Ok g) }
@@ -60,8 +60,8 @@ impl<A: Allocator + Copy> Groups<A> {
         Groups::read_guessed(alloc, view, table, &[])
     }
 
-    /// Reads the same groups, and looks at these guesses first: one for each name on an `ordered` line, in turn, as
-    /// `read_at_once` hands them out. A guess that is right saves a look-up, and a wrong one does no harm.
+    /// As `read`, but looks at the `guesses` first: one for each name on an `ordered` line, in turn, as `read_at_once`
+    /// returns them. A right guess saves a look-up; a wrong one does no harm.
     pub fn read_guessed(
         alloc: A,
         view: &DeclView<'_>,
@@ -79,7 +79,7 @@ impl<A: Allocator + Copy> Groups<A> {
         Ok(Groups { group_of, members })
     }
 
-    /// The same groups again.
+    /// A copy of the groups.
     pub(crate) fn again(&self, alloc: A) -> Result<Self, AllocError>
         ensures { IfOk result (λ groups. groups ≡ self.now) }
     {
@@ -98,7 +98,7 @@ impl<A: Allocator + Copy> Groups<A> {
         self.members.len() as u16
     }
 
-    /// The number of each item's group, in turn.
+    /// The number of each item's group, in item order.
     pub fn numbers(&self) -> &[u16]
         ensures numbers { result.now ≡ self.now.group_of }
         ensures partition { IsPartition self.now }

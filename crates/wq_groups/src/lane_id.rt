@@ -1,6 +1,6 @@
-//! The number of a lane: of a workqueue.
+//! The number of a lane, which is a workqueue.
 //!
-//! Every call takes constant time.
+//! Each call takes constant time.
 ghost use Rattle.std.specs.Prelude.{◌≡◌, ℕ};
 
 use std::marker::Model;
@@ -18,14 +18,14 @@ impl Model for LaneId {
 }
 
 impl LaneId {
-    /// The lane of this number.
+    /// The lane with this number.
     pub fn new(number: u16) -> Self
         ensures { result ≡ number }
     {
         LaneId(number)
     }
 
-    /// Its number.
+    /// The number of the lane.
     pub fn get(self) -> u16
         ensures { result ≡ self }
     {

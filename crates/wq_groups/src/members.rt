@@ -1,8 +1,7 @@
-//! The items of each group.
+//! The items of each group, in declaration order ("Items and groups" in docs/FORMAT.md).
 //!
-//! Those of a group are in declaration order: "Items and groups" in docs/FORMAT.md.
-//! `wq_buckets` finds them, and nothing is compared. Making them takes time and memory
-//! in the number of items and groups. Those of a group are found in constant time.
+//! `wq_buckets` sorts the items by group, without a comparison, in O(items + groups) time and memory. The items of a
+//! group are found in constant time.
 
 ghost use Rattle.std.specs.Prelude.{◌≡◌, ◌<◌, ◌≤◌, length, map, slice_index_or, IfOk, IfErr, []};
 ghost use Rattle.std.specs.List.{All, range_with_len};
@@ -28,7 +27,7 @@ impl<A: Allocator> Model for Members<A> {
 }
 
 impl<A: Allocator + Copy> Members<A> {
-    /// Makes the lists of so many groups, where these are the groups of the items.
+    /// Makes the lists of `groups` groups, where `group_of` has the group of each item.
     ///
     /// The only error is out of memory, which can't occur if there is no group.
     pub(crate) fn new(alloc: A, group_of: &[u16], groups: u16) -> Result<Self, AllocError>

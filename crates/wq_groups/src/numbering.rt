@@ -1,6 +1,6 @@
 //! Numbering the groups in the order of their first-declared members.
 //!
-//! The order is that of "Items and groups" in docs/FORMAT.md. This takes time and memory in the number of the items.
+//! The order is that of "Items and groups" in docs/FORMAT.md. It takes time and memory linear in the number of items.
 
 ghost use Rattle.std.specs.Prelude.{◌≡◌, ◌<◌, ◌≤◌, length, slice_index, IfOk, IfErr};
 ghost use Rattle.wq_groups.specs.Numbering.{AreHeads, headed};
@@ -8,8 +8,8 @@ ghost use Rattle.wq_groups.specs.Numbering.{AreHeads, headed};
 use std::alloc::{AllocError, Allocator};
 use wq_items::ItemId;
 
-/// The number of each item's group, and how many groups there are, where the
-/// first-declared item of each item's group is known.
+/// The number of each item's group, and how many groups there are, where `first` has the first-declared item of each
+/// item's group.
 pub(crate) fn number<A: Allocator + Copy>(
     alloc: A,
     first: &[ItemId],

@@ -1,9 +1,9 @@
 //! Reading the `ordered` lines: for each item, the first-declared item of its group.
 //!
-//! The rules are those of "Items and groups" in docs/FORMAT.md. If there is no `ordered` line, each item has a group
-//! of its own, and the lines aren't scanned. This takes time in the number of items. Otherwise each name of an
-//! `ordered` line is looked up once. This takes time in the length of the text. The notes about the items are on the
-//! stack, so no memory is taken before all lines are judged.
+//! The rules are those of "Items and groups" in docs/FORMAT.md. If there is no `ordered` line, each item has a group of
+//! its own, and the lines aren't scanned; this takes time linear in the number of items. Otherwise each name on an
+//! `ordered` line is looked up once; this takes time linear in the length of the text. The notes about the items are on
+//! the stack, so no memory is taken before all lines are judged.
 
 ghost use Rattle.std.specs.Prelude.{◌≡◌, ◌≢◌, ◌↔◌, ◌++◌, ◌∷◌, ◌<◌, ◌==◌, [], ℕ, List, length, map, slice_index, Ok};
 ghost use Rattle.std.specs.Prelude.{IfOk, IfErr, IfSome, IsSome, OnSome, IsTrue, AllPairs, None, Some, if◌then◌else◌};
@@ -23,7 +23,7 @@ use wq_decl::DeclView;
 use wq_items::{ItemId, ItemTable, MAX_ITEMS};
 use wq_text::Words;
 
-/// Items that are likely to be looked up next. Nothing is promised of them.
+/// Items that are likely to be looked up next. Nothing is promised about them.
 #[derive(Drop)]
 struct Guesses<'a> {
     left: &'a [ItemId],
@@ -38,8 +38,8 @@ impl<'a> Guesses<'a> {
     }
 }
 
-/// Marks the items with these names and lists them in `items`, which is empty. It returns the first-declared of them,
-/// or `None` where one is marked already or is there twice. In that case those before it are marked.
+/// Marks the items with these names, lists them in `items`, which is empty, and returns the first-declared of them.
+/// `None` if one is marked already or named twice; the items before it are then marked.
 fn mark<A: Allocator + Copy>(
     table: &ItemTable<'_, A>,
     ordered: &mut [bool],
@@ -77,7 +77,7 @@ fn mark<A: Allocator + Copy>(
     Some(ItemId::new(lowest))
 }
 
-/// Sets the first-declared item of the group of these items.
+/// Sets the first-declared item of the group of these items to `lowest`.
 fn set_first(first: &mut [ItemId], items: &[ItemId], lowest: ItemId)
     requires within { All (λ i. i < length first.old) items.now }
     ensures long { length first.new ≡ length first.old }
@@ -90,9 +90,9 @@ fn set_first(first: &mut [ItemId], items: &[ItemId], lowest: ItemId)
     }
 }
 
-/// Puts the items with these names into one group, if none of them is in one already and none is there twice. Otherwise
-/// it returns `false`, and some items are marked that are in no group. What `items` holds is overwritten. It is handed
-/// in so that it is made only once.
+/// Puts the items with these names into one group, if none of them is in one already and none is named twice. Otherwise
+/// it returns `false`, and some items are marked that are in no group. `items` is overwritten; the caller passes it so
+/// that it is made only once.
 fn put_together<A: Allocator + Copy>(
     table: &ItemTable<'_, A>,
     first: &mut [ItemId],

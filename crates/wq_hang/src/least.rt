@@ -14,7 +14,7 @@ ghost use Rattle.wq_hang.specs.Walk.{AreFirstAlike, BeginsUnsure, IsRound, max_w
 ghost use Rattle.wq_hang.specs.Search.{AreItemsOn, ArePassed, IsReach, IsBetter, IsNoBetter, IsLeastRound, hops_cost};
 ghost use Rattle.wq_hang.specs.Search.{AreBounds, least_hop};
 
-use crate::bounds::{bounds, no_bounds};
+use crate::bounds::{bounds_to, no_bounds};
 use crate::hop::Hop;
 use crate::hop_back::{UNSURE, cost_back, hop_back, least_hop};
 use crate::search::{Search, search_from};
@@ -30,12 +30,6 @@ pub(crate) const MOST: u32 = 4097 * (UNSURE + 4);
 
 /// So many searches share their bounds.
 const AT_A_TIME: usize = 128;
-
-/// To make bounds takes as long as so many searches.
-const TOO_FEW: usize = 4;
-
-/// For a round of fewer hops than the best one so far, if that has so few, each search is short.
-const SHORT: usize = 3;
 
 /// The round that a search from an item found, the item's own hop first.
 fn round<A: Allocator + Copy>(
@@ -124,36 +118,6 @@ fn better_round<A: Allocator + Copy>(
     Ok(Some((cost, hops)))
 }
 
-/// Whether a round was found that is short.
-fn is_short<A: Allocator>(found: &Option<Vec<Hop, A>>) -> bool {
-    match found {
-        Some(hops) => hops.len() <= SHORT,
-        None => false,
-    }
-}
-
-/// Bounds for searches from these few items, if they save more time than they take, and else such that leave nothing
-/// out.
-fn bounds_of_use<A: Allocator + Copy>(
-    alloc: A,
-    waits: &Waits<'_, A>,
-    on: &Buckets<A>,
-    order: &[u16],
-    few: &[u32],
-    found: &Option<Vec<Hop, A>>,
-) -> Result<Vec<u32, A>, AllocError>
-    requires on { AreItemsOn waits.now on.now }
-    requires few { All (λ i. i < items waits.now) few.now }
-    ensures len { IfOk result (λ bounds. length bounds.items ≡ waits.now.lanes) }
-    ensures bounds { IfOk result (λ bounds. (i : ℕ) → Contains few.now i → HasRescuer waits.now (lane_of waits.now i) →
-        AreBounds waits.now bounds.items i) }
-{
-    if few.len() <= TOO_FEW || is_short(found) {
-        return no_bounds(alloc, waits.lanes());
-    }
-    bounds(alloc, waits, on, order, few)
-}
-
 /// A round that costs less than the limit and no more than any other, if there is one that costs less. Each round
 /// passes one of these items. The order of lanes is that in which bounds are made.
 pub(crate) fn least_round<A: Allocator + Copy>(
@@ -180,12 +144,17 @@ pub(crate) fn least_round<A: Allocator + Copy>(
     while from < passed.len() {
         let to = passed.len().min(from + AT_A_TIME);
         let few = &passed[from..to];
-        let bounds = bounds_of_use(alloc, waits, on, order, few, &found)?;
+        let mut bounds = no_bounds(alloc, waits.lanes())?;
+        let mut are_made = false;
+        let begun = search.gone_on();
         for i in few {
+            // Bounds take about as long as to go on once from each item.
+            if !are_made && search.gone_on().saturating_sub(begun) > waits.items() {
+                bounds = bounds_to(alloc, waits, on, order, few)?;
+                are_made = true;
+            }
             let first = ItemId::new(*i as u16);
-            if let Some((cost, hops)) = better_round(
-                alloc, waits, on, &bounds, search, first, least,
-            )? {
+            if let Some((cost, hops)) = better_round(alloc, waits, on, &bounds, search, first, least)? {
                 least = cost;
                 found = Some(hops);
             }

@@ -37,6 +37,7 @@ pub(crate) struct Search<A: Allocator> {
     far: VecDeque<ItemId, A>,
     near_unsure: VecDeque<ItemId, A>,
     far_unsure: VecDeque<ItemId, A>,
+    gone_on: usize,
 }
 
 impl<A: Allocator> Model for Search<A> {
@@ -76,6 +77,7 @@ impl<A: Allocator + Copy> Search<A> {
             far: VecDeque::new(alloc),
             near_unsure: VecDeque::new(alloc),
             far_unsure: VecDeque::new(alloc),
+            gone_on: 0,
         }
     }
 
@@ -279,6 +281,11 @@ impl<A: Allocator + Copy> Search<A> {
         Ok(())
     }
 
+    /// From how many items all searches have gone on.
+    pub(crate) fn gone_on(&self) -> usize {
+        self.gone_on
+    }
+
     /// What it costs to come to an item.
     pub(crate) fn cost(&self, item: ItemId) -> u32
         requires { item < length self.now.costs }
@@ -379,6 +386,7 @@ pub(crate) fn search_from<A: Allocator + Copy>(
     search.begin(waits.items(), waits.lanes(), limit)?;
     search.expand(waits, on, bounds, first, first, 0)?;
     while let Some(item) = search.take() {
+        search.gone_on = search.gone_on.saturating_add(1);
         let cost = search.cost(item);
         search.expand(waits, on, bounds, first, item, cost)?;
     }

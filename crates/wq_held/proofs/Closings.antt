@@ -22,7 +22,7 @@ use Rattle.wq_history.proofs.LegalRows.{AreCounted-legal, IsLegal-prefix}
 use Rattle.wq_history.proofs.KeptRows.{exist}
 use Rattle.wq_held.specs.Locked.{slots, IsProtected, IsSeat}
 use Rattle.wq_held.proofs.Locking.{sum-replicate_zero, item_slot, lane_slot}
-use Rattle.wq_held.specs.Closing.{SumsSeats, Agrees, IsClosed}
+use Rattle.wq_held.specs.Closing.{AreGathered, Agrees, IsClosed}
 
 -- ---- seats that are taken in one by one
 
@@ -87,18 +87,20 @@ module _ {n parts total : ℕ} {all left : List (List ℕ)} {sums : List ℕ} {p
   few_gathered amount_new is_seat more bound few =
       omega (arith, old.amount_is, old.total_is, is_seat.amount_is, more, bound, few)
 
-  pub SumsSeats-gathered : left ≡ [] → SumsSeats all sums
-  SumsSeats-gathered none = λ p.
-      let f : List ℕ → ℕ = λ s. get_or s p 0 in
-      let before : f sums + sum_by f left ≡ sum_by f all = old.sums_are p in
-      let nothing : sum_by f left ≡ 0 = ap (sum_by f) none in
-      let now : f sums ≡ sum_by f all = omega (arith, before, nothing) in
-      now
-
-  pub total-gathered : seats_left ≡ 0 → (parts_in ≡ parts → amount_in ≡ ledger) → sum sums ≡ total
-  total-gathered none whole =
-      let all_parts : parts_in ≡ parts = omega (arith, old.parts_are, none) in
-      omega (arith, whole all_parts, old.amount_is, old.total_is)
+  -- all are taken in
+  pub all-gathered : left ≡ [] → seats_left ≡ 0 → (parts_in ≡ parts → amount_in ≡ ledger) → AreGathered n all sums total
+  all-gathered none no_seats whole = record {
+    sums_are = λ p.
+        let f : List ℕ → ℕ = λ s. get_or s p 0 in
+        let before : f sums + sum_by f left ≡ sum_by f all = old.sums_are p in
+        let nothing : sum_by f left ≡ 0 = ap (sum_by f) none in
+        let now : f sums ≡ sum_by f all = omega (arith, before, nothing) in
+        now;
+    a_count_each = old.a_count_each;
+    total_is =
+        let all_parts : parts_in ≡ parts = omega (arith, old.parts_are, no_seats) in
+        omega (arith, whole all_parts, old.amount_is, old.total_is);
+  }
 
 -- none is left
 pub none_left : (left rest : List (List ℕ)) (n : ℕ) → n ≡ 0 → left ≡ rest ++ [] → rest ≡ take (n - 1) left → left ≡ []
@@ -207,17 +209,18 @@ agrees_exactly w book counts tallies agree wiring legal of_counts of_tallies tal
 
 pub IsClosed-held : (w : Wiring) (rows parts : ℕ) (book : BookView) (tallies empty : List ℕ) (made_seats left amount : ℕ) (seats : List (List ℕ)) (counts : List ℕ) (agree : Bool)
     → IsProtected w rows parts book tallies empty made_seats left amount → IsBook book → ¬ HasUnfinished (state book) → all_asks_waiting book.rows ≡ 0
-    → SumsSeats seats counts → HasCountsOf (slots w) counts → sum counts ≡ sum tallies → (IsTrue agree ↔ (counts ≡ tallies))
+    → AreGathered (slots w) seats counts (sum tallies) → (IsTrue agree ↔ (counts ≡ tallies))
     → IsClosed w rows seats book counts agree
-IsClosed-held w rows parts book tallies empty made_seats left amount seats counts agree held is_book idle nobody sums of_counts sum_is same = record {
+IsClosed-held w rows parts book tallies _ _ _ _ seats counts agree held is_book idle nobody all_in same = record {
   of_wiring = held.of_wiring;
   of_rows = held.of_rows;
   legal = is_book;
   idle = idle;
   told = λ i. all_told book.wiring book.rows is_book.legal nobody (OfItem i);
   told_lanes = λ q. all_told book.wiring book.rows is_book.legal nobody (OfLane q);
-  sums = sums;
-  total = sum_is ∙ held.counted;
+  sums = all_in.sums_are;
+  total = all_in.total_is ∙ held.counted;
   agrees = agrees_exactly w book counts tallies agree (subst (λ (x : Wiring). IsWiring x) held.of_wiring is_book.wiring)
-      (subst (λ (x : Wiring). IsLegal x book.rows) held.of_wiring is_book.legal) of_counts held.a_count_each held.tallied sum_is same;
+      (subst (λ (x : Wiring). IsLegal x book.rows) held.of_wiring is_book.legal) all_in.a_count_each held.a_count_each
+      held.tallied all_in.total_is same;
 }

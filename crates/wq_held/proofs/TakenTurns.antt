@@ -1,7 +1,7 @@
 -- A call under the lock: what its rows are about is there, what the lock guards stays as it has to be, enough are
 -- woken, and whoever sleeps has a group.
 use Rattle.std.proofs.Common.{◌≡◌, ℕ, zero, suc, ◌<◌, ◌≤◌, Bool, List, refl, sym, ap, subst, ◌∙◌, arith, Result, Ok}
-use Rattle.std.proofs.Common.{Err, sum}
+use Rattle.std.proofs.Common.{Err, [], sum}
 use Rattle.wq_history.proofs.Words.{Context, Wiring, items, max_helpers, IsSoundState, Event, AskEvent, Row, subject_in}
 use Rattle.wq_history.proofs.Words.{start_event, IsThere, BookView, state, IsBook, IsUnfinishedBelow, IsRowOf, Writes}
 use Rattle.wq_history.proofs.Words.{WritesTwo, after, IsEarly, Answers, waiters_for, sleepers_of}
@@ -9,7 +9,7 @@ use Rattle.wq_held.proofs.Words.{Subject, OfItem, OfLane, Flush, Call, Ask, Told
 use Rattle.wq_held.proofs.Words.{Reply, Wrote, WroteTwo, Done, NotYet, CallError}
 use Rattle.wq_core.proofs.LaneLemmas.{lane_within}
 use Rattle.wq_core.proofs.Machines.{unfinished-own_lane}
-use Rattle.wq_counts.specs.Counting.{AreTallies, counted_rows, noted, noted_as}
+use Rattle.wq_counts.specs.Counting.{noted, noted_as}
 use Rattle.wq_counts.proofs.Tallies.{counted_rows-le-length}
 use Rattle.wq_history.proofs.KeptRows.{exist}
 use Rattle.wq_history.proofs.LegalRows.{IsSoundState-legal}
@@ -18,9 +18,9 @@ use Rattle.wq_history.proofs.WaitEvents.{declared-item}
 use Rattle.wq_history.proofs.Woken.{answer-enough}
 use Rattle.wq_held.specs.declared.turn.Turn.{Turn}
 use Rattle.wq_held.specs.declared.turn.Turn.TheVariants.{Answers as Answered, Sleeps}
-use Rattle.wq_held.specs.Locked.{slots, HeldView, IsProtected, Holds}
+use Rattle.wq_held.specs.Locked.{HeldView, IsProtected, Holds}
 use Rattle.wq_held.specs.Calls.{counts_after, IsUncounted, WasAnswered, AreThere, BecomesTurn, TakesTurn}
-use Rattle.wq_held.specs.Turns.{IfSleeps, IsGroup, Wakes, WakesEnoughOf}
+use Rattle.wq_held.specs.Turns.{IsGroup, Wakes, WakesEnoughOf}
 use Rattle.wq_held.specs.Receipts.{Answered as Shown, TakesTurnOf, ShowsTurn}
 use Rattle.wq_held.proofs.Locking.{IsProtected-noted}
 
@@ -62,38 +62,15 @@ now-there b call answer (old, book, answers) =
 
 -- ---- what the lock guards
 
+-- the book that is protected is one
+pub book-inside : (old inside : HeldView) → inside ≡ old → IsBook old.book → IsBook inside.book
+book-inside old inside same book = subst (λ (x : HeldView). IsBook x.book) (sym same) book
+
 -- there are few tallies: at most as many as the rows that a history may have
 pub few-tallies : (w : Wiring) (rows parts : ℕ) (b : BookView) (tallies sums : List ℕ) (seats left amount : ℕ)
     → IsProtected w rows parts b tallies sums seats left amount → IsBook b → sum tallies < 4294967294
 few-tallies w rows parts b tallies sums seats left amount held book =
     omega (arith, held.counted, counted_rows-le-length b.rows, book.enough, book.limit)
-
--- a book with the same wiring, rows and room is guarded as well
-same-protected : (w : Wiring) (rows parts : ℕ) (b new : BookView) (tallies sums : List ℕ) (seats left amount : ℕ)
-    → new.wiring ≡ b.wiring → new.rows ≡ b.rows → new.room ≡ b.room
-    → IsProtected w rows parts b tallies sums seats left amount
-    → IsProtected w rows parts new tallies sums seats left amount
-same-protected w rows parts b new tallies sums seats left amount wirings all_rows rooms held = record {
-  of_wiring = wirings ∙ held.of_wiring;
-  of_rows = rooms ∙ held.of_rows;
-  few_lanes = held.few_lanes;
-  few_helpers = held.few_helpers;
-  safe = held.safe;
-  a_count_each = held.a_count_each;
-  tallied = subst (λ rs. AreTallies (slots w) rs tallies) (sym all_rows) held.tallied;
-  counted = held.counted ∙ ap counted_rows (sym all_rows);
-  no_sums = held.no_sums;
-  all_parts = held.all_parts;
-  parts_given = held.parts_given;
-  a_part_left = held.a_part_left;
-  no_amount_left = held.no_amount_left;
-}
-
--- a call that is done without a row leaves them as they were
-same-after : (b : BookView) (call : Call)
-    → ((after b call).wiring ≡ b.wiring) × ((after b call).rows ≡ b.rows) × ((after b call).room ≡ b.room)
-same-after b Close = (refl, refl, refl)
-same-after b _ = (refl, refl, refl)
 
 module _ (w : Wiring) (rows parts : ℕ) (b new : BookView) (tallies sums : List ℕ) (seats left amount : ℕ)
     (held : IsProtected w rows parts b tallies sums seats left amount) (book : IsBook b) where
@@ -108,6 +85,30 @@ module _ (w : Wiring) (rows parts : ℕ) (b new : BookView) (tallies sums : List
       both.2) mid.0 both.4
   two-protected _ ask taken writes = absurd writes
 
+  -- a call that is done without a row closes the book, or leaves it as it was
+  done-protected : (call : Call) → IsProtected w rows parts (after b call) tallies sums seats left amount
+  done-protected Close = record {
+    of_wiring = held.of_wiring;
+    of_rows = held.of_rows;
+    few_lanes = held.few_lanes;
+    few_helpers = held.few_helpers;
+    safe = held.safe;
+    a_count_each = held.a_count_each;
+    tallied = held.tallied;
+    counted = held.counted;
+    no_sums = held.no_sums;
+    all_parts = held.all_parts;
+    parts_given = held.parts_given;
+    a_part_left = held.a_part_left;
+    no_amount_left = held.no_amount_left;
+  }
+  done-protected _ = held
+
+  -- the same of a book that is known to be this
+  of-book : (x : BookView) → new ≡ x → IsProtected w rows parts x tallies sums seats left amount
+      → IsProtected w rows parts new tallies sums seats left amount
+  of-book x is = subst (λ y. IsProtected w rows parts y tallies sums seats left amount) (sym is)
+
   -- an answer, whose rows are counted
   pub answered-protected : (call : Call) (answer : Result Reply CallError) → Answers b call answer new
       → IsProtected w rows parts new (counts_after tallies answer) sums seats left amount
@@ -115,15 +116,9 @@ module _ (w : Wiring) (rows parts : ℕ) (b new : BookView) (tallies sums : List
       IsProtected-noted w rows parts b new tallies sums seats left amount row.event row.yes row.number held book
       answers.1
   answered-protected call (Ok (WroteTwo ask taken)) answers = two-protected call ask taken answers
-  answered-protected call (Ok Done) answers =
-      let same = same-after b call in
-      same-protected w rows parts b new tallies sums seats left amount
-      (ap (λ (x : BookView). x.wiring) answers.1 ∙ same.0) (ap (λ (x : BookView). x.rows) answers.1 ∙ same.1)
-      (ap (λ (x : BookView). x.room) answers.1 ∙ same.2) held
-  answered-protected call (Ok NotYet) answers =
-      subst (λ (x : BookView). IsProtected w rows parts x tallies sums seats left amount) (sym answers.1) held
-  answered-protected call (Err e) answers =
-      subst (λ (x : BookView). IsProtected w rows parts x tallies sums seats left amount) (sym answers.1) held
+  answered-protected call (Ok Done) answers = of-book (after b call) answers.1 (done-protected call)
+  answered-protected call (Ok NotYet) answers = of-book b answers.1 held
+  answered-protected call (Err e) answers = of-book b answers.1 held
 
 -- ---- calls of which no seat counts anything
 
@@ -232,10 +227,9 @@ shown-taken old new call meant (Answered answer wake) shown is takes shows =
 shown-taken old new call meant (Sleeps among) shown is takes shows =
     subst (λ (t : Turn Shown). TakesTurnOf old call t new) (sym shows) takes
 
-pub shown-wakes : (lanes items_of : ℕ) (old new : HeldView) (meant : Call) (turn : Turn (Result Reply CallError))
-    (shown : Turn Shown) → ShowsTurn meant turn shown → Wakes lanes items_of WakesEnoughOf old new turn
-    → Wakes lanes items_of WakesEnoughOf old new shown
-shown-wakes lanes items_of old new meant (Answered answer wake) shown shows wakes =
-    subst (λ (t : Turn Shown). Wakes lanes items_of WakesEnoughOf old new t) (sym shows) wakes
-shown-wakes lanes items_of old new meant (Sleeps among) shown shows wakes =
-    subst (λ (t : Turn Shown). Wakes lanes items_of WakesEnoughOf old new t) (sym shows) wakes
+pub shown-wakes : (w : Wiring) (rows : ℕ) (old new : HeldView) (call : Call) (shown : Turn Shown)
+    → Holds w rows old.book → TakesTurnOf old call shown new → Wakes w.lanes (items w) WakesEnoughOf old new shown
+shown-wakes w rows old new call (Answered shown wake) holds takes =
+    turn-wakes w rows old new [] [] call (Answered shown.answer wake) holds (takes.1 [])
+shown-wakes w rows old new call (Sleeps among) holds takes =
+    turn-wakes w rows old new [] [] call (Sleeps among) holds (takes [])

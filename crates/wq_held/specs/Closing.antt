@@ -1,11 +1,11 @@
 -- What is handed back when a runtime is closed.
-use Rattle.std.specs.Prelude.{◌≡◌, ℕ, ◌<◌, List, sum, slice_index, Bool, IsTrue, ◌↔◌}
+use Rattle.std.specs.Prelude.{◌≡◌, ℕ, ◌+◌, ◌*◌, ◌<◌, List, sum, replicate, slice_index, Bool, IsTrue, ◌↔◌}
 use Rattle.std.specs.List.{sum_by, count_by}
 use Rattle.wq_core.specs.Wiring.{Wiring, items}
 use Rattle.wq_core.specs.State.{HasUnfinished}
 use Rattle.wq_counts.specs.declared.kind.Kind.{Kind}
 use Rattle.wq_counts.specs.declared.kind.LaneKind.{LaneKind}
-use Rattle.wq_counts.specs.Counting.{made, made_lane, tally, tally_lane, counted_rows}
+use Rattle.wq_counts.specs.Counting.{counts_each, HasCountsOf, made, made_lane, tally, tally_lane, counted_rows}
 use Rattle.wq_history.specs.declared.asking.Subject.TheVariants.{Item as OfItem, Lane as OfLane}
 use Rattle.wq_history.specs.Events.{begins_to_wait, ends_a_wait}
 use Rattle.wq_history.specs.Book.{BookView, state, IsBook}
@@ -13,6 +13,20 @@ use Rattle.wq_history.specs.Book.{BookView, state, IsBook}
 -- the counts are the sums over the seats, each of them: for each item or lane, kind and answer
 abbrev pub SumsSeats : List (List ℕ) → List ℕ → Type 0
 SumsSeats seats counts = (p : ℕ) → slice_index counts p ≡ sum_by (λ (seat : List ℕ). slice_index seat p) seats
+
+-- so many seats can be taken in, with counts of n slots each: nothing is summed up yet, the ledger's total is small,
+-- the seats and those parts that are left are all its parts, and what is left has no amount
+pub record MayBeGathered (n parts seats : ℕ) (sums : List ℕ) (total parts_left amount_left : ℕ) : Type 0 where
+  pub empty : sums ≡ replicate (counts_each * n) 0
+  pub few : total < 4294967296
+  pub parts_are : parts_left + seats ≡ parts
+  pub no_amount : amount_left ≡ 0
+
+-- these seats were taken in: the sums are theirs, and add up to the ledger's total
+pub record AreGathered (n : ℕ) (seats : List (List ℕ)) (sums : List ℕ) (total : ℕ) : Type 0 where
+  pub sums_are : SumsSeats seats sums
+  pub a_count_each : HasCountsOf n sums
+  pub total_is : sum sums ≡ total
 
 -- every count is the number of the rows that it counts: for each item, kind and
 -- answer, and for each lane, kind and answer

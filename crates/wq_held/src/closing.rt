@@ -4,10 +4,9 @@
 //! answer, as many rows as were written. Starts aren't counted. Closing takes time in the number of all counts, which
 //! are 22 for each seat and slot (there are as many slots as items or lanes, whichever are more), and no memory.
 
-ghost use Rattle.std.specs.Prelude.{◌≡◌, ◌+◌, ◌<◌, ◌*◌, sum, replicate, vec_len, IfOk, IfErr};
-ghost use Rattle.wq_counts.specs.Counting.{counts_each, HasCountsOf};
+ghost use Rattle.std.specs.Prelude.{◌≡◌, vec_len, IfOk, IfErr};
 ghost use Rattle.wq_held.specs.Locked.{slots, RefusesClose, Closes};
-ghost use Rattle.wq_held.specs.Closing.{SumsSeats, IsClosed};
+ghost use Rattle.wq_held.specs.Closing.{MayBeGathered, AreGathered, IsClosed};
 
 use crate::held::Held;
 use crate::naming::Naming;
@@ -40,13 +39,9 @@ fn gather<N: Naming, A: Allocator>(
     rest: &mut Share<N>,
     mut seats: Vec<Seat<N, A>, A>,
 )
-    requires empty { sums.old ≡ replicate (counts_each * slots N.wiring) 0 }
-    requires few { ledger.old.total < 4294967296 }
-    requires parts { rest.old.parts + vec_len seats ≡ N.parts }
-    requires amount { rest.old.amount ≡ 0 }
-    ensures sums { SumsSeats seats.items sums.new }
-    ensures length { HasCountsOf (slots N.wiring) sums.new }
-    ensures total { sum sums.new ≡ ledger.old.total }
+    requires { MayBeGathered (slots N.wiring) N.parts (vec_len seats) sums.old ledger.old.total rest.old.parts
+        rest.old.amount }
+    ensures { AreGathered (slots N.wiring) seats.items sums.new ledger.old.total }
 {
     while let Some(seat) = seats.pop() {
         let Seat { counts, share } = seat;

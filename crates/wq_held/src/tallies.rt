@@ -50,9 +50,8 @@ impl<N: Naming, A: Allocator> Tallies<N, A> {
     fn count_row(&mut self, seat: &mut Seat<N, A>, row: &Row)
         requires there { IsThere N.wiring (subject_in row.now.event) }
         requires few { sum self.old < 4294967295 }
-        ensures tallies { self.new ≡ noted self.old row.now }
-        ensures seat { seat.new ≡ noted seat.old row.now }
-        ensures few { sum self.new ≤ sum self.old + 1 }
+        ensures { (self.new ≡ noted self.old row.now) × (seat.new ≡ noted seat.old row.now)
+            × (sum self.new ≤ sum self.old + 1) }
     {
         self.ledger.audit(&mut seat.share);
         let before = seat.counts.total();
@@ -67,8 +66,7 @@ impl<N: Naming, A: Allocator> Tallies<N, A> {
     pub fn count_answer(&mut self, seat: &mut Seat<N, A>, answer: &Result<Reply, CallError>)
         requires there { AreThere N.wiring answer.now }
         requires few { sum self.old < 4294967294 }
-        ensures tallies { self.new ≡ counts_after self.old answer.now }
-        ensures seat { seat.new ≡ counts_after seat.old answer.now }
+        ensures { (self.new ≡ counts_after self.old answer.now) × (seat.new ≡ counts_after seat.old answer.now) }
     {
         match answer {
             Ok(Reply::Wrote(row)) => self.count_row(seat, row),

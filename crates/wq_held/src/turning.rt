@@ -4,10 +4,9 @@
 
 ghost use Rattle.std.specs.Prelude.{◌≡◌};
 ghost use Rattle.wq_core.specs.Wiring.{items};
-ghost use Rattle.wq_held.specs.Locked.{Holds};
 ghost use Rattle.wq_held.specs.Calls.{WasAnswered, BecomesTurn, TakesTurn};
 ghost use Rattle.wq_held.specs.Receipts.{TakesTurnOf, ShowsTurn};
-ghost use Rattle.wq_held.specs.Turns.{IfSleeps, Wakes, WakesEnoughOf};
+ghost use Rattle.wq_held.specs.Turns.{Wakes, WakesEnoughOf};
 
 use crate::held::Held;
 use crate::naming::Naming;
@@ -83,8 +82,6 @@ impl<N: Naming, A: Allocator> Held<N, A> {
     ) -> Turn<Result<Reply, CallError>>
         ensures takes { TakesTurn self.old seat.old (C.meant call) result self.new seat.new }
         ensures wakes { Wakes N.wiring.lanes (items N.wiring) WakesEnoughOf self.old self.new result }
-        ensures sleeps { IfSleeps result (λ _. seat.new ≡ seat.old) }
-        ensures holds { Holds N.wiring N.rows self.old.book }
     {
         self.holds();
         let meant = call.call();
@@ -97,7 +94,6 @@ impl<N: Naming, A: Allocator> Held<N, A> {
     pub fn turn_uncounted<C: Uncounted<A>>(&mut self, call: C) -> Turn<Answered<N>>
         ensures takes { TakesTurnOf self.old (C.meant call) result self.new }
         ensures wakes { Wakes N.wiring.lanes (items N.wiring) WakesEnoughOf self.old self.new result }
-        ensures holds { Holds N.wiring N.rows self.old.book }
     {
         self.holds();
         let meant = call.call();

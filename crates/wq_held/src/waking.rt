@@ -69,8 +69,7 @@ fn by_queueing<A: Allocator>(book: &Book<A>, item: ItemId, accepted: bool) -> Wa
 
 /// Whom it wakes that an entry of an item has ended, on a workqueue: these contexts, and who waited for that.
 fn by_end<A: Allocator>(book: &Book<A>, contexts: WokenContexts, q: LaneId, item: ItemId) -> Wake
-    ensures contexts { result.contexts ≡ contexts }
-    ensures waiters { WakesWaiters book.now q item result }
+    ensures { (result.contexts ≡ contexts) × WakesWaiters book.now q item result }
 {
     Wake {
         contexts,
@@ -104,10 +103,7 @@ fn by_step<A: Allocator>(book: &Book<A>, q: LaneId, step: &HelpStep) -> Wake
             destroyers: false,
         },
         HelpStep::Finish(item) => by_end(book, if_pending(book, q, item), q, item),
-        HelpStep::Wait(_) => Wake::nobody(),
-        HelpStep::WaitAll(_) => Wake::nobody(),
-        HelpStep::Over(_) => Wake::nobody(),
-        HelpStep::OverAll(_) => Wake::nobody(),
+        _ => Wake::nobody(),
     }
 }
 
@@ -123,14 +119,7 @@ pub(crate) fn by_row<A: Allocator>(book: &Book<A>, row: &Row) -> Wake
         Event::Start(q, item) => by_step(book, q, &HelpStep::Start(item)),
         Event::Finish(q, item) => by_step(book, q, &HelpStep::Finish(item)),
         Event::Help(q, _, step) => by_step(book, q, &step),
-        Event::Wait(_, _) => Wake::nobody(),
-        Event::WaitAll(_, _) => Wake::nobody(),
-        Event::Over(_, _) => Wake::nobody(),
-        Event::OverAll(_, _) => Wake::nobody(),
-        Event::Ask(_) => Wake::nobody(),
-        Event::Told(_) => Wake::nobody(),
-        Event::AskLane(_) => Wake::nobody(),
-        Event::ToldLane(_) => Wake::nobody(),
+        _ => Wake::nobody(),
     }
 }
 
@@ -166,8 +155,7 @@ fn waiters(subject: &Subject) -> Sleepers
 
 /// Among whom the caller of a call sleeps that is too early.
 pub(crate) fn sleepers<A: Allocator>(book: &Book<A>, call: &Call) -> Sleepers
-    requires book { IsBook book.now }
-    requires early { IsEarly book.now call.now }
+    requires { IsBook book.now × IsEarly book.now call.now }
     ensures { result ≡ sleepers_of book.now.wiring call.now }
 {
     match *call {

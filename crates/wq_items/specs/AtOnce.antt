@@ -1,4 +1,4 @@
--- At once: what a line says before it is known whether its words are names.
+-- At once: what a line says before its words are known to be names.
 use Rattle.std.specs.Prelude.{◌≡◌, Bool, true, false, List, [], ◌∷◌, Option, Some, None, Result, Ok, IsOk, IsTrue}
 use Rattle.wq_text.specs.Words.{WordView}
 use Rattle.wq_decl.specs.declared.directive.Directive.{Directive}
@@ -15,7 +15,7 @@ item_unjudged [] = None
 item_unjudged (name ∷ []) = Some (Some (Item name))
 item_unjudged (name ∷ extra ∷ others) = None
 
--- the words after `flush` as a directive, which may lack a target
+-- the words after `flush` as a directive; it may lack a target
 abbrev pub flush_unjudged : List WordView → Option (Option Directive)
 flush_unjudged [] = None
 flush_unjudged (name ∷ targets) = Some (Some (Flush name targets))
@@ -27,15 +27,15 @@ flushwq_unjudged (name ∷ []) = None
 flushwq_unjudged (name ∷ target ∷ []) = Some (Some (FlushWq name target))
 flushwq_unjudged (name ∷ target ∷ extra ∷ others) = None
 
--- the words after `flush?` as a directive, or after `flushwq?`, if there are exactly two
+-- the words after `flush?` or `flushwq?` as a directive, if there are exactly two
 abbrev pub unsure_unjudged : Bool → List WordView → Option (Option Directive)
 unsure_unjudged whole [] = None
 unsure_unjudged whole (name ∷ []) = None
 unsure_unjudged whole (name ∷ target ∷ []) = Some (Some (Unsure name target whole))
 unsure_unjudged whole (name ∷ target ∷ extra ∷ others) = None
 
--- the words after the keyword as a directive, whatever they are and even if there
--- are too few; no answer if they can't be those of a directive
+-- the words after the keyword as a directive, whether or not they are names, and even if a target is missing; no answer
+-- if there are too few or too many for any directive
 abbrev pub unjudged_after : Option Keyword → List WordView → Option (Option Directive)
 unjudged_after None words = None
 unjudged_after (Some keyword.Item) words = item_unjudged words
@@ -45,7 +45,7 @@ unjudged_after (Some keyword.FlushUnsure) words = unsure_unjudged false words
 unjudged_after (Some keyword.FlushWqUnsure) words = unsure_unjudged true words
 unjudged_after (Some keyword.Ordered) words = Some (Some (Ordered words))
 
--- the words of a line as a directive: nothing on a blank line, else what follows its keyword
+-- the words of a line as a directive: nothing on a blank line, or else what follows the keyword says
 abbrev pub unjudged : List WordView → Option (Option Directive)
 unjudged [] = Some None
 unjudged (first ∷ others) = unjudged_after (keyword_of first.bytes) others
@@ -60,8 +60,7 @@ is_whole (Unsure name target whole) = are_names (name ∷ target ∷ [])
 is_whole (Ordered []) = false
 is_whole (Ordered (name ∷ others)) = are_names (name ∷ others)
 
--- what the words of a line seem to say and what the line says: the same if the
--- directive is whole; otherwise it has a fault
+-- what a line says, given what its words seem to say: the same if the directive is whole, otherwise a fault
 abbrev pub Foretells : Option (Option Directive) → Result (Option Directive) DeclError → Type 0
 Foretells None said = ¬ IsOk said
 Foretells (Some None) said = said ≡ Ok None

@@ -13,7 +13,7 @@ use Rattle.wq_items.specs.declared.fault.ItemError.TheVariants.{ItemTwice, Unkno
 use Rattle.wq_items.specs.declared.fault.ItemError.TheVariants.{OutOfMemory}
 use Rattle.wq_items.specs.Table.{Table, item_named, targets_of, flush_count, max_items, max_flushes}
 
--- no item
+-- no items
 abbrev pub empty_table : Table
 empty_table = record { names = []; spans = []; waits = [] }
 
@@ -30,19 +30,19 @@ with_item t name =
       waits = t.waits ++ ([] ∷ []);
     }
 
--- a flush of an item, which is sure
+-- a sure flush of an item
 abbrev pub of_item : Kind
 of_item = record { whole = false; unsure = false }
 
--- a flush of a whole workqueue, which is sure
+-- a sure flush of a whole workqueue
 abbrev pub of_workqueue : Kind
 of_workqueue = record { whole = true; unsure = false }
 
--- a flush that isn't sure: of a whole workqueue, or of an item
+-- an unsure flush: of a whole workqueue, or of an item
 abbrev pub unsure_of : Bool → Kind
 unsure_of whole = record { whole = whole; unsure = true }
 
--- targets of one kind, the first of which is at this place
+-- targets of one kind, where the first is at this place
 abbrev pub targets_from : Kind → ℕ → List ℕ → List Target
 targets_from kind place [] = []
 targets_from kind place (item ∷ items) =
@@ -80,7 +80,7 @@ flushes_declared t n kind (Some (i ∷ items)) =
     if nat_lt max_flushes (flush_count t.waits + length items) then Err (TooManyFlushes n)
     else Ok (with_flushes t kind i items)
 
--- a flush of this kind was added to those of the item with one name, at this place: of the item with another, or of its
+-- a flush of this kind is added at this place: the item with the first name flushes the item with the second, or its
 -- workqueue
 pub record AddsOne (names : List (List ℕ)) (old : List (List Target)) (kind : Kind) (name target : List ℕ) (place : ℕ)
     (new : List (List Target)) : Type 0 where
@@ -104,7 +104,7 @@ declared t n (Unsure name target whole) =
     flushes_declared t n (unsure_of whole) (items_named t.names (name ∷ target ∷ []))
 declared t n (Ordered names) = items_ordered t n (items_named t.names names)
 
--- what follows a value, if there is one; an error stays
+-- what follows a value, if there is one; an error stays as it is
 abbrev pub and_then : {V W E : Type 0} → (V → Result W E) → Result V E → Result W E
 and_then next (Ok v) = next v
 and_then next (Err e) = Err e
@@ -118,7 +118,7 @@ table_after t (d ∷ ds) = and_then (λ u. table_after u ds) (declared t d.0 d.1
 abbrev pub table_of : List (ℕ × Directive) → Result Table ItemError
 table_of ds = table_after empty_table ds
 
--- what a call answers instead of a table: that memory ran out, or else the first fault
+-- what a call returns instead of a table: that memory ran out, or else the first fault
 abbrev pub IsFaultOf : ItemError → Result Table ItemError → Type 0
 IsFaultOf (ItemTwice n) r = r ≡ Err (ItemTwice n)
 IsFaultOf (UnknownItem n) r = r ≡ Err (UnknownItem n)

@@ -38,7 +38,8 @@ line_flushes (n, Ordered names) = []
 abbrev pub flushes : List (ℕ × Directive) → List (List ℕ × (Kind × List ℕ))
 flushes ds = flat_map line_flushes ds
 
--- of numbered flushes, those of the item with this name: for each, its kind, the name of the target and the number
+-- those of the numbered flushes that the item with this name declares: for each, its kind, the name of the target and
+-- the number
 abbrev pub flushes_of : List ℕ → List (ℕ × (List ℕ × (Kind × List ℕ))) → List ((Kind × List ℕ) × ℕ)
 flushes_of name numbered =
     filter_map (λ (f : ℕ × (List ℕ × (Kind × List ℕ))). if bytes_eq f.1.0 name then Some (f.1.1, f.0)

@@ -22,7 +22,7 @@ AreHashed hasher names = All (λ (n : Name). n.hash ≡ hash_of hasher n.bytes.n
 abbrev pub names_of : List Name → List (List ℕ)
 names_of names = map (λ (n : Name). n.bytes.now) names
 
--- the keys of the names, in turn, where the greatest key is `most`: some of the bits of the hash
+-- the keys of the names, in turn, if the greatest key is `most`: some bits of their hashes
 abbrev pub keys_of : ℕ → List Name → List ℕ
 keys_of most names = map (λ (n : Name). bit_and n.hash most) names
 
@@ -32,15 +32,13 @@ pub record EndsAfterLast (keys : List ℕ) (k bound end : ℕ) : Type 0 where
   pub last : (p : ℕ) → p < bound → slice_index keys p ≡ k → p < end
   pub of_key : (p : ℕ) → end ≡ p + 1 → slice_index keys p ≡ k
 
--- of the first n places: for each key the last place with it, and for each of the
--- places the last one before it with the same key
+-- for the first n places: for each key the last place with it, and for each place the previous one with the same key
 pub record AreLinked (keys : List ℕ) (n : ℕ) (lasts befores : List ℕ) : Type 0 where
   pub one_each : length befores ≡ n
   pub lasts_lead : (k : ℕ) → k < length lasts → EndsAfterLast keys k n (slice_index lasts k)
   pub befores_lead : (p : ℕ) → p < n → EndsAfterLast keys (slice_index keys p) p (slice_index befores p)
 
--- at most 4,096 names, which differ and bring their hashes, and their places by key,
--- of which there is one if there is a name
+-- at most 4,096 different names, which bring their hashes, and their places by key; if there is a name, there is a key
 pub record AreFound (hasher : Seeded) (names : List Name) (lasts befores : List ℕ) : Type 0 where
   pub few : length names ≤ max_items
   pub hashed : AreHashed hasher names

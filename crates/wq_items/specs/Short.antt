@@ -1,5 +1,5 @@
--- Short names: their first four bytes and their last four are all of them. Of tiny
--- names the first byte, the middle one and the last are all.
+-- Short names: their first four bytes and their last four are the whole name. A tiny name is its first byte, its middle
+-- one and its last.
 use Rattle.std.specs.Prelude.{ℕ, ◌+◌, ◌-◌, ◌*◌, ◌/◌, ◌^◌, ◌&&◌, nat_le, Bool, List, [], ◌∷◌, length, take, drop}
 use Rattle.std.specs.Prelude.{slice_index, if◌then◌else◌}
 use Rattle.std.specs.Int.{w32, from_le_bytes}
@@ -26,7 +26,7 @@ abbrev pub tiny_number : List ℕ → ℕ
 tiny_number name =
     slice_index name 0 * 2 ^ 16 + slice_index name (length name / 2) * 2 ^ 8 + slice_index name (length name - 1)
 
--- what of a name a hasher takes: the number of a short or tiny one, else all bytes
+-- what a hasher takes of a name: the number of a short or tiny one, all bytes of a longer one
 abbrev pub taken : List ℕ → HashWrites
 taken name =
     if is_short name then u64 (short_number name) else if is_tiny name then u64 (tiny_number name) else name ∷ []

@@ -30,8 +30,8 @@ ItemWaits waits i j = Any (λ (t : Target). t.item ≡ j) (targets_of waits i)
 abbrev pub ItemWaitsBy : List (List Target) → Bool → ℕ → ℕ → Type 0
 ItemWaitsBy waits whole i j = Any (λ (t : Target). (t.item ≡ j) × (t.whole ≡ whole)) (targets_of waits i)
 
--- the items at vertex v, in declaration order, where `vertex_of` has the vertex of
--- each item in turn: its group or its workqueue
+-- the items at vertex v, in declaration order, where `vertex_of` has the vertex of each item: its group or its
+-- workqueue
 abbrev pub items_at : List ℕ → ℕ → List ℕ
 items_at vertex_of v = filter (λ i. slice_index vertex_of i == v) (range_with_len 0 (length vertex_of))
 

@@ -1,17 +1,15 @@
-//! The table of a text in one pass, where the text has no fault.
+//! The table of a text without a fault, read in one pass.
 //!
-//! `DeclView::new` and `ItemTable::read` scan a declaration one after the other, since the faults
-//! of the first pass come before those of the second. Here both passes are made at once. The words
-//! of a line are cut once. A word that is found in the table isn't judged, since the table holds
-//! only names; the name on an `item` line is. Which fault a text has isn't asked: where there is
-//! one, there is no answer, and whoever wants to know it reads the text by the two passes.
+//! `DeclView::new` and `ItemTable::read` scan a declaration one after the other, since the faults of the first pass
+//! come before those of the second. Here both passes are made at once, and the words of a line are cut once. A word
+//! that is found in the table isn't judged, since the table holds only names; only the name on an `item` line is. If
+//! the text has a fault, there is no answer: which fault it is, the two passes tell.
 //!
-//! The view of the directives knows where the `ordered` lines are, so that the groups
-//! are read without a look at most other lines. The items that these lines name are
-//! noted and handed out, so that the groups needn't look most of them up again.
+//! The view of the directives keeps where the `ordered` lines are, so that reading the groups skips most other lines.
+//! The items that these lines name are noted and returned, so that most of them needn't be looked up again.
 //!
-//! It takes time in the length of the text, on average, and memory in the number of
-//! items and flushes: each name is looked up once.
+//! Each name is looked up once. On average, this takes time linear in the length of the text, and memory linear in the
+//! number of items and flushes.
 
 ghost use Rattle.std.specs.Prelude.{◌≡◌, ◌∷◌, [], ℕ, ◌-◌, ◌<◌, ◌≤◌, ◌^◌, ◌||◌, length, option_map, Ok, IsOk, IfSome};
 ghost use Rattle.std.specs.Prelude.{IfNone, IsTrue, None, Some, true, false};
@@ -48,7 +46,7 @@ fn item_unjudged<'a>(mut words: Words<'a>) -> Option<Option<Directive<'a>>>
     Some(Some(Directive::Item(name)))
 }
 
-/// The words after `flush` as a directive, which may lack a target.
+/// The words after `flush` as a directive. It may lack a target.
 #[inline(always)]
 fn flush_unjudged<'a>(mut words: Words<'a>) -> Option<Option<Directive<'a>>>
     ensures { result ≡ flush_unjudged words.entry }
@@ -69,8 +67,7 @@ fn flushwq_unjudged<'a>(mut words: Words<'a>) -> Option<Option<Directive<'a>>>
     }
 }
 
-/// The words after `flush?` as a directive, or after `flushwq?`, whose flush is of a whole workqueue, if there are
-/// exactly two.
+/// The words after `flush?` or, if `whole`, `flushwq?` as a directive, if there are exactly two.
 fn unsure_unjudged<'a>(whole: bool, mut words: Words<'a>) -> Option<Option<Directive<'a>>>
     ensures { result ≡ unsure_unjudged whole words.entry }
 {
@@ -82,7 +79,7 @@ fn unsure_unjudged<'a>(whole: bool, mut words: Words<'a>) -> Option<Option<Direc
     None
 }
 
-/// The words after the keyword as a directive, whatever they are.
+/// The words after the keyword as a directive, whether or not they are names.
 #[inline(always)]
 fn unjudged_after<'a>(keyword: Option<Keyword>, words: Words<'a>) -> Option<Option<Directive<'a>>>
     ensures { result ≡ unjudged_after keyword words.entry }
@@ -97,7 +94,7 @@ fn unjudged_after<'a>(keyword: Option<Keyword>, words: Words<'a>) -> Option<Opti
     }
 }
 
-/// The words of a line as a directive, whatever they are.
+/// The words of a line as a directive, whether or not they are names.
 #[inline(always)]
 fn words_unjudged<'a>(line: &Line<'a>) -> Option<Option<Directive<'a>>>
     ensures { result ≡ unjudged (words_of line.now) }
@@ -108,8 +105,9 @@ fn words_unjudged<'a>(line: &Line<'a>) -> Option<Option<Directive<'a>>>
     }
 }
 
-/// What a line says, if its words are enough and names: nothing if no word stands before its comment, else a
-/// directive. There is no answer if it has a fault, whatever its words are.
+/// What a line says if no word is missing and all words after the first are names: a directive, or `Some(None)` if no
+/// word comes before its comment. `None` if the line has a fault in any case, by its first word or by how many words it
+/// has.
 fn line_unjudged<'a>(line: &Line<'a>) -> Option<Option<Directive<'a>>>
     ensures { Foretells result (reading line.now) }
 {
@@ -117,13 +115,13 @@ fn line_unjudged<'a>(line: &Line<'a>) -> Option<Option<Directive<'a>>>
 }
 
 /// The parts of a table while its lines are read. Contracts see what they see of a table, but the parts needn't make
-/// one: where a growth is refused, some have grown and others haven't.
+/// one: after a failed allocation, some have grown and others haven't.
 #[derive(Drop)]
 struct Parts<'a, A: Allocator> {
     names: Names<'a, A>,
     spans: Vec<Span, A>,
     waits: Flushes<A>,
-    /// The items that `ordered` lines name, in turn. Nothing is promised of them.
+    /// The items that `ordered` lines name, in turn. Nothing is promised about them.
     noted: Vec<ItemId, A>,
 }
 
@@ -136,7 +134,7 @@ impl<'a, A: Allocator> Model for Parts<'a, A> {
 }
 
 impl<'a, A: Allocator + Copy> Parts<'a, A> {
-    /// Those of a table without an item. Names are hashed with this seed.
+    /// The parts of a table without items. Names are hashed with `seed`.
     fn new(alloc: A, seed: u64) -> Self
         ensures { result ≡ empty_table }
     {
@@ -148,8 +146,7 @@ impl<'a, A: Allocator + Copy> Parts<'a, A> {
         }
     }
 
-    /// Adds what a line declares, if its directive is whole. If there is no
-    /// answer, the parts are of no use any more.
+    /// Adds what a line declares, if its directive is whole. After `None` the parts can't be used any more.
     fn take(&mut self, directive: Directive<'a>) -> Option<()>
         requires { IsTable self.old }
         ensures table { IfSome result (λ _. (n : ℕ) → declared self.old n directive.entry ≡ Ok self.new) }
@@ -178,7 +175,7 @@ impl<'a, A: Allocator + Copy> Parts<'a, A> {
         }
     }
 
-    /// Adds an item, if this is a name.
+    /// Adds an item, if the word is a name.
     fn take_item(&mut self, name: Word<'a>) -> Option<()>
         requires { IsTable self.old }
         ensures table { IfSome result (λ _. (n : ℕ) → item_declared self.old n name.entry ≡ Ok self.new) }
@@ -195,7 +192,7 @@ impl<'a, A: Allocator + Copy> Parts<'a, A> {
         Some(())
     }
 
-    /// Adds the flushes that one item declares, if there are some.
+    /// Adds the flushes that one item declares. There must be at least one.
     fn take_flushes(&mut self, name: Word<'a>, targets: Words<'a>) -> Option<()>
         requires { IsTable self.old }
         ensures table { IfSome result (λ _. (n : ℕ)
@@ -224,7 +221,7 @@ impl<'a, A: Allocator + Copy> Parts<'a, A> {
         push_one(&self.names, &mut self.waits, kind, name, target, place)
     }
 
-    /// Adds nothing, if there are words and each of them names an item.
+    /// Adds nothing; checks that there are words and each of them names an item.
     fn take_order(&mut self, names: Words<'a>) -> Option<()>
         requires { IsTable self.old }
         ensures table { IfSome result (λ _. (n : ℕ)
@@ -239,7 +236,7 @@ impl<'a, A: Allocator + Copy> Parts<'a, A> {
         Some(())
     }
 
-    /// The table of the parts, and the items that were noted. There is no answer if memory ran out.
+    /// The table of the parts, and the items that were noted; `None` if memory ran out.
     fn finish(self, alloc: A) -> Option<(ItemTable<'a, A>, Vec<ItemId, A>)>
         requires { IsTable self }
         ensures table { IfSome result (λ r. r.0 ≡ self.entry) }
@@ -256,8 +253,8 @@ impl<'a, A: Allocator + Copy> Parts<'a, A> {
     }
 }
 
-/// Notes an item that an `ordered` line names, if there is memory for it. Of more names than a table has items one is
-/// there twice, so no more are noted.
+/// Notes an item that an `ordered` line names, if there is memory for it. With more names than a table has items, one
+/// is named twice, so no more are noted.
 fn note<A: Allocator>(noted: &mut Vec<ItemId, A>, item: ItemId) {
     if noted.len() < MAX_ITEMS {
         noted.push(item).ok();
@@ -283,19 +280,19 @@ fn note_known<'a, A: Allocator + Copy>(
     Some(count)
 }
 
-/// The `ordered` lines that were seen so far.
+/// The `ordered` lines that have been seen so far.
 #[derive(Drop)]
 struct Orders<'a> {
-    /// Whether there is one.
+    /// Whether any has been seen.
     any: bool,
-    /// The lines from the first of them on; all lines, before there is one.
+    /// The lines from the first `ordered` line on; all lines, as long as there is none.
     lines: Lines<'a>,
-    /// How many there are, where that many can be counted.
+    /// How many `ordered` lines there are, if the count doesn't overflow.
     count: Option<u32>,
 }
 
 impl<'a> Orders<'a> {
-    /// None of these lines.
+    /// No `ordered` line seen yet.
     fn none(lines: Lines<'a>) -> Self
         ensures { (result.any ≡ false) × (result.lines ≡ lines.entry) × (result.count ≡ Some 0) }
     {
@@ -306,7 +303,7 @@ impl<'a> Orders<'a> {
         }
     }
 
-    /// Notes whether the first of these lines is one more.
+    /// If `is_ordered`, notes that the first of the lines `here` is an `ordered` line.
     #[inline(always)]
     fn note(&mut self, here: &Lines<'a>, is_ordered: bool)
         ensures any { self.new.any ≡ (self.old.any || is_ordered) }
@@ -327,13 +324,13 @@ impl<'a> Orders<'a> {
 }
 
 /// The directives of a text and the table that they declare, if no line has a fault: what `DeclView::new` and
-/// `ItemTable::read_seeded` answer, in one pass. The names are hashed with this seed, on which no answer depends.
+/// `ItemTable::read_seeded` return, in one pass. Names are hashed with `seed`; no result depends on it.
 ///
-/// The items that the `ordered` lines name are handed out, too, in turn: a guess for each name that
-/// `Groups::read_guessed` looks up. Nothing is promised of them.
+/// It also returns the items that the `ordered` lines name, in turn: a guess for each name that `Groups::read_guessed`
+/// looks up. Nothing is promised about them.
 ///
-/// There is no answer if some line has a fault, of the grammar or of the items; or if a growth was refused, at a
-/// line that declares an item or a flush.
+/// `None` if some line has a fault, of the grammar or of the items, or if memory ran out at a line that declares an
+/// item or a flush.
 pub fn read_at_once<'a, A: Allocator + Copy>(
     alloc: A,
     seed: u64,

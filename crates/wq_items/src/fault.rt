@@ -1,7 +1,7 @@
 //! Why directives don't make a table.
 //!
 //! The faults are those of the pass over the items in the table of refusals in docs/FORMAT.md. The rules that they
-//! break are in its "Items and groups" and "Limits". Each answer takes constant time.
+//! break are in "Items and groups" and "Limits" there. Each call takes constant time.
 
 ghost use Rattle.std.specs.Prelude.{◌≡◌};
 ghost use Rattle.wq_items.specs.Building.{item_refusal};
@@ -10,14 +10,14 @@ ghost use Rattle.wq_items.specs.declared.fault.ItemError.TheVariants.{OutOfMemor
 use std::alloc::{AllocError, AllocFailed};
 use thiserror::Error;
 
-/// The first fault of the directives, or out of memory. The rows of the table of refusals in docs/FORMAT.md say which
-/// fault of a line is the first.
+/// The first fault of the directives, or out of memory. The order of rows in the table of refusals in docs/FORMAT.md
+/// decides which fault of a line is the first.
 #[derive(Clone, Copy, Debug, PartialEq, Eq, Error)]
 pub enum ItemError {
     /// The item is already declared (7).
     #[error("line {line}: the item is already declared")]
     ItemTwice { line: u32 },
-    /// A name on a `flush` or an `ordered` line that no earlier line declares (8).
+    /// A name on a line that isn't an `item` line is declared by no earlier line (8).
     #[error("line {line}: no earlier line declares this item")]
     UnknownItem { line: u32 },
     /// There are 4,096 items already (9).

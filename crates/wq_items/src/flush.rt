@@ -1,7 +1,7 @@
 //! The flushes that a declaration declares, in order of place, while its lines are read.
 //!
-//! They are those of "Items and groups" in docs/FORMAT.md. All flushes of all items are in one vector. Each call takes
-//! constant time, on average for a push, except for `by_item`, which takes time in the number of items and flushes.
+//! The rules are those of "Items and groups" in docs/FORMAT.md. All flushes of all items are in one vector. Each call
+//! takes constant time, amortized for a push, but `by_item` takes O(items + flushes).
 
 ghost use Rattle.std.specs.Prelude.{◌≡◌, ◌<◌, ◌++◌, ◌∷◌, [], length, slice_set, OnOk, OnErr, IfOk, IfErr};
 ghost use Rattle.wq_items.specs.Table.{targets_of, flush_count};
@@ -18,7 +18,7 @@ pub(crate) struct Flush {
     pub(crate) target: Target,
 }
 
-/// The flushes of the items. Contracts see the list of each item's targets, in turn.
+/// The flushes of the items. Contracts see each item's list of targets.
 #[derive(Drop)]
 pub(crate) struct Flushes<A: Allocator> {
     flushes: Vec<Flush, A>,
@@ -42,7 +42,7 @@ impl<A: Allocator> Model for Flushes<A> {
 }
 
 impl<A: Allocator + Copy> Flushes<A> {
-    /// No item.
+    /// No items.
     pub(crate) fn new(alloc: A) -> Self
         ensures { result ≡ [] }
     {
@@ -52,7 +52,7 @@ impl<A: Allocator + Copy> Flushes<A> {
         }
     }
 
-    /// The number of flushes, of all items together.
+    /// The number of flushes of all items.
     pub(crate) fn len(&self) -> usize
         ensures { result ≡ flush_count self.now }
     {
@@ -82,8 +82,8 @@ impl<A: Allocator + Copy> Flushes<A> {
         Ok(())
     }
 
-    /// Makes room for four times as many flushes where there is none for another, so that few growths move them all. If
-    /// this memory is refused, the next flush that is added asks for less.
+    /// If there is no room for another flush, makes room for four times as many, so that they are rarely moved. If this
+    /// allocation fails, the next push asks for less.
     fn make_room(&mut self)
         ensures { self.new ≡ self.old }
     {
@@ -93,7 +93,7 @@ impl<A: Allocator + Copy> Flushes<A> {
         }
     }
 
-    /// The targets, item by item. The only error is out of memory, which can't occur if there is no item.
+    /// The targets of each item. The only error is out of memory, which can't occur if there is no item.
     pub(crate) fn by_item(self, alloc: A) -> Result<Waits<A>, AllocError>
         requires { flush_count self < 4294967296 }
         ensures waits { IfOk result (λ waits. waits ≡ self) }

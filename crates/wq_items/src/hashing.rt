@@ -1,12 +1,12 @@
 //! Names as keys of a map, and how they are hashed.
 //!
-//! Names come from a stranger's text. Whoever knows how they are hashed can choose thousands that have the same hash,
-//! and each of them is then found only after all the others. So a hash depends on a seed, which the program chooses. No
-//! answer depends on the seed: what a map finds is defined without its hashes.
+//! Names come from untrusted text. An author who knew the hash function could choose thousands of names with the same
+//! hash, and each look-up would then try all of them. So hashes depend on a seed, which the program chooses. No result
+//! depends on the seed: what a map finds is defined without its hashes.
 //!
-//! A name is hashed in time in its length, in one pass. Most names have at most eight
-//! bytes: of these a number is hashed and compared that stands for all of their bytes
-//! (`short`). A name keeps its hash, so that a map doesn't hash it again.
+//! A name is hashed in one pass, in time linear in its length. Most names have at most eight bytes. Such a name is
+//! hashed and compared as one number that stands for all of its bytes (`short`). A name keeps its hash, so that a map
+//! doesn't hash it again.
 
 ghost use Rattle.std.specs.Prelude.{◌≡◌, ◌==◌, ◌&&◌, List, ℕ, if◌then◌else◌, bytes_eq};
 ghost use Rattle.std.specs.Hash as fed;
@@ -26,7 +26,7 @@ pub(crate) struct Name<'a> {
     pub(crate) hash: u64,
 }
 
-/// Whether two longer names are the same. It stands apart, so that the look-up of a short name is small.
+/// Whether two longer names are equal. Kept out of line, so that looking up a short name is small.
 #[inline(never)]
 fn are_same_long(a: &[u8], b: &[u8]) -> bool
     ensures { result ≡ bytes_eq a.now b.now }
@@ -34,7 +34,7 @@ fn are_same_long(a: &[u8], b: &[u8]) -> bool
     a == b
 }
 
-/// Whether two names are the same.
+/// Whether two names are equal.
 pub(crate) fn are_same(a: &[u8], b: &[u8]) -> bool
     ensures { result ≡ bytes_eq a.now b.now }
 {
@@ -74,7 +74,7 @@ impl<'a> Hash for Name<'a> {
     }
 }
 
-/// Hashes a longer name. It stands apart, so that the look-up of a short name is small.
+/// Hashes a longer name. Kept out of line, so that looking up a short name is small.
 #[inline(never)]
 fn write_long(hasher: &mut FoldHasher, bytes: &[u8])
     ensures { hasher.new ≡ folding.write hasher.old bytes.now }
@@ -82,23 +82,23 @@ fn write_long(hasher: &mut FoldHasher, bytes: &[u8])
     hasher.write(bytes);
 }
 
-/// Hashes names, with one seed: the seed, then a name, then the seed again.
+/// Hashes names with a seed: first the seed, then the name, then the seed again.
 #[derive(Clone, Copy)]
 pub(crate) struct Seeded {
-    /// The state after the seed, with which each name begins.
+    /// The state after the seed, from which each name is hashed.
     begun: FoldHasher,
     seed: u64,
 }
 
 impl Seeded {
-    /// Hashes with this seed.
+    /// A hasher with this seed.
     pub(crate) fn new(seed: u64) -> Seeded {
         let mut begun = FoldHasher::default();
         begun.write_u64(seed);
         Seeded { begun, seed }
     }
 
-    /// These bytes as a name, with its hash.
+    /// A name with its hash.
     #[inline(always)]
     pub(crate) fn name<'a>(&self, bytes: &'a [u8]) -> Name<'a>
         ensures bytes { result.bytes.now ≡ bytes.now }
@@ -120,7 +120,7 @@ impl Seeded {
     }
 }
 
-/// Hands on the hash that a name brings.
+/// A hasher that returns the hash that a name brings.
 #[derive(Clone, Copy)]
 pub(crate) struct Brought {
     hash: u64,

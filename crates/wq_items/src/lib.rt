@@ -1,11 +1,12 @@
 //! The items of a declaration and the flushes that they declare: the third pass.
 //!
-//! What the layer above relies on: items and waits are those that the directives declare, or else the error is the
-//! first fault; and what holds of every table, above all its limits (`IsTable`). The rules are those of "Items and
-//! groups" in docs/FORMAT.md. An item stands for a `struct work_struct`, a flush for `flush_work` in its function, or
-//! for `flush_workqueue` where it is of a whole workqueue (Documentation/core-api/workqueue.rst; kernel/workqueue.c).
-//! Of the items that share one ordered workqueue, only the names are looked up here. Reading a table takes time in the
-//! length of the text, on average. Questions to a table take constant time.
+//! The layer above relies on this: items and waits are those that the directives declare, or else the error is the
+//! first fault; and every table keeps the limits and the other properties of `IsTable`. The rules are those of "Items
+//! and groups" in docs/FORMAT.md. An item stands for a `struct work_struct`, a flush for `flush_work` in its function,
+//! or for `flush_workqueue` if it is of a whole workqueue (Documentation/core-api/workqueue.rst; kernel/workqueue.c).
+//! On `ordered` lines, only the names are looked up here.
+//!
+//! Reading a table takes time linear in the length of the text, on average. Queries take constant time.
 #![tactic(auto)]
 
 mod at_once;

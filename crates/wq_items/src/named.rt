@@ -1,11 +1,13 @@
 //! The names of a finished table, each with its number.
 //!
-//! While a table is read, `Names` numbers its names by a map. A map can take more names, and the library that it comes
-//! from is large. So a finished table keeps its names in a vector, and finds them by key: some bits of the hash that
-//! each name brings. Of each key it knows the last place, and of each place the one before it that has the same key.
-//! There are at least four keys for each name. So making this takes time and memory in the number of names, without
-//! hashing or comparing one; and a name is found in constant time on average: it is hashed once, and compared with
-//! hardly any other. The names themselves stay in the text.
+//! While a table is read, `Names` numbers its names by a map. A map can grow, and the library that it comes from is
+//! large. So a finished table keeps its names in a vector and finds them by key: some bits of the hash that each name
+//! brings. It knows the last place of each key, and for each place the one before it with the same key. There are at
+//! least four keys for each name.
+//!
+//! So making it takes time and memory linear in the number of names, without hashing or comparing one. Finding a name
+//! takes constant time on average: it is hashed once, and compared with hardly any other. The names themselves stay in
+//! the text.
 
 ghost use Rattle.std.specs.Prelude.{◌≡◌, ◌≢◌, ◌-◌, ◌<◌, ◌≤◌, ℕ, List, length, Some, slice_get, IfOk, IfErr, AllPairs};
 ghost use Rattle.std.specs.Int.Bits.{bit_and};
@@ -16,7 +18,7 @@ use crate::hashing::{Name, Seeded};
 use std::alloc::{AllocError, Allocator};
 use std::marker::Model;
 
-/// Names that differ, at most 4,096. Contracts see the list of the names.
+/// At most 4,096 different names. Contracts see the list of the names.
 #[derive(Drop)]
 pub(crate) struct Named<'a, A: Allocator> {
     names: Vec<Name<'a>, A>,
@@ -35,16 +37,16 @@ impl<'a, A: Allocator> Model for Named<'a, A> {
     ghost invariant = { λ n. AreFound n.hasher n.names.items n.places.lasts.items n.places.befores.items };
 }
 
-/// Places by key. Each is one more than it is, and 0 if there is none.
+/// Places by key. A place is stored as one more than it is; 0 stands for none.
 #[derive(Drop)]
 struct Places<A: Allocator> {
-    /// For each key the last place.
+    /// For each key, the last place.
     lasts: Vec<u16, A>,
-    /// For each place the last one before it that has the same key.
+    /// For each place, the previous one with the same key.
     befores: Vec<u16, A>,
 }
 
-/// The key of a hash, where the greatest key is `most`.
+/// The key of a hash, if `most` is the greatest key.
 #[inline(always)]
 fn key_of(hash: u64, most: usize) -> usize
     ensures key { result ≡ bit_and hash most }
@@ -53,7 +55,7 @@ fn key_of(hash: u64, most: usize) -> usize
     (hash & most as u64) as usize
 }
 
-/// How many keys there are for so many names: a power of two, at least four for each.
+/// How many keys there are for this many names: a power of two, at least four for each name.
 fn keys_for(names: usize) -> usize
     requires some { 0 < names }
     requires few { names ≤ 4096 }
@@ -63,7 +65,7 @@ fn keys_for(names: usize) -> usize
 }
 
 impl<A: Allocator + Copy> Places<A> {
-    /// The places of these names, by key.
+    /// The places of these names by key.
     fn new(alloc: A, names: &[Name<'_>]) -> Result<Self, AllocError>
         requires some { 0 < length names.now }
         requires few { length names.now ≤ 4096 }
@@ -85,7 +87,7 @@ impl<A: Allocator + Copy> Places<A> {
 }
 
 impl<'a, A: Allocator + Copy> Named<'a, A> {
-    /// These names, which bring hashes of this hasher.
+    /// A table of these names, which were hashed by `hasher`.
     ///
     /// The only error is out of memory, which can't occur if there is no name.
     pub(crate) fn new(alloc: A, hasher: Seeded, names: &[Name<'a>]) -> Result<Self, AllocError>
@@ -116,7 +118,7 @@ impl<'a, A: Allocator + Copy> Named<'a, A> {
         })
     }
 
-    /// The same names again.
+    /// A copy of the names.
     pub(crate) fn again(&self, alloc: A) -> Result<Self, AllocError>
         ensures { IfOk result (λ named. named ≡ self.now) }
     {

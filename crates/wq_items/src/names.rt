@@ -13,7 +13,7 @@ use indexmap::IndexSet;
 use std::alloc::{AllocError, Allocator};
 use std::marker::Model;
 
-/// Names that differ, in the order in which they were added. Contracts see the list of the names.
+/// Different names, in the order in which they were added. Contracts see the list of the names.
 #[derive(Drop)]
 pub(crate) struct Names<'a, A: Allocator> {
     set: IndexSet<Name<'a>, Brought, A>,
@@ -32,7 +32,7 @@ impl<'a, A: Allocator> Model for Names<'a, A> {
 }
 
 impl<'a, A: Allocator + Copy> Names<'a, A> {
-    /// No names. They will be hashed with this seed.
+    /// No names. They will be hashed with `seed`.
     pub(crate) fn new(alloc: A, seed: u64) -> Self
         ensures { result ≡ [] }
     {
@@ -56,7 +56,7 @@ impl<'a, A: Allocator + Copy> Names<'a, A> {
         self.set.get_index_of(&self.hasher.name(name))
     }
 
-    /// Adds a name where it isn't there yet, and returns whether it did.
+    /// Adds a name unless it is there already, and returns whether it was added.
     pub(crate) fn add(&mut self, name: &'a [u8]) -> Result<bool, AllocError>
         ensures added { IfOk result (λ added. added ≡ not (is_some (item_named self.old name.now))) }
         ensures names { IfOk result (λ added. self.new ≡ (if added then self.old ++ (name.now ∷ []) else self.old)) }
@@ -67,8 +67,8 @@ impl<'a, A: Allocator + Copy> Names<'a, A> {
         Ok(added)
     }
 
-    /// Makes room for eight times as many names if there is none for another, so that few growths move them all. If
-    /// this memory is refused, the next name that is added asks for less.
+    /// If there is no room for another name, makes room for eight times as many, so that they are rarely moved. If this
+    /// allocation fails, the next addition asks for less.
     fn make_room(&mut self)
         ensures { self.new ≡ self.old }
     {

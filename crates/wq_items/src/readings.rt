@@ -1,8 +1,9 @@
 //! The readings of a table: what is declared once each unsure flush is decided.
 //!
-//! They are those of "Unsure lines" in docs/FORMAT.md. A reading is a table of its own: of the unsure flushes it has
-//! those that are kept, and places are counted anew. It takes time and memory in the number of items and flushes, and
-//! time in the number of places that are kept.
+//! Readings are defined in "Unsure lines" in docs/FORMAT.md. A reading is a table of its own: it has the sure flushes
+//! and those unsure ones that are kept, and their places are counted anew. With k places kept, making a reading takes
+//!
+//!   O(items + flushes + k) time and O(items + flushes) memory.
 
 ghost use Rattle.std.specs.Prelude.{◌≡◌, ◌++◌, ◌≢◌, ℕ, false, map, filter, slice_index_or, IfOk, AllPairs};
 ghost use Rattle.std.specs.List.{range_with_len};
@@ -15,7 +16,7 @@ use crate::waits::Waits;
 use std::alloc::{AllocError, Allocator};
 use wq_buckets::PiecesBuilder;
 
-/// For each of this many places whether it is one of these.
+/// For each of `count` places, whether it is one of `places`.
 fn marked<A: Allocator + Copy>(
     alloc: A,
     count: u32,
@@ -42,14 +43,14 @@ fn is_set(marks: &[bool], place: u32) -> bool
     }
 }
 
-/// Whether a reading has this flush, where each place that it keeps is marked.
+/// Whether a reading has this flush, if the places that it keeps are marked.
 fn is_kept(marks: &[bool], target: Target) -> bool
     ensures { result ≡ is_marked marks.now target }
 {
     !target.unsure || is_set(marks, target.place)
 }
 
-/// The flush at its new place.
+/// The flush at its new place, where `places` has the new place of each old one.
 fn moved(places: &[u32], target: Target) -> Target
     ensures { result ≡ moved places.now target }
 {
@@ -65,7 +66,7 @@ fn moved(places: &[u32], target: Target) -> Target
     }
 }
 
-/// The places of the flushes that a reading has, where each place that it keeps is marked.
+/// The places of the flushes that a reading has, if the places that it keeps are marked.
 fn kept_places<A: Allocator + Copy>(
     alloc: A,
     targets: &[Target],
@@ -83,7 +84,7 @@ fn kept_places<A: Allocator + Copy>(
     Ok(places)
 }
 
-/// For each of this many places how many of these, which differ, are before it.
+/// For each of `count` places, how many of the places `kept`, which differ, are before it.
 fn new_places<A: Allocator + Copy>(
     alloc: A,
     count: u32,
@@ -104,8 +105,7 @@ fn new_places<A: Allocator + Copy>(
     Ok(places)
 }
 
-/// Adds those of the flushes of an item that a reading has, at their new places, where each place that it keeps is
-/// marked.
+/// Appends the flushes of an item that a reading has, at their new places, if the places that it keeps are marked.
 fn push_kept<A: Allocator + Copy>(
     pieces: &mut PiecesBuilder<Target, A>,
     targets: &[Target],
@@ -125,7 +125,7 @@ fn push_kept<A: Allocator + Copy>(
 }
 
 impl<'a, A: Allocator + Copy> ItemTable<'a, A> {
-    /// The table of the reading that keeps the unsure flushes at these places. Other places mean nothing.
+    /// The table of the reading that keeps the unsure flushes at the places `kept`. Any other place is ignored.
     pub fn reading(&self, alloc: A, kept: &[u32]) -> Result<Self, AllocError>
         ensures { IfOk result (λ t. t ≡ table_reading self.now kept.now) }
     {

@@ -1,8 +1,8 @@
 //! Short names, of four to eight bytes, and tiny ones, of one to three.
 //!
-//! The first four bytes of a short name and its last four, which may overlap, are all of
-//! them. So it is read as two numbers of four bytes, whatever its length. Of a tiny name
-//! the first byte, the middle one and the last are all. Each call takes constant time.
+//! The first four bytes of a short name and its last four, which may overlap, are the whole name. So it is read as two
+//! numbers of four bytes, whatever its length. A tiny name is its first byte, its middle one and its last. Each call
+//! takes constant time.
 
 ghost use Rattle.std.specs.Prelude.{◌≡◌, ◌≤◌, length, take, IsTrue, bytes_eq};
 ghost use Rattle.wq_items.specs.Short.{is_short, last_four, short_number, is_tiny, tiny_number};
@@ -40,7 +40,7 @@ pub(crate) fn short_number(bytes: &[u8]) -> u64
     u64::from(first) * 0x1_0000_0000 + u64::from(last)
 }
 
-/// Whether two short names of one length are the same.
+/// Whether two short names of the same length are equal.
 pub(crate) fn are_same_short(a: &[u8], b: &[u8]) -> bool
     requires long { length a.now ≡ length b.now }
     requires short { IsTrue (is_short a.now) }
@@ -67,7 +67,7 @@ pub(crate) fn tiny_number(bytes: &[u8]) -> u32
     first * 0x1_0000 + middle * 0x100 + last
 }
 
-/// Whether two tiny names of one length are the same.
+/// Whether two tiny names of the same length are equal.
 pub(crate) fn are_same_tiny(a: &[u8], b: &[u8]) -> bool
     requires long { length a.now ≡ length b.now }
     requires tiny { IsTrue (is_tiny a.now) }

@@ -1,12 +1,12 @@
-//! The table of items: names, where they are, and what each item flushes.
+//! The table of items: their names, where these stand, and what each item flushes.
 //!
-//! The rules are those of "Items and groups" in docs/FORMAT.md. Of an `ordered` line only the names are looked up here;
-//! it changes nothing in the table.
+//! The rules are those of "Items and groups" in docs/FORMAT.md. An `ordered` line changes nothing in the table; only
+//! its names are looked up here.
 //!
-//! Reading takes time in the length of the names and words of the declaration, on average, and memory in the number of
-//! items and flushes. Each name is looked up once, and once more on a line that is refused. While the lines are read,
-//! all flushes are in one vector, in order of place (`Building`). At the end they are sorted by their items. Afterwards
-//! each question is answered in constant time, except for `find`, which takes the time to hash a name.
+//! Reading takes time linear in the length of the text, on average, and memory linear in the number of items and
+//! flushes. Each name is looked up once, and once more on a line that is refused. While the lines are read, all flushes
+//! are in one vector, in order of place (`Building`); at the end they are sorted by item. Afterwards each query takes
+//! constant time, but `find` takes the time to hash a name.
 
 ghost use Rattle.std.specs.Prelude.{◌≡◌, ◌+◌, ◌^◌, ◌<◌, ◌≤◌, ℕ, [], true, false, length, Ok, Err, IfOk, IfErr, IfSome};
 ghost use Rattle.std.specs.Prelude.{IfNone, OnErr, IsOk, slice_get, slice_set, Some, IsTrue, ◌↔◌, ◌∷◌, ◌++◌};
@@ -33,10 +33,10 @@ use std::marker::Model;
 use wq_decl::{DeclView, Directive};
 use wq_text::{Span, Word, Words};
 
-/// How many items a declaration may declare.
+/// The most items that a declaration may declare.
 pub const MAX_ITEMS: usize = 4096;
 
-/// How many flushes a declaration may declare, all items together.
+/// The most flushes that a declaration may declare, of all items together.
 const MAX_FLUSHES: u32 = 16_384;
 
 /// The seed of `ItemTable::read`.
@@ -63,7 +63,7 @@ impl<'a, A: Allocator> Model for ItemTable<'a, A> {
         × (t.flushes ≡ flush_count t.waits) };
 }
 
-/// A table whose lines are being read. Contracts see what they see of a table.
+/// A table whose lines are still being read. Contracts see what they see of a table.
 #[derive(Drop)]
 pub(crate) struct Building<'a, A: Allocator> {
     names: Names<'a, A>,
@@ -97,8 +97,8 @@ fn count_known<'a, A: Allocator + Copy>(names: &Names<'a, A>, words: Words<'a>) 
     Some(count)
 }
 
-/// Adds targets of one item, at the places from `place` on, and returns the place after them. It returns nothing if
-/// a name is unknown, where there are too many flushes, or where memory ran out; `refusal` says which it is.
+/// Adds targets of one item, at the places from `place` on, and returns the place after them. `None` if a name is
+/// unknown, if there are too many flushes, or if memory ran out; `refusal` says which it is.
 #[inline(always)]
 pub(crate) fn push_targets<'a, A: Allocator + Copy>(
     names: &Names<'a, A>,
@@ -136,9 +136,8 @@ pub(crate) fn push_targets<'a, A: Allocator + Copy>(
     Some(next)
 }
 
-/// Adds a flush of this kind to those of the item with one name, at this place: of the item with another, or of its
-/// workqueue. It returns nothing where a name is unknown, where there are too many flushes, or where memory ran out;
-/// `refusal_of_one` says which it is.
+/// Adds a flush of this kind at this place: the item called `name` flushes the item called `target`, or its workqueue.
+/// `None` if a name is unknown, if there are too many flushes, or if memory ran out; `refusal_of_one` says which it is.
 pub(crate) fn push_one<'a, A: Allocator + Copy>(
     names: &Names<'a, A>,
     waits: &mut Flushes<A>,
@@ -167,7 +166,7 @@ pub(crate) fn push_one<'a, A: Allocator + Copy>(
     waits.push_target(item, target).ok()
 }
 
-/// Why a flush with one target wasn't added to a table with this many flushes, whatever its kind is.
+/// Why a flush with one target wasn't added to a table with this many flushes, whatever its kind.
 fn refusal_of_one<'a, A: Allocator + Copy>(
     names: &Names<'a, A>,
     flushes: u32,
@@ -212,7 +211,7 @@ fn refusal<'a, A: Allocator + Copy>(
     }
 }
 
-/// Why a table of 4,096 items doesn't take this one.
+/// Why a full table, of 4,096 items, doesn't take this one.
 fn when_full<'a, A: Allocator + Copy>(names: &Names<'a, A>, line: u32, name: Word<'a>) -> ItemError
     requires { 4096 ≤ length names.now }
     ensures { (t : Table) → t.names ≡ names.now → item_declared t line name.entry ≡ Err result }
@@ -225,7 +224,7 @@ fn when_full<'a, A: Allocator + Copy>(names: &Names<'a, A>, line: u32, name: Wor
 }
 
 impl<'a, A: Allocator + Copy> Building<'a, A> {
-    /// A table without items. Names are hashed with this seed.
+    /// A table without items. Names are hashed with `seed`.
     fn empty(alloc: A, seed: u64) -> Self
         ensures { result ≡ empty_table }
     {
@@ -237,7 +236,7 @@ impl<'a, A: Allocator + Copy> Building<'a, A> {
         }
     }
 
-    /// The table of parts that make one.
+    /// The table that these parts make.
     pub(crate) fn of(names: Names<'a, A>, spans: Vec<Span, A>, waits: Flushes<A>) -> Self
         requires { IsTable (record { names = names; spans = spans.items; waits = waits }) }
         ensures { result ≡ record { names = names.entry; spans = spans.items; waits = waits } }
@@ -391,7 +390,7 @@ impl<'a, A: Allocator + Copy> Building<'a, A> {
         }
     }
 
-    /// The table as it is, if each of these words names an item.
+    /// The unchanged table, if each of these words names an item.
     fn declare_order(self, line: u32, names: Words<'a>) -> Result<Self, ItemError>
         ensures table { IfOk result (λ t. items_ordered self.entry line (items_named self.entry.names names.entry)
             ≡ Ok t) }
@@ -404,7 +403,7 @@ impl<'a, A: Allocator + Copy> Building<'a, A> {
         Ok(self)
     }
 
-    /// The table, with the targets of each item next to each other.
+    /// The table with the targets of each item next to each other.
     pub(crate) fn finish(self, alloc: A) -> Result<ItemTable<'a, A>, AllocError>
         ensures table { IfOk result (λ t. t ≡ self.entry) }
         ensures memory { IfErr result (λ _. 0 < length self.entry.names) }
@@ -432,8 +431,8 @@ impl<'a, A: Allocator + Copy> ItemTable<'a, A> {
     /// declared by an earlier `item` line, like each name on a `flush` line.
     ///
     /// The error is the first fault, of the lowest line that has one: `ItemTwice` (7), `TooManyItems` (9),
-    /// `UnknownItem` (8) or `TooManyFlushes` (10), in this order in a line; or `OutOfMemory` (20), if a growth was
-    /// refused before it, at a line that declares an item or a flush.
+    /// `UnknownItem` (8) or `TooManyFlushes` (10), in this order in a line; or `OutOfMemory` (20), if memory ran out
+    /// before it, at a line that declares an item or a flush.
     pub fn read(alloc: A, view: &DeclView<'a>) -> Result<Self, ItemError>
         ensures table { IfOk result (λ t. table_of view.now ≡ Ok t) }
         ensures fault { IfErr result (λ e. IsFaultOf e (table_of view.now)) }
@@ -442,10 +441,10 @@ impl<'a, A: Allocator + Copy> ItemTable<'a, A> {
         ItemTable::read_seeded(alloc, SEED, view)
     }
 
-    /// Reads the same table, with a seed for the hashes of names.
+    /// As `read`, with a seed for the hashes of names.
     ///
-    /// The answer doesn't depend on the seed, but the time of reading does. With a seed that is chosen at random,
-    /// whoever wrote the text can't know which names have the same hash.
+    /// The result doesn't depend on the seed, but the running time does. If the seed is random, the author of the text
+    /// can't know which names have the same hash.
     pub fn read_seeded(alloc: A, seed: u64, view: &DeclView<'a>) -> Result<Self, ItemError>
         ensures table { IfOk result (λ t. table_of view.now ≡ Ok t) }
         ensures fault { IfErr result (λ e. IsFaultOf e (table_of view.now)) }
@@ -458,7 +457,7 @@ impl<'a, A: Allocator + Copy> ItemTable<'a, A> {
         Ok(table.finish(alloc)?)
     }
 
-    /// The same items, with these targets, of which there are so many.
+    /// A table of the same items with these `flushes` targets.
     pub(crate) fn with_waits(
         &self,
         alloc: A,
@@ -531,7 +530,7 @@ impl<'a, A: Allocator + Copy> ItemTable<'a, A> {
         i.get() < self.len() && are_same(self.name(i), name)
     }
 
-    /// The item with this name, if there is one. A guess that is right saves the look-up, and a wrong one does no harm.
+    /// The item with this name, if there is one. A right guess saves the look-up; a wrong one does no harm.
     pub fn find_guessed(&self, guess: Option<ItemId>, name: &[u8]) -> Option<ItemId>
         ensures { result ≡ item_named self.now.names name.now }
     {

@@ -1,7 +1,7 @@
-//! An item by its number, and an item whose flush another one declares.
+//! An item by its number, and the target of a declared flush.
 //!
 //! The numbers of items and the places of flushes are those of "Items and groups" in docs/FORMAT.md. An item stands for
-//! a `struct work_struct`. Each answer takes constant time.
+//! a `struct work_struct`. Each call takes constant time.
 
 ghost use Rattle.std.specs.Prelude.{◌≡◌, ℕ};
 
@@ -27,7 +27,7 @@ impl ItemId {
         ItemId(number)
     }
 
-    /// Its number.
+    /// The number of the item.
     pub fn get(self) -> u16
         ensures { result ≡ self }
     {
@@ -43,23 +43,23 @@ impl Default for ItemId {
     }
 }
 
-/// What a flush is of, and whether it is sure.
+/// What is flushed, and whether that is sure.
 #[derive(Clone, Copy)]
 pub(crate) struct Kind {
-    /// Whether it is of a whole workqueue, and not of one item.
+    /// Whether a whole workqueue is flushed rather than one item.
     pub(crate) whole: bool,
-    /// Whether it isn't decided that it is so.
+    /// Whether it is undecided that the flush happens.
     pub(crate) unsure: bool,
 }
 
-/// An item whose flush is declared, and how many flushes are declared before this one.
+/// The target of a declared flush: the item that is flushed, and how many flushes are declared before this one.
 #[derive(Clone, Copy, Debug, Default, PartialEq, Eq)]
 pub struct Target {
     pub item: ItemId,
     /// Whether the whole workqueue of the item is flushed.
     pub whole: bool,
-    /// Whether it isn't decided that this flush is so.
+    /// Whether it is undecided that the flush happens.
     pub unsure: bool,
-    /// How many flushes are declared before it, in the order of the text.
+    /// How many flushes are declared before this one, in the order of the text.
     pub place: u32,
 }

@@ -1,8 +1,7 @@
 //! The targets of each item, in order of place.
 //!
-//! They are the waits of "Items and groups" in docs/FORMAT.md. `wq_buckets` finds the flushes of each item, and nothing
-//! is compared. Making them takes time and memory in the number of items and flushes. The targets of an item are found
-//! in constant time.
+//! They are the waits of "Items and groups" in docs/FORMAT.md. `wq_buckets` sorts the flushes by item, without a
+//! comparison, in O(items + flushes) time and memory. The targets of an item are found in constant time.
 
 ghost use Rattle.std.specs.Prelude.{◌≡◌, ◌<◌, length, map, flat_map, IfOk, IfErr};
 ghost use Rattle.std.specs.List.{All};
@@ -31,7 +30,7 @@ impl<A: Allocator> Model for Waits<A> {
     ghost view = { λ w. w.targets };
 }
 
-/// The item that declares each flush, in turn.
+/// The item that declares each flush, in order of place.
 fn items_flushing<A: Allocator + Copy>(
     alloc: A,
     flushes: &[Flush],
@@ -47,7 +46,7 @@ fn items_flushing<A: Allocator + Copy>(
 }
 
 impl<A: Allocator + Copy> Waits<A> {
-    /// Makes the targets of this many items, where these are the flushes in order of place.
+    /// Makes the targets of `items` items from their flushes, which are in order of place.
     ///
     /// The only error is out of memory, which can't occur if there is no item.
     pub(crate) fn new(alloc: A, flushes: &[Flush], items: u16) -> Result<Self, AllocError>
@@ -62,7 +61,7 @@ impl<A: Allocator + Copy> Waits<A> {
         Ok(Waits { targets })
     }
 
-    /// The targets in these lists, one for each item.
+    /// The waits with these lists of targets, one for each item.
     pub(crate) fn of(targets: Pieces<Target, A>) -> Self
         ensures { result ≡ targets }
     {

@@ -1,5 +1,5 @@
--- Removing vertices from a wait graph: a vertex is removed once all of its arcs are
--- gone, and the arcs that lead to it go with it.
+-- Removing vertices from a wait graph, as in a topological sort: a vertex is removed once all of its arcs are gone, and
+-- the arcs that lead to it go with it.
 use Rattle.std.specs.Prelude.{◌≡◌, ◌↔◌, ℕ, ◌+◌, ◌-◌, ◌<◌, ◌==◌, cond, max, List, [], ◌∷◌, ◌++◌, length, map, flat_map}
 use Rattle.std.specs.Prelude.{replicate, fold, count_by, slice_index, slice_index_or, slice_set, Contains}
 use Rattle.std.specs.List.{range_with_len}
@@ -43,14 +43,14 @@ tails_by_head graph =
 
 -- ---- under way
 
--- for each vertex, how many of its arcs aren't gone, and its rank by those that are; and the vertices whose arcs are
--- all gone, in the order in which that happened
+-- for each vertex, how many of its arcs are left, and its rank by those that are gone; and the vertices without arcs
+-- left, in the order in which they lost the last one
 pub record Taking : Type 0 where
   pub remaining : List ℕ
   pub ranks : List ℕ
   pub order : List ℕ
 
--- those of the first n vertices of which no arc remains, each once
+-- those of the first n vertices that have no arc left, each once
 pub record AreFree (n : ℕ) (remaining order : List ℕ) : Type 0 where
   pub free : (v : ℕ) → Contains order v ↔ ((v < n) × (slice_index remaining v ≡ 0))
   pub once : ¬ Repeats order
@@ -69,14 +69,14 @@ with_arcs_gone rank p vs = fold (with_arc_gone rank) p vs
 
 -- ---- at the end
 
--- each vertex of which no arc remains has its rank, and each other one remains
+-- each vertex without arcs left has its rank, and each other one remains
 pub record AreTakenOff (graph : List (List WaitArc)) (remaining ranks : List ℕ) : Type 0 where
   pub one_each : length remaining ≡ length graph
   pub one_rank_each : length ranks ≡ length graph
   pub ranked : (v : ℕ) → v < length graph → slice_index remaining v ≡ 0 → IsRank (HasArc graph) v (slice_index ranks v)
   pub held : (v : ℕ) → v < length graph → 0 < slice_index remaining v → Remains graph v
 
--- each vertex of which an arc remains has this rank now, and each other one keeps its own
+-- each vertex with arcs left has this rank now, and each other one keeps its own
 pub record AreMarked (remaining : List ℕ) (mark : ℕ) (old new : List ℕ) : Type 0 where
   pub one_each : length new ≡ length old
   pub marked : (v : ℕ) → v < length remaining → 0 < slice_index remaining v → slice_index new v ≡ mark

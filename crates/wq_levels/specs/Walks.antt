@@ -1,4 +1,4 @@
--- Walks along arcs of a wait graph, and the circle that is answered if there is one.
+-- Walks along arcs of a wait graph, and the circle that is the result if there is one.
 use Rattle.std.specs.Prelude.{◌≡◌, ◌≢◌, ◌↔◌, ℕ, ◌+◌, ◌-◌, ◌<◌, ◌≤◌, List, [], ◌∷◌, ◌++◌, length, slice_index}
 use Rattle.std.specs.Prelude.{slice_index_or, SomeIndex, Contains, AllPairs}
 use Rattle.std.specs.List.{All}
@@ -6,8 +6,8 @@ use Rattle.wq_items.specs.Chain.{BeginsChain}
 use Rattle.wq_graph.specs.declared.arc.WaitArc.{WaitArc}
 use Rattle.wq_graph.specs.Graph.{HasArc, arcs_at}
 
--- a chain that is one vertex longer than the graph has vertices begins at v: so v stays, however often the vertices
--- without an arc into what is left are removed
+-- a chain with one vertex more than the graph has begins at v: so v stays, however often the vertices without an arc
+-- into what is left are removed
 abbrev pub Remains : List (List WaitArc) → ℕ → Type 0
 Remains graph v = (v < length graph) × BeginsChain (HasArc graph) v (length graph + 1)
 
@@ -22,13 +22,13 @@ pub record IsLeastRemaining (graph : List (List WaitArc)) (v : ℕ) : Type 0 whe
   pub remains : Remains graph v
   pub least : (w : ℕ) → w < v → ¬ Remains graph w
 
--- an arc of v to a vertex that remains, and the one of least place among these
+-- among the arcs of v to a vertex that remains, this is the one of lowest place
 pub record IsWayOn (graph : List (List WaitArc)) (v : ℕ) (a : WaitArc) : Type 0 where
   pub leaves : Contains (arcs_at graph v) a
   pub remains : Remains graph a.head
   pub least : All (λ (b : WaitArc). Remains graph b.head → a.place ≤ b.place) (arcs_at graph v)
 
--- the arcs lead from v to w; each is the way on from where the one before it led
+-- the arcs lead from v to w; each is the way on from the vertex that the one before it led to
 abbrev pub IsWalk : List (List WaitArc) → ℕ → List WaitArc → ℕ → Type 0
 IsWalk graph v [] w = v ≡ w
 IsWalk graph v (a ∷ arcs) w = IsWayOn graph v a × IsWalk graph a.head arcs w
@@ -38,9 +38,9 @@ abbrev pub vertices_walked : ℕ → List WaitArc → List ℕ
 vertices_walked v [] = []
 vertices_walked v (a ∷ arcs) = v ∷ vertices_walked a.head arcs
 
--- the circle of the walk from the least remaining vertex. The walk leads to the entry of the circle, and then round it
--- and back to the entry. Until then it leaves no vertex twice, so the entry is the first vertex that repeats. What
--- leads to the entry isn't part of the circle
+-- the circle of the walk from the lowest-numbered remaining vertex. The walk leads to the entry of the circle, then
+-- round it and back to the entry. Until then it leaves no vertex twice, so the entry is the first vertex that repeats.
+-- What leads to the entry isn't part of the circle
 pub record IsWalkedCircle (graph : List (List WaitArc)) (circle : List WaitArc) : Type 0 where
   pub start : ℕ
   pub least : IsLeastRemaining graph start
@@ -51,9 +51,9 @@ pub record IsWalkedCircle (graph : List (List WaitArc)) (circle : List WaitArc) 
   pub some : circle ≢ []
   pub once : AllPairs (λ (v w : ℕ). v ≢ w) (vertices_walked start (lead_in ++ circle))
 
--- arcs of the graph, at least one, that lead round a circle: `left` has the vertex
--- that each of them leaves; each leads to the vertex that the next one leaves, and
--- the last leads to the vertex that the first one leaves; no vertex is left twice
+-- arcs of the graph, at least one, that lead round a circle: `left` has the vertex that each of them leaves; each leads
+-- to the vertex that the next one leaves, and the last one to the vertex that the first one leaves; no vertex is left
+-- twice
 pub record LeadsRound (graph : List (List WaitArc)) (circle : List WaitArc) : Type 0 where
   pub some : circle ≢ []
   pub left : List ℕ

@@ -1,7 +1,9 @@
 //! The arcs of a wait graph by the vertices that they lead to: those that go when a vertex is removed (`ranking.rt`).
 //!
-//! All arcs are taken in turn, vertex by vertex, and `wq_buckets` finds the places of those that lead to each vertex.
-//! So there are a few vectors, and none for each vertex. It takes time and memory in the number of vertices and arcs.
+//! All arcs are numbered vertex by vertex, and `wq_buckets` sorts them by the vertex that they lead to. So there are a
+//! few vectors, and not one for each vertex. It takes
+//!
+//!   O(vertices + arcs) time and memory.
 
 ghost use Rattle.std.specs.Prelude.{◌≡◌, ◌++◌, length, map, replicate, IfOk};
 ghost use Rattle.wq_buckets.specs.Places.{buckets_of};
@@ -16,11 +18,11 @@ use wq_graph::{WaitArc, WaitGraph};
 pub(crate) struct Incoming<A: Allocator> {
     /// For each vertex, the places of the arcs that lead to it.
     pub(crate) places: Buckets<A>,
-    /// The vertex that each arc leaves, in turn.
+    /// The vertex that each arc leaves, in the order of the arcs.
     pub(crate) tails: Vec<u16, A>,
 }
 
-/// The vertex that each of these arcs leads to, in turn.
+/// The vertex that each of these arcs leads to, in the order of the arcs.
 fn heads<A: Allocator + Copy>(alloc: A, arcs: &[WaitArc]) -> Result<Vec<u16, A>, AllocError>
     ensures { IfOk result (λ heads. heads.items ≡ map (λ a. a.head) arcs.now) }
 {
@@ -31,7 +33,7 @@ fn heads<A: Allocator + Copy>(alloc: A, arcs: &[WaitArc]) -> Result<Vec<u16, A>,
     Ok(heads)
 }
 
-/// Adds a vertex this many times.
+/// Appends a vertex this many times.
 fn add_times<A: Allocator + Copy>(
     list: &mut Vec<u16, A>,
     vertex: u16,
@@ -45,7 +47,7 @@ fn add_times<A: Allocator + Copy>(
     Ok(())
 }
 
-/// The vertex that each of all arcs leaves, in turn.
+/// The vertex that each arc of a graph leaves, in the order of the arcs.
 fn tails<A: Allocator + Copy>(alloc: A, graph: &WaitGraph<A>) -> Result<Vec<u16, A>, AllocError>
     ensures { IfOk result (λ tails. tails.items ≡ tails_of graph.now) }
 {

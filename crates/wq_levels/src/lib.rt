@@ -1,9 +1,10 @@
-//! Ranks of a wait graph, or the circle that leaves some vertex without one.
+//! Ranks of a wait graph, or a circle that leaves some vertex without one.
 //!
-//! What the layer above relies on: longest-chain ranks, or the circle of the walk, as "Plan texts" and "Circle texts"
-//! in docs/FORMAT.md say. The rule behind it is that of Documentation/core-api/workqueue.rst, "Guidelines": work items
-//! that depend on one another belong on separate workqueues, so a chain of n vertices needs n. It takes time and memory
-//! in the number of vertices and arcs.
+//! The layer above relies on this: longest-chain ranks, or the circle of the walk, as "Plan texts" and "Circle texts"
+//! in docs/FORMAT.md say. The rule behind them is that of Documentation/core-api/workqueue.rst, "Guidelines": work
+//! items that depend on one another belong on separate workqueues, so a chain of n vertices needs n of them. It takes
+//!
+//!   O(vertices + arcs) time and memory.
 #![tactic(auto)]
 
 mod incoming;

@@ -1,7 +1,7 @@
-//! How far the removal of the vertices has come: for each vertex, its arcs that haven't gone and its rank so far; and
-//! the vertices that wait to be removed.
+//! How far the removal of vertices has come: for each vertex, how many of its arcs remain and its rank so far; and the
+//! vertices that wait to be removed.
 //!
-//! Removing an arc takes constant time. Making the record takes time and memory in the number of vertices.
+//! Removing an arc takes constant time. Setting up takes time and memory linear in the number of vertices.
 
 ghost use Rattle.std.specs.Prelude.{◌≡◌, ◌<◌, ◌≤◌, ℕ, length, map, replicate, slice_index, slice_get, IfOk};
 ghost use Rattle.std.specs.List.{All};
@@ -27,7 +27,7 @@ impl<A: Allocator> Model for Progress<A> {
     ghost view = { λ p. record { remaining = p.remaining.items; ranks = p.ranks.items; order = p.order.items } };
 }
 
-/// How many arcs each vertex has, in turn.
+/// How many arcs leave each vertex.
 fn arc_counts<A: Allocator + Copy>(
     alloc: A,
     graph: &WaitGraph<A>,
@@ -42,7 +42,7 @@ fn arc_counts<A: Allocator + Copy>(
     Ok(counts)
 }
 
-/// Those of this many vertices of which no arc remains. There is room for all of them.
+/// Those of `vertices` vertices that have no arc left, with room for all vertices.
 fn free<A: Allocator + Copy>(
     alloc: A,
     remaining: &[usize],
@@ -61,7 +61,7 @@ fn free<A: Allocator + Copy>(
 }
 
 impl<A: Allocator + Copy> Progress<A> {
-    /// No arc has gone yet.
+    /// The start of the removal: no arc has been removed.
     pub(crate) fn new(alloc: A, graph: &WaitGraph<A>) -> Result<Self, AllocError>
         ensures remaining { IfOk result (λ p. p.remaining ≡ map length graph.now) }
         ensures ranks { IfOk result (λ p. p.ranks ≡ replicate (length graph.now) 0) }
@@ -78,14 +78,14 @@ impl<A: Allocator + Copy> Progress<A> {
         })
     }
 
-    /// The vertex at this index of the order, if the order has come so far.
+    /// The vertex at index `place` of the order, if the order is that long.
     pub(crate) fn nth(&self, place: usize) -> Option<u16>
         ensures { result ≡ slice_get self.now.order place }
     {
         self.order.get(place).copied()
     }
 
-    /// Removes an arc of a vertex, to one of this rank.
+    /// Removes an arc of `vertex`, to a vertex of rank `rank`.
     fn lose_arc(&mut self, vertex: u16, rank: u16) -> Result<(), AllocError>
         requires one_each { length self.old.ranks ≡ length self.old.remaining }
         requires some { 0 < slice_index self.old.remaining vertex }
@@ -101,7 +101,7 @@ impl<A: Allocator + Copy> Progress<A> {
         Ok(())
     }
 
-    /// Removes a vertex: the arcs at these places go. The list has, for each arc, the vertex that it leaves.
+    /// Removes a vertex, and with it the arcs at these places. `tails` has the vertex that each arc leaves.
     pub(crate) fn take_off(
         &mut self,
         vertex: u16,

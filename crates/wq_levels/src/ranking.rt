@@ -1,10 +1,12 @@
-//! The rank of each vertex, or the circle that leaves some vertices without one.
+//! The rank of each vertex, or a circle that leaves some vertices without one.
 //!
-//! A vertex is removed once all of its arcs have gone, and then the arcs that lead to it go. So each vertex comes after
-//! those that it waits for (A. B. Kahn, "Topological sorting of large networks", Communications of the ACM 5, 1962).
-//! If all are removed, their ranks are found: the workqueues of "Plan texts" in docs/FORMAT.md. Otherwise some
-//! remain, and the walk from the lowest-numbered of them finds the circle of "Circle texts". It takes time and memory
-//! in the number of vertices and arcs.
+//! This is a topological sort: a vertex is removed once all of its arcs have gone, and then the arcs that lead to it
+//! go. So each vertex comes after those that it waits for (A. B. Kahn, "Topological sorting of large networks",
+//! Communications of the ACM 5, 1962). If all are removed, their ranks are known: the workqueues of "Plan texts" in
+//! docs/FORMAT.md. If some remain, the walk from the lowest-numbered of them finds the circle of "Circle texts". It
+//! takes
+//!
+//!   O(vertices + arcs) time and memory.
 
 ghost use Rattle.std.specs.Prelude.{◌≡◌, ◌<◌, ◌↔◌, length, IfOk, OnErr, IsTrue};
 ghost use Rattle.std.specs.List.{Any};
@@ -18,7 +20,7 @@ use crate::walk::walk_circle;
 use std::alloc::{AllocError, Allocator};
 use wq_graph::WaitGraph;
 
-/// Removes each vertex whose arcs all go.
+/// Removes each vertex once all of its arcs have gone.
 fn take_off<A: Allocator + Copy>(alloc: A, graph: &WaitGraph<A>) -> Result<Progress<A>, AllocError>
     ensures { IfOk result (λ p. AreTakenOff graph.now p.remaining p.ranks) }
 {
@@ -32,7 +34,7 @@ fn take_off<A: Allocator + Copy>(alloc: A, graph: &WaitGraph<A>) -> Result<Progr
     Ok(progress)
 }
 
-/// Gives this rank to each vertex of which an arc remains.
+/// Sets the rank of each vertex that has arcs left to `mark`.
 fn mark_remaining(remaining: &[usize], ranks: &mut [u16], mark: u16)
     requires { length remaining.now ≡ length ranks.old }
     ensures { AreMarked remaining.now mark ranks.old ranks.new }
@@ -44,17 +46,17 @@ fn mark_remaining(remaining: &[usize], ranks: &mut [u16], mark: u16)
     }
 }
 
-/// Whether an arc of some vertex remains.
+/// Whether any vertex has arcs left.
 fn is_any_left(remaining: &[usize]) -> bool
     ensures { IsTrue result ↔ Any (λ arcs. 0 < arcs) remaining.now }
 {
     remaining.iter().any(|arcs| *arcs > 0)
 }
 
-/// The ranks of a wait graph that has no circle, or else the circle of its walk.
+/// The ranks of a wait graph without a circle, or else the circle of its walk.
 ///
-/// The only error is out of memory (20), which can't occur for a graph without
-/// vertices; any other answer is a list that takes memory.
+/// The only error is out of memory (20), which can't occur for a graph without vertices: any other result is a list
+/// that takes memory.
 pub fn rank<A: Allocator + Copy>(alloc: A, graph: &WaitGraph<A>) -> Result<Ranked<A>, AllocError>
     ensures ranking { IfOk result (IsRanking graph.now) }
     ensures memory { OnErr result (0 < length graph.now) }

@@ -1,9 +1,11 @@
-//! The circle that is the answer for a wait graph where vertices remain.
+//! The circle that is the result for a wait graph if vertices remain.
 //!
-//! The walk begins at the lowest-numbered vertex that remains. It leaves each vertex by the first of its arcs, in order
-//! of place, that leads to a remaining vertex, until it comes to a vertex that it has left before. The arcs from there
-//! on are the circle; what leads in to it is left out: "Circle texts" in docs/FORMAT.md. It takes time in the number of
-//! vertices and of the arcs of those that it leaves, each of which it leaves once.
+//! The walk begins at the lowest-numbered vertex that remains. It leaves each vertex by the first arc, in order of
+//! place, that leads to a remaining vertex, until it comes to a vertex that it has left before. The arcs from there on
+//! are the circle; the arcs that led to it are left out ("Circle texts" in docs/FORMAT.md). The walk leaves each vertex
+//! at most once, so it takes
+//!
+//!   O(vertices + arcs) time.
 ghost use Rattle.std.specs.Prelude.{◌≡◌, ◌<◌, ◌==◌, length, slice_index, IfOk};
 ghost use Rattle.std.specs.List.{All, find, position};
 ghost use Rattle.std.specs.Option.{option_copied};
@@ -12,7 +14,7 @@ ghost use Rattle.wq_levels.specs.Walks.{IsLeastRemaining, IsWalkedCircle, IsWayO
 use std::alloc::{AllocError, Allocator};
 use wq_graph::{WaitArc, WaitGraph};
 
-/// The lowest-numbered vertex with the rank.
+/// The lowest-numbered vertex with rank `rank`.
 fn first_of_rank(ranks: &[u16], rank: u16) -> Option<usize>
     ensures { result ≡ position (λ r. r == rank) ranks.now }
 {
@@ -27,7 +29,7 @@ fn least_remaining<A: Allocator + Copy>(graph: &WaitGraph<A>, ranks: &[u16]) -> 
     first_of_rank(ranks, graph.vertices()).unwrap() as u16
 }
 
-/// The first arc that leads to a vertex with the rank.
+/// The first arc that leads to a vertex with rank `rank`.
 fn first_to_rank<'g>(arcs: &'g [WaitArc], ranks: &[u16], rank: u16) -> Option<&'g WaitArc>
     requires { All (λ a. a.head < length ranks.now) arcs.now }
     ensures { option_copied result ≡ find (λ a. slice_index ranks.now a.head == rank) arcs.now }
@@ -44,7 +46,7 @@ fn way_on<A: Allocator + Copy>(graph: &WaitGraph<A>, ranks: &[u16], vertex: u16)
     *first_to_rank(graph.arcs(vertex), ranks, graph.vertices()).unwrap()
 }
 
-/// The circle, where ranks as high as there are vertices tell which vertices remain.
+/// The circle of the walk; exactly the remaining vertices have the number of vertices as their rank.
 pub(crate) fn walk_circle<A: Allocator + Copy>(
     alloc: A,
     graph: &WaitGraph<A>,
@@ -54,7 +56,7 @@ pub(crate) fn walk_circle<A: Allocator + Copy>(
     ensures { IfOk result (λ circle. IsWalkedCircle graph.now circle.items) }
 {
     let mut vertex = least_remaining(graph, ranks);
-    // For each vertex, the number of the arc that left it.
+    // For each vertex, the index of the arc by which the walk left it.
     let mut left = vec![in alloc; None; usize::from(graph.vertices())]?;
     let mut walked = Vec::new(alloc);
     'walk: loop {

@@ -1,9 +1,9 @@
--- What is counted of the calls that are made on a reader or a writer.
+-- What is counted of the calls to a reader or a writer.
 use Rattle.std.specs.Prelude.{◌≡◌, ℕ, ◌+◌, ◌-◌, ◌^◌, ◌<◌, ◌≤◌, min, max, List, length, take, Option, refl}
 use Rattle.std.specs.Io.KnownBytes.{Appends, Consumes}
 use Rattle.std.specs.Coded.{Coded, code_by, coded×, coded_ℕ}
 
--- a device, how many calls were made on it, how many bytes they moved, and how many of them failed
+-- a device, how many calls it got, how many bytes they moved, and how many of them failed
 pub record Meter (D : Type 0) : Type 0 where
   pub device : D
   pub calls : ℕ

@@ -12,7 +12,7 @@ pub record Given : Type 0 where
   pub second : List ℕ
   pub third : List ℕ
 
--- they are stored one after another
+-- the texts are stored one after another
 abbrev pub given_code : Coded Given
 given_code =
     code_by (List ℕ
@@ -22,17 +22,17 @@ given_code =
 
 -- ---- limits
 
--- how many bytes are taken of a text: up to the first one past its limit; none if there is no such text
+-- how many bytes of a text are read at most: up to the first one past its limit; none if there is no such text
 abbrev pub most : Option ℕ → ℕ
 most None = 0
 most (Some limit) = limit + 1
 
--- these bytes of a text
+-- the bytes of a text that are kept
 abbrev pub kept_text : Option ℕ → List ℕ → List ℕ
 kept_text None text = text
 kept_text (Some limit) text = take (limit + 1) text
 
--- these bytes of each text
+-- the bytes of each text that are kept
 abbrev pub kept : Limits → Given → Given
 kept limits texts = record {
   first = take (limits.first + 1) texts.first;
@@ -42,17 +42,17 @@ kept limits texts = record {
 
 -- ---- one reader, of which a text is asked only if there is a limit for it
 
--- it had this text, and gave it up to the first byte past the limit; if it isn't asked, the text is empty
+-- a reader had this text, and gave it up to the first byte past the limit; if it isn't asked, the text is empty
 abbrev pub GivesIf : {R : Type 0} → (R → Option (List ℕ)) → Meter R → Meter R → Option ℕ → List ℕ → Type 0
 GivesIf remaining old new None text = (new ≡ old) × (text ≡ [])
 GivesIf remaining old new (Some limit) text = GivesText remaining old new limit text
 
--- it has given its text, and no call failed
+-- a reader has given its text, and no call failed
 abbrev pub HasGivenIf : {R : Type 0} → (R → Option (List ℕ)) → Meter R → Meter R → Option ℕ → Type 0
 HasGivenIf remaining old new None = new ≡ old
 HasGivenIf remaining old new (Some limit) = HasGiven remaining old new limit
 
--- one more call of it failed
+-- one more call of a reader failed
 abbrev pub HasFailedIf : {R : Type 0} → Meter R → Meter R → Option ℕ → Type 0
 HasFailedIf old new None = ⊥
 HasFailedIf old new (Some limit) = HasFailed old new

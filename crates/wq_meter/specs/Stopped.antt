@@ -4,7 +4,7 @@ use Rattle.wq_meter.specs.declared.fault.Fault.{Fault}
 use Rattle.wq_meter.specs.declared.stopped.Stopped.{Stopped}
 use Rattle.wq_meter.specs.declared.stopped.Stopped.TheVariants.{Faulted, Unanswered}
 
--- if it has no answer, this holds of the reason
+-- if the command has no answer, this holds for the reason
 abbrev pub IfUnanswered : {S : Type 0} → (S → Type 0) → Stopped S → Type 0
 IfUnanswered holds (Faulted fault) = Unit {0}
 IfUnanswered holds (Unanswered stop) = holds stop

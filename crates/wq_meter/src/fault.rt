@@ -1,5 +1,5 @@
-//! What can go wrong outside the program: memory, a read or a write. The texts are the program's own.
-//! Every call takes constant time.
+//! What can go wrong outside the program: memory, a read or a write. The texts are the program's own. Each call takes
+//! constant time.
 ghost use Rattle.std.specs.Prelude.{◌≡◌, Some};
 ghost use Rattle.wq_meter.specs.declared.fault.Fault.TheVariants.{Memory};
 ghost use Rattle.wq_meter.specs.Fault.{fault_text};

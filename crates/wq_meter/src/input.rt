@@ -1,6 +1,6 @@
 //! Reading a text to its end, or to one byte past a limit. The extra byte shows that the text is too long, and the
-//! limit stops a reader without an end. The time and the memory are linear in the bytes that arrive. Each call of the
-//! reader, except the last, brings at least one of them.
+//! limit stops an endless reader. The time and the memory are linear in the bytes that arrive. Each call of the reader,
+//! except the last, brings at least one of them.
 ghost use Rattle.std.specs.Prelude.{◌≡◌, ◌≢◌, ◌+◌, ◌<◌, ◌≤◌, length, take, min, Err, IfOk, OnOk, OnErr, IsOkUnless};
 ghost use Rattle.std.specs.Result.{result_unwrap_or};
 ghost use Rattle.std.specs.Io.KnownBytes.{Consumes, IsAtEnd, Keeps};
@@ -12,17 +12,17 @@ use crate::metered::Metered;
 use std::alloc::Allocator;
 use std::io::Read;
 
-/// How many bytes one call of the reader asks for, at most.
+/// The most bytes that one call of the reader asks for.
 const CHUNK_SIZE: usize = 4096;
 
-/// For how many bytes there is room once the first chunk is full: 128 KiB.
+/// The room for a text once the first chunk is full: 128 KiB.
 const LONG_TEXT: usize = 131_072;
 
 /// Reads to the end of the input, but at most `limit + 1` bytes, in at most as many calls. A result that is longer than
 /// `limit` means that the input is too long.
 ///
-/// The errors are `Fault::Read`, where a read failed, and `Fault::Memory`, where
-/// memory ran out. What was read before is lost.
+/// The errors are `Fault::Read`, if a read failed, and `Fault::Memory`, if memory ran out. What was read before is
+/// lost.
 pub fn read_text<R: Read, A: Allocator + Copy>(
     alloc: A,
     reader: &mut Metered<R>,
@@ -56,8 +56,8 @@ pub fn read_text<R: Read, A: Allocator + Copy>(
     Ok(text)
 }
 
-/// Makes room for a long text if exactly the first chunk is full, so that few growths move it. If this memory is
-/// refused, the text asks for less as it grows.
+/// Makes room for a long text if exactly the first chunk is full, so that it is rarely moved. If this allocation fails,
+/// the text asks for less as it grows.
 fn make_room<A: Allocator>(text: &mut Vec<u8, A>)
     ensures { text.new.items ≡ text.old.items }
 {

@@ -1,7 +1,7 @@
 //! Readers and writers whose calls are counted; reading up to a limit, and writing in full.
 //!
-//! What the commands above rely on: contracts bound how many calls are made of a device, and how many bytes these move,
-//! and each fault has its cause. It takes time in the number of bytes that are moved.
+//! The commands above rely on this: contracts bound how many calls a device gets, and how many bytes these move, and
+//! each fault has its cause. It takes time linear in the number of bytes that are moved.
 #![tactic(auto)]
 
 mod fault;

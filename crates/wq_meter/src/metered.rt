@@ -1,6 +1,6 @@
-//! A reader or a writer whose calls are counted, so that a bound on the work that a
-//! command asks of the outside can be stated and kept. Each method makes one call of
-//! the device, and tries nothing twice. Apart from that call, each takes constant time.
+//! A reader or a writer whose calls are counted, so that a bound on the work that a command asks of the outside can be
+//! stated and kept. Each method makes one call of the device, and tries nothing twice. Apart from that call, each takes
+//! constant time.
 ghost use Rattle.std.specs.Prelude.{◌≡◌, ◌<◌, ◌≤◌, length, IfOk, OnOk, OnErr, IsOkUnless};
 ghost use Rattle.std.specs.Result.{result_unwrap_or};
 ghost use Rattle.std.specs.Io.KnownBytes.{ReadConsumes, WriteAppends};
@@ -10,9 +10,9 @@ use crate::fault::Fault;
 use std::io::{Read, Write};
 use std::marker::Model;
 
-/// A device, with counts of the calls that were made of it. A count stops at `u64::MAX`.
+/// A device with counts of the calls made to it. A count stops at `u64::MAX`.
 ///
-/// A clause sees its device and its counts as a `Meter`.
+/// Contracts see the device and its counts as a `Meter`.
 #[derive(Debug, Drop)]
 pub struct Metered<D> {
     device: D,
@@ -44,21 +44,21 @@ impl<D> Metered<D> {
         }
     }
 
-    /// How many calls were made of the device.
+    /// How many calls were made to the device.
     pub fn calls(&self) -> u64
         ensures { result ≡ self.now.calls }
     {
         self.calls
     }
 
-    /// How many bytes those calls moved.
+    /// How many bytes these calls moved.
     pub fn bytes(&self) -> u64
         ensures { result ≡ self.now.bytes }
     {
         self.bytes
     }
 
-    /// How many of those calls failed.
+    /// How many of these calls failed.
     pub fn failures(&self) -> u64
         ensures { result ≡ self.now.failures }
     {
@@ -74,10 +74,10 @@ impl<D> Metered<D> {
 }
 
 impl<R: Read> Metered<R> {
-    /// Reads once to the front of `buffer`, and returns how many bytes arrived. That
-    /// is 0 only at the end of the input, or where `buffer` is empty.
+    /// Reads once into the front of `buffer`, and returns how many bytes arrived. That is 0 only at the end of the
+    /// input, or if `buffer` is empty.
     ///
-    /// The only error is `Fault::Read`, where the reader failed. A call that was interrupted failed too.
+    /// The only error is `Fault::Read`, if the reader failed. An interrupted call failed, too.
     pub fn read(&mut self, buffer: &mut [u8]) -> Result<usize, Fault>
         ensures within { IfOk result (λ count. count ≤ length buffer.new) }
         ensures known_bytes { ReadConsumes (R.remaining self.old.device) (R.remaining self.new.device)
@@ -105,8 +105,8 @@ impl<R: Read> Metered<R> {
 impl<W: Write> Metered<W> {
     /// Writes once from the front of `bytes`, and returns how many were taken: at least one, if there is one.
     ///
-    /// The only error is `Fault::Write`, where the writer failed or took none of the bytes, though there were some.
-    /// Then nothing was written. A call that was interrupted failed too.
+    /// The only error is `Fault::Write`, if the writer failed or took none of the bytes, though there were some. Then
+    /// nothing was written. An interrupted call failed, too.
     pub fn write(&mut self, bytes: &[u8]) -> Result<usize, Fault>
         ensures within { IfOk result (λ count. count ≤ length bytes.now) }
         ensures some { IfOk result (λ count. 0 < length bytes.now → 0 < count) }

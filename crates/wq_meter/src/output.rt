@@ -1,5 +1,5 @@
-//! Writing a text in full, one call after the other. The time is linear in the length of the text. Each call that
-//! another one follows takes at least one byte.
+//! Writing a text in full, one call after the other. The time is linear in the length of the text. Each call but the
+//! last takes at least one byte.
 ghost use Rattle.std.specs.Prelude.{◌≡◌, ◌+◌, ◌≤◌, length, OnOk, OnErr, IsOkUnless};
 ghost use Rattle.wq_meter.specs.Meter.{count_after, WritesPrefix, WritesWhole};
 
@@ -9,8 +9,7 @@ use std::io::Write;
 
 /// Writes all of `text`, in at most as many calls as it has bytes.
 ///
-/// The only error is `Fault::Write`, where a write failed or took no byte. Then a
-/// prefix of the text, and not all of it, is written.
+/// The only error is `Fault::Write`, if a write failed or took no byte. Then a proper prefix of the text is written.
 pub fn write_text<W: Write>(writer: &mut Metered<W>, text: &[u8]) -> Result<(), Fault>
     // What is written.
     ensures whole { OnOk result (WritesWhole W.contents writer.old writer.new text.now) }

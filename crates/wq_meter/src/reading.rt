@@ -1,4 +1,4 @@
-//! The texts of a command are read in their order, each to its end or to the first byte past its limit.
+//! Reading the texts of a command in order, each to its end or to the first byte past its limit.
 //!
 //! All that is promised of the readers of a command is promised here, once for all commands. The time is that of
 //! reading.
@@ -35,9 +35,9 @@ fn read_if<R: Read, A: Allocator + Copy>(
     }
 }
 
-/// Reads the texts of a command in their order, each within its limit.
+/// Reads the texts of a command in order, each within its limit.
 ///
-/// The errors are `Fault::Read`, where a read failed, and `Fault::Memory`, where memory ran out.
+/// The errors are `Fault::Read`, if a read failed, and `Fault::Memory`, if memory ran out.
 pub fn read_texts<D: Read, S: Read, T: Read, A: Allocator + Copy>(
     alloc: A,
     limits: Limits,

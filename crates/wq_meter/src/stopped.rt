@@ -10,7 +10,7 @@ use crate::fault::Fault;
 pub enum Stopped<S> {
     /// A device or memory failed.
     Faulted(Fault),
-    /// It has no answer.
+    /// The command has no answer.
     Unanswered(S),
 }
 

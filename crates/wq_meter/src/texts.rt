@@ -7,8 +7,8 @@ ghost use Rattle.std.specs.Prelude.{◌≡◌};
 use std::alloc::Allocator;
 use std::marker::Model;
 
-/// How many bytes each text of a command may have. A command has a first text, and a
-/// second or a third only if there is a limit for it.
+/// The most bytes that each text of a command may have. A command has a first text, and a second or a third only if
+/// there is a limit for it.
 #[derive(Clone, Copy, Debug, PartialEq, Eq)]
 pub struct Limits {
     pub first: u32,
@@ -18,7 +18,7 @@ pub struct Limits {
 
 /// The texts of a command, each up to the first byte past its limit. A text that the command doesn't have is empty.
 ///
-/// A clause sees their bytes as a `Given`.
+/// Contracts see their bytes as a `Given`.
 #[derive(Drop)]
 pub struct Texts<A: Allocator> {
     first: Vec<u8, A>,
@@ -37,7 +37,7 @@ impl<A: Allocator> Model for Texts<A> {
 }
 
 impl<A: Allocator> Texts<A> {
-    /// These three texts.
+    /// The texts of a command from these three.
     pub fn new(first: Vec<u8, A>, second: Vec<u8, A>, third: Vec<u8, A>) -> Texts<A>
         ensures { result ≡ record { first = first.items; second = second.items; third = third.items } }
     {

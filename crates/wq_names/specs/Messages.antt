@@ -7,22 +7,22 @@ use Rattle.std.specs.Prelude.{ℕ, List, ◌++◌, codes}
 abbrev pub an_item : List ℕ → List ℕ
 an_item name = (codes "`" ++ name) ++ codes "`"
 
--- a workqueue; behind its number stands its name, if it has one
+-- a workqueue: its number, followed by its name if it has one
 -- "workqueue {number}{called}"
 abbrev pub a_workqueue : List ℕ → List ℕ → List ℕ
 a_workqueue number called = (codes "workqueue " ++ number) ++ called
 
--- the name of a workqueue, behind its number or behind an item that is on it
+-- the name of a workqueue, after its number or after an item on it
 -- " ({name})"
 abbrev pub its_name : List ℕ → List ℕ
 its_name name = (codes " (" ++ name) ++ codes ")"
 
--- the first line of what is said of a place in a file
+-- the first line of what is said about a place in a file
 -- "{file}{place}: {what}"
 abbrev pub at_place : List ℕ → List ℕ → List ℕ → List ℕ
 at_place file place what = ((file ++ place) ++ codes ": ") ++ what
 
--- the same, where an answer has a number
+-- the first line of what is said about a place in a file, for an answer with a number
 -- "{file}{place}: {what} [{word} {code}, `wqplan explain {code}`]"
 abbrev pub answered : List ℕ → List ℕ → List ℕ → List ℕ → List ℕ → List ℕ
 answered file place what word code =
@@ -33,7 +33,7 @@ answered file place what word code =
     ++ codes ", `wqplan explain ") ++ code)
     ++ codes "`]"
 
--- the same, where a step isn't lawful
+-- the first line of what is said about a place in a file, for a step that isn't lawful
 -- "{file}{place}: {what} [not lawful {number}]"
 abbrev pub answered_unlawful : List ℕ → List ℕ → List ℕ → List ℕ → List ℕ
 answered_unlawful file place what number =
@@ -150,17 +150,17 @@ one_is_unfinished item called =
 abbrev pub can_hang : List ℕ
 can_hang = codes "can hang: "
 
--- the same, beside a circle of `plan`
+-- before the first wait of a circular wait that `plan` answers
 -- "can hang on any workqueues: "
 abbrev pub can_hang_on_any : List ℕ
 can_hang_on_any = codes "can hang on any workqueues: "
 
--- before such a wait by an unsure flush
+-- before the first wait of a circular wait, or a flush that leads to no rescuer, if it is unsure
 -- "can hang if this is so: "
 abbrev pub can_hang_if : List ℕ
 can_hang_if = codes "can hang if this is so: "
 
--- the same, beside a circle of `plan`
+-- before the first wait of a circular wait that `plan` answers, if it is unsure
 -- "can hang on any workqueues if this is so: "
 abbrev pub can_hang_on_any_if : List ℕ
 can_hang_on_any_if = codes "can hang on any workqueues if this is so: "
@@ -170,7 +170,7 @@ can_hang_on_any_if = codes "can hang on any workqueues if this is so: "
 abbrev pub and_further : List ℕ
 and_further = codes "and "
 
--- before each further one by an unsure flush
+-- before each further wait of a circular wait, if it is unsure
 -- "and if this is so: "
 abbrev pub and_further_if : List ℕ
 and_further_if = codes "and if this is so: "
@@ -313,17 +313,17 @@ which_is_given workqueue = workqueue ++ codes ", which is given a rescuer"
 abbrev pub without_one : List ℕ
 without_one = codes "without one: "
 
--- the same, where the first of them is by an unsure flush
+-- before the waits by which the workqueues hang without a rescuer, if the first is unsure
 -- "without one, if this is so: "
 abbrev pub without_one_if : List ℕ
 without_one_if = codes "without one, if this is so: "
 
--- before the waits by which the workqueues hang where a group doesn't move
+-- before the waits by which the workqueues hang if a group doesn't move
 -- "if it stayed: "
 abbrev pub if_it_stayed : List ℕ
 if_it_stayed = codes "if it stayed: "
 
--- the same, where the first of them is by an unsure flush
+-- before the waits by which the workqueues hang if a group doesn't move, if the first is unsure
 -- "if it stayed and this is so: "
 abbrev pub if_it_stayed_if : List ℕ
 if_it_stayed_if = codes "if it stayed and this is so: "
@@ -334,14 +334,14 @@ abbrev pub names_are_too_few : List ℕ → List ℕ
 names_are_too_few file =
     file ++ codes ": note: wherever these items move, the workqueues can hang; the run is on these:"
 
--- a NAME behind `repair` is no item
+-- a NAME after `repair` is no item
 -- "{file}: no item `{name}` is declared [refused 8, `wqplan explain 8`]"
 abbrev pub unknown_item : List ℕ → List ℕ → List ℕ
 unknown_item file name =
     ((file ++ codes ": no item `") ++ name)
     ++ codes "` is declared [refused 8, `wqplan explain 8`]"
 
--- an item whose name is most like that NAME
+-- the item whose name is most like a NAME after `repair`
 -- "{file}: note: did you mean `{name}`?"
 abbrev pub did_you_mean : List ℕ → List ℕ → List ℕ
 did_you_mean file name = ((file ++ codes ": note: did you mean `") ++ name) ++ codes "`?"
@@ -357,7 +357,7 @@ abbrev pub nothing_guarantees : List ℕ → List ℕ → List ℕ
 nothing_guarantees file items =
     (file ++ codes ": note: nothing guarantees that these run while memory is short: ") ++ items
 
--- the second line of that note
+-- the second line of the note beside `safe`
 -- "{file}: note: where reclaim waits for one of them, declare who waits: an item of its own, on a `wq` line,
 -- that flushes it"
 abbrev pub declare_who_waits : List ℕ → List ℕ
@@ -372,7 +372,7 @@ safe_whatever file all =
     ((file ++ codes ": note: safe whatever the ") ++ all)
     ++ codes " unsure lines turn out to be"
 
--- the same, with one
+-- beside `safe` of a declaration with one unsure line
 -- "{file}: note: safe whatever the 1 unsure line turns out to be"
 abbrev pub safe_whatever_one : List ℕ → List ℕ
 safe_whatever_one file = file ++ codes ": note: safe whatever the 1 unsure line turns out to be"
@@ -391,7 +391,7 @@ arent_decided file count =
     ++ codes " of these waits aren't decided. Take a line away if it isn't so, or its `?` if ")
     ++ codes "it is, and ask again"
 
--- the same, of one line
+-- beside an unsure part of one line
 -- "{file}: note: 1 of these waits isn't decided. Take a line away if it isn't so, or its `?` if it is, and ask
 -- again"
 abbrev pub isnt_decided : List ℕ → List ℕ
@@ -408,7 +408,7 @@ make_no_difference file count all place lines =
     ++ codes " make no difference ") ++ place)
     ++ codes ": lines ") ++ lines
 
--- the same, of one line
+-- one unsure line that `circles` leaves out
 -- "{file}: note: 1 of {all} makes no difference {place}: line {line}"
 abbrev pub makes_no_difference : List ℕ → List ℕ → List ℕ → List ℕ → List ℕ
 makes_no_difference file all place line =
@@ -421,17 +421,17 @@ makes_no_difference file all place line =
 abbrev pub unsure_lines : List ℕ → List ℕ
 unsure_lines count = count ++ codes " unsure lines"
 
--- the same, if there is one
+-- how many unsure lines there are, if there is one
 -- "1 unsure line"
 abbrev pub unsure_line : List ℕ
 unsure_line = codes "1 unsure line"
 
--- where unsure lines make no difference
+-- what unsure lines make no difference to, if workqueues are given
 -- "on these workqueues"
 abbrev pub on_these : List ℕ
 on_these = codes "on these workqueues"
 
--- the same, where no workqueues are named
+-- what unsure lines make no difference to, if no workqueues are given
 -- "to whether there is a plan"
 abbrev pub to_a_plan : List ℕ
 to_a_plan = codes "to whether there is a plan"
@@ -444,7 +444,7 @@ are_needed file count fewer =
     ++ codes " workqueues are needed if these are so; without unsure lines ") ++ fewer)
     ++ codes " are enough:"
 
--- the same, where one would be enough
+-- beside a plan whose chain has an unsure flush, if one workqueue would be enough without it
 -- "{file}: note: {count} workqueues are needed if these are so; without unsure lines 1 is enough:"
 abbrev pub are_needed_not_one : List ℕ → List ℕ → List ℕ
 are_needed_not_one file count =

@@ -1,6 +1,6 @@
-//! Comments: what a line says behind its first `#`.
+//! Comments: what a line says after its first `#`.
 //!
-//! It takes time in the length of the line, and no memory: the bytes stay where they are.
+//! Finding the comment takes time linear in the length of the line, and no memory: the bytes stay where they are.
 
 ghost use Rattle.std.specs.Prelude.{◌≡◌};
 ghost use Rattle.std.specs.List.{prefix_len};
@@ -27,15 +27,15 @@ fn lead(bytes: &[u8]) -> usize
     bytes.len()
 }
 
-/// The bytes from the first one on that isn't a `#` or a blank.
+/// The bytes from the first one that isn't a `#` or a blank.
 fn without_lead(bytes: &[u8]) -> &[u8]
     ensures { result.now ≡ without_lead bytes.now }
 {
     bytes.split_at(lead(bytes)).1
 }
 
-/// What the comment of a line says: what follows its first `#`, from the first byte on that is neither a `#` nor a
-/// blank. No byte if the line has no comment.
+/// The comment of a line: what follows its first `#`, from the first byte that is neither a `#` nor a blank, as `x` in
+/// `item a ## x`. Empty if the line has no comment.
 pub fn comment_body<'a>(line: &Line<'a>) -> &'a [u8]
     ensures { result.now ≡ comment_body line.now.bytes }
 {

@@ -1,4 +1,4 @@
-//! Laws about names, as contracts of functions with empty bodies. No code runs here: the clauses are the laws.
+//! Laws about names, as contracts of functions with empty bodies.
 
 ghost use Rattle.std.specs.Prelude.{◌≡◌, ℕ, List, Ok, decimal, filter, length, map};
 ghost use Rattle.std.specs.List.{range_with_len};
@@ -9,7 +9,7 @@ ghost use Rattle.wq_cert.specs.Texts.{workqueues_of_text};
 ghost use Rattle.wq_names.specs.Names.{is_workqueue_line, names_of, spelled_number};
 
 /// Each workqueue has the name on its own line: a text that says which workqueues there are has a line for each, and
-/// these lines, from which the names come in turn, spell the numbers 0, 1, 2 and so on.
+/// these lines, from which the names are read in order, spell the numbers 0, 1, 2 and so on.
 pub fn names_come_in_the_order_of_numbers()
     ensures numbers { (names : List (List ℕ)) (p : Partition) (text : List ℕ) (ws : Workqueues) →
         length names ≡ length p.group_of → workqueues_of_text names p text ≡ Ok ws →

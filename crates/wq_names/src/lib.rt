@@ -1,9 +1,9 @@
-//! Names of workqueues: how the comments of an assignment text call them; and the messages in which standard error
+//! Names of workqueues: what the comments of an assignment text call them; and the messages in which standard error
 //! speaks of items and workqueues.
 //!
-//! What the layers above rely on: the name of a workqueue is what the comment of its line says up to its first comma,
-//! if that can be a name. The rule is that of "Names of workqueues" in docs/FORMAT.md. Names are for people: no verdict
-//! depends on them. Reading them takes time in the length of the text, and memory in the number of workqueues.
+//! The layers above rely on this: the name of a workqueue is the comment of its line up to the first comma, if that can
+//! be a name. The rule is that of "Names of workqueues" in docs/FORMAT.md. Names are for people: no verdict depends on
+//! them. Reading them takes time linear in the length of the text, and memory linear in the number of workqueues.
 #![tactic(auto)]
 
 mod comment;

@@ -34,7 +34,7 @@ pub fn an_item<A: Allocator + Copy>(alloc: A, name: &[u8]) -> Result<Vec<u8, A>,
     Ok(words)
 }
 
-/// A workqueue; behind its number stands its name, if it has one.
+/// A workqueue: its number, followed by its name if it has one.
 pub fn a_workqueue<A: Allocator + Copy>(
     alloc: A,
     number: &[u8],
@@ -49,7 +49,7 @@ pub fn a_workqueue<A: Allocator + Copy>(
     Ok(words)
 }
 
-/// The name of a workqueue, behind its number or behind an item that is on it.
+/// The name of a workqueue, after its number or after an item on it.
 pub fn its_name<A: Allocator + Copy>(alloc: A, name: &[u8]) -> Result<Vec<u8, A>, AllocError>
     ensures { IfOk result (λ words. words.items ≡ its_name name.now) }
 {
@@ -60,7 +60,7 @@ pub fn its_name<A: Allocator + Copy>(alloc: A, name: &[u8]) -> Result<Vec<u8, A>
     Ok(words)
 }
 
-/// The first line of what is said of a place in a file.
+/// The first line of what is said about a place in a file.
 pub fn at_place<A: Allocator + Copy>(
     alloc: A,
     file: &[u8],
@@ -77,7 +77,7 @@ pub fn at_place<A: Allocator + Copy>(
     Ok(words)
 }
 
-/// The same, where an answer has a number.
+/// The first line of what is said about a place in a file, for an answer with a number.
 pub fn answered<A: Allocator + Copy>(
     alloc: A,
     file: &[u8],
@@ -103,7 +103,7 @@ pub fn answered<A: Allocator + Copy>(
     Ok(words)
 }
 
-/// The same, where a step isn't lawful.
+/// The first line of what is said about a place in a file, for a step that isn't lawful.
 pub fn answered_unlawful<A: Allocator + Copy>(
     alloc: A,
     file: &[u8],
@@ -389,19 +389,19 @@ pub fn one_is_unfinished<A: Allocator + Copy>(
 /// Before the first wait of a circular wait, and before a flush that leads to no rescuer.
 pub const CAN_HANG: &[u8] = b"can hang: ";
 
-/// The same, beside a circle of `plan`.
+/// Before the first wait of a circular wait that `plan` answers.
 pub const CAN_HANG_ON_ANY: &[u8] = b"can hang on any workqueues: ";
 
-/// Before such a wait by an unsure flush.
+/// Before the first wait of a circular wait, or a flush that leads to no rescuer, if it is unsure.
 pub const CAN_HANG_IF: &[u8] = b"can hang if this is so: ";
 
-/// The same, beside a circle of `plan`.
+/// Before the first wait of a circular wait that `plan` answers, if it is unsure.
 pub const CAN_HANG_ON_ANY_IF: &[u8] = b"can hang on any workqueues if this is so: ";
 
 /// Before each further wait of a circular wait.
 pub const AND_FURTHER: &[u8] = b"and ";
 
-/// Before each further one by an unsure flush.
+/// Before each further wait of a circular wait, if it is unsure.
 pub const AND_FURTHER_IF: &[u8] = b"and if this is so: ";
 
 /// A workqueue without a rescuer.
@@ -747,13 +747,13 @@ pub fn which_is_given<A: Allocator + Copy>(
 /// Before the waits by which the workqueues hang without a rescuer.
 pub const WITHOUT_ONE: &[u8] = b"without one: ";
 
-/// The same, where the first of them is by an unsure flush.
+/// Before the waits by which the workqueues hang without a rescuer, if the first is unsure.
 pub const WITHOUT_ONE_IF: &[u8] = b"without one, if this is so: ";
 
-/// Before the waits by which the workqueues hang where a group doesn't move.
+/// Before the waits by which the workqueues hang if a group doesn't move.
 pub const IF_IT_STAYED: &[u8] = b"if it stayed: ";
 
-/// The same, where the first of them is by an unsure flush.
+/// Before the waits by which the workqueues hang if a group doesn't move, if the first is unsure.
 pub const IF_IT_STAYED_IF: &[u8] = b"if it stayed and this is so: ";
 
 /// Beside the start of a repair by names.
@@ -772,7 +772,7 @@ pub fn names_are_too_few<A: Allocator + Copy>(
     Ok(words)
 }
 
-/// A NAME behind `repair` is no item.
+/// A NAME after `repair` is no item.
 pub fn unknown_item<A: Allocator + Copy>(
     alloc: A,
     file: &[u8],
@@ -788,7 +788,7 @@ pub fn unknown_item<A: Allocator + Copy>(
     Ok(words)
 }
 
-/// An item whose name is most like that NAME.
+/// The item whose name is most like a NAME after `repair`.
 pub fn did_you_mean<A: Allocator + Copy>(
     alloc: A,
     file: &[u8],
@@ -837,7 +837,7 @@ pub fn nothing_guarantees<A: Allocator + Copy>(
     Ok(words)
 }
 
-/// The second line of that note.
+/// The second line of the note beside `safe`.
 pub fn declare_who_waits<A: Allocator + Copy>(
     alloc: A,
     file: &[u8],
@@ -870,7 +870,7 @@ pub fn safe_whatever<A: Allocator + Copy>(
     Ok(words)
 }
 
-/// The same, with one.
+/// Beside `safe` of a declaration with one unsure line.
 pub fn safe_whatever_one<A: Allocator + Copy>(
     alloc: A,
     file: &[u8],
@@ -919,7 +919,7 @@ pub fn arent_decided<A: Allocator + Copy>(
     Ok(words)
 }
 
-/// The same, of one line.
+/// Beside an unsure part of one line.
 pub fn isnt_decided<A: Allocator + Copy>(alloc: A, file: &[u8]) -> Result<Vec<u8, A>, AllocError>
     ensures { IfOk result (λ words. words.items ≡ isnt_decided file.now) }
 {
@@ -958,7 +958,7 @@ pub fn make_no_difference<A: Allocator + Copy>(
     Ok(words)
 }
 
-/// The same, of one line.
+/// One unsure line that `circles` leaves out.
 pub fn makes_no_difference<A: Allocator + Copy>(
     alloc: A,
     file: &[u8],
@@ -989,13 +989,13 @@ pub fn unsure_lines<A: Allocator + Copy>(alloc: A, count: &[u8]) -> Result<Vec<u
     Ok(words)
 }
 
-/// The same, if there is one.
+/// How many unsure lines there are, if there is one.
 pub const UNSURE_LINE: &[u8] = b"1 unsure line";
 
-/// Where unsure lines make no difference.
+/// What unsure lines make no difference to, if workqueues are given.
 pub const ON_THESE: &[u8] = b"on these workqueues";
 
-/// The same, where no workqueues are named.
+/// What unsure lines make no difference to, if no workqueues are given.
 pub const TO_A_PLAN: &[u8] = b"to whether there is a plan";
 
 /// Beside a plan whose chain has an unsure flush.
@@ -1020,7 +1020,7 @@ pub fn are_needed<A: Allocator + Copy>(
     Ok(words)
 }
 
-/// The same, where one would be enough.
+/// Beside a plan whose chain has an unsure flush, if one workqueue would be enough without it.
 pub fn are_needed_not_one<A: Allocator + Copy>(
     alloc: A,
     file: &[u8],

@@ -1,7 +1,7 @@
 //! The names of the workqueues in the text of an assignment.
 //!
-//! The rule is that of "Names of workqueues" in docs/FORMAT.md. It takes time in the length of the text, and memory in
-//! the number of workqueues: the bytes stay where they are.
+//! The rule is that of "Names of workqueues" in docs/FORMAT.md. Reading the names takes time linear in the length of
+//! the text, and memory linear in the number of workqueues: the bytes stay where they are.
 
 ghost use Rattle.std.specs.Prelude.{◌≡◌, ◌==◌, [], IfOk, None, filter, map, slice_index_or};
 ghost use Rattle.std.specs.List.{before_first, list_all};
@@ -16,7 +16,7 @@ use std::alloc::{AllocError, Allocator};
 use wq_cert::{MAX_CERTIFICATE, MAX_CERTIFICATE_LINE};
 use wq_text::{Line, Lines, Text};
 
-/// How many bytes a name may have.
+/// The most bytes that a name may have.
 pub const MAX_NAME: usize = 63;
 
 /// The bytes before the first comma; all of them if there is none.
@@ -29,7 +29,7 @@ fn before_comma(bytes: &[u8]) -> &[u8]
     }
 }
 
-/// The bytes without the blanks at their end.
+/// The bytes without trailing blanks.
 fn without_end(bytes: &[u8]) -> &[u8]
     ensures { result.now ≡ without_end bytes.now }
 {
@@ -54,14 +54,15 @@ fn are_printable(bytes: &[u8]) -> bool
     bytes.iter().all(|byte| is_printable(*byte))
 }
 
-/// Whether these bytes can be the name of a workqueue: 1 to 63 of printable ASCII.
+/// Whether these bytes can be the name of a workqueue: 1 to 63 bytes of printable ASCII.
 fn is_name(bytes: &[u8]) -> bool
     ensures { result ≡ is_name bytes.now }
 {
     !bytes.is_empty() && bytes.len() <= MAX_NAME && are_printable(bytes)
 }
 
-/// The name that the line of a workqueue gives it; no byte if it gives none.
+/// The name that the line of a workqueue gives it, as `nvme-wq` in `wq 0 a # nvme-wq, for resets`; empty if it gives
+/// none.
 pub fn name_on<'a>(line: &Line<'a>) -> &'a [u8]
     ensures { result.now ≡ name_on line.now.bytes }
 {
@@ -93,8 +94,8 @@ fn names_on<'a, A: Allocator>(alloc: A, lines: Lines<'a>) -> Result<Vec<&'a [u8]
     Ok(names)
 }
 
-/// The names of the workqueues in the text of an assignment, from workqueue 0 on, which have no byte where a workqueue
-/// has no name. A text above the limits of a certificate has no workqueues. The only error is out of memory.
+/// The names of the workqueues in the text of an assignment, from workqueue 0 on, empty for a workqueue without a name.
+/// A text above the limits of a certificate has no workqueues. The only error is out of memory.
 pub fn workqueue_names<A: Allocator>(alloc: A, text: &[u8]) -> Result<Vec<&[u8], A>, AllocError>
     ensures { limit_fault max_certificate max_certificate_line text.now ≡ None
         → IfOk result (λ names. map (λ n. n.now) names.items ≡ names_of text.now) }
@@ -105,7 +106,7 @@ pub fn workqueue_names<A: Allocator>(alloc: A, text: &[u8]) -> Result<Vec<&[u8],
     }
 }
 
-/// The name of the workqueue with this number; no byte if it has none.
+/// The name of the workqueue with this number; empty if it has none.
 pub fn name_at<'a>(names: &[&'a [u8]], number: u16) -> &'a [u8]
     ensures { result.now ≡ slice_index_or (map (λ n. n.now) names.now) number [] }
 {

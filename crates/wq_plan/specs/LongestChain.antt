@@ -1,4 +1,4 @@
--- The printed chain, said of all chains.
+-- The printed chain, by comparison with all chains.
 use Rattle.std.specs.Prelude.{◌≡◌, ◌+◌, ◌-◌, ◌<◌, ◌≤◌, ◌⊎◌, ⊤, List, [], ◌∷◌, length, filter, slice_index, slice_get}
 use Rattle.std.specs.Prelude.{IfSome}
 use Rattle.std.specs.List.{All, AllAdjacentBelow}
@@ -22,12 +22,12 @@ pub record IsChainDown (d : Declaration) (a : Assignment) (chain : List WaitArc)
       ≡ slice_index d.group_of y.src) chain (length chain)
   pub begins : IfSome (slice_get chain 0) (λ (arc : WaitArc). item_lane a d.group_of arc.src + 1 ≡ a.lanes)
 
--- those of these arcs that are of an unsure flush
+-- those of these arcs whose flush is unsure
 abbrev pub unsure_arcs : Declaration → List WaitArc → List WaitArc
 unsure_arcs d chain = filter (λ (arc : WaitArc). is_among (unsure_places d.waits) arc.place) chain
 
--- the first chain comes no later where the two part: it begins at the lower-numbered group, or of two arcs of one group
--- it goes on by the one of lower place
+-- where the two chains part, the first one has precedence: it begins at the lower-numbered group, or goes on from the
+-- same group by the arc of lower place
 abbrev pub ComesFirst : Declaration → List WaitArc → List WaitArc → Type 0
 ComesFirst d [] other = ⊤
 ComesFirst d (x ∷ chain) [] = ⊤
@@ -36,7 +36,7 @@ ComesFirst d (x ∷ chain) (y ∷ other) =
     ⊎ ((slice_index d.group_of x.src ≡ slice_index d.group_of y.src)
     × ((x.place < y.place) ⊎ ((x.place ≡ y.place) × ComesFirst d chain other)))
 
--- no other chain down has fewer unsure flushes; and of those that have as few this one comes first
+-- no other chain down has fewer unsure flushes; and of those with as few, this one comes first
 pub record IsLongestChain (d : Declaration) (a : Assignment) (chain : List WaitArc) : Type 0 where
   pub down : IsChainDown d a chain
   pub fewest : (other : List WaitArc) → IsChainDown d a other

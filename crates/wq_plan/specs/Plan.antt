@@ -22,13 +22,13 @@ pub record IsPlan (d : Declaration) (a : Assignment) : Type 0 where
   pub ranks : (g : ℕ) → g < d.groups → IsRank (GroupWaits d) g (group_lane a g)
   pub count : a.lanes ≡ lanes_of a.lane_of_group
 
--- the least of these numbers, 0 if there is none
+-- the least of these numbers, or 0 if there is none
 abbrev pub least_of : List ℕ → ℕ
 least_of [] = 0
 least_of (n ∷ ns) = fold min n ns
 
--- with how few unsure flushes arcs lead from a vertex down to lane 0, if `below` lanes are below the vertex's and the
--- flushes at these places are unsure
+-- the fewest unsure flushes on a chain from a vertex down to lane 0, given how many lanes are below the vertex's and
+-- which places have unsure flushes
 abbrev pub least_doubts : (ℕ → Bool) → List (List WaitArc) → List ℕ → ℕ → ℕ → ℕ
 least_doubts unsure graph lane zero v = 0
 least_doubts unsure graph lane (suc below) v =
@@ -36,17 +36,17 @@ least_doubts unsure graph lane (suc below) v =
     (map (λ (a : WaitArc). least_doubts unsure graph lane below a.head + (if unsure a.place then 1 else 0))
     (filter (λ (a : WaitArc). slice_index lane a.head == below) (arcs_at graph v)))
 
--- the arc leads from a vertex to the one of these lanes that `below` lanes are below, with as few unsure flushes from
--- the vertex on as can be
+-- the arc leads from a vertex to one of the lane that has `below` lanes below it, on a chain with as few unsure flushes
+-- as possible
 abbrev pub leads_best : (ℕ → Bool) → List (List WaitArc) → List ℕ → ℕ → ℕ → WaitArc → Bool
 leads_best unsure graph lane below v a =
     (slice_index lane a.head == below)
     && (least_doubts unsure graph lane below a.head + (if unsure a.place then 1 else 0)
     == least_doubts unsure graph lane (suc below) v)
 
--- the arcs from a vertex down to lane 0, if `below` lanes are below the vertex's, with as few unsure flushes as can be:
--- each is the first of these, in order of place; the list ends early if no arc leads one lane down, which never happens
--- in a plan
+-- the arcs from a vertex down to lane 0, given how many lanes are below the vertex's, with as few unsure flushes as
+-- possible: each is the first such arc, in order of place; the list ends early if no arc leads one lane down, which
+-- never happens in a plan
 abbrev pub chain_from : (ℕ → Bool) → List (List WaitArc) → List ℕ → ℕ → ℕ → List WaitArc
 chain_from unsure graph lane zero v = []
 chain_from unsure graph lane (suc below) v =
@@ -58,15 +58,15 @@ chain_from unsure graph lane (suc below) v =
 abbrev pub last_vertices : List ℕ → List ℕ
 last_vertices lane = filter (λ v. slice_index lane v + 1 == lanes_of lane) (range_with_len 0 (length lane))
 
--- the vertex on the last lane from which arcs lead down with as few unsure flushes as can be, the lowest-numbered of
--- these, if there is a vertex
+-- the vertex on the last lane from which a chain leads down with as few unsure flushes as possible, the lowest-numbered
+-- one if there are several; none if there is no vertex
 abbrev pub first_vertex : (ℕ → Bool) → List (List WaitArc) → List ℕ → Option ℕ
 first_vertex unsure graph lane =
     find (λ v. least_doubts unsure graph lane (lanes_of lane - 1) v
     == least_of (map (least_doubts unsure graph lane (lanes_of lane - 1)) (last_vertices lane)))
     (last_vertices lane)
 
--- the arcs of a longest chain with as few unsure flushes as can be, from the lowest-numbered vertex on the last lane
+-- the arcs of a longest chain with as few unsure flushes as possible, from the lowest-numbered vertex on the last lane
 -- from which there is one; none if there is no vertex
 abbrev pub chain_of : (ℕ → Bool) → List (List WaitArc) → List ℕ → List WaitArc
 chain_of unsure graph lane =

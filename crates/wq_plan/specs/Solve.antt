@@ -36,8 +36,7 @@ abbrev pub PlanIsSafe : {A : Type 0} → Declaration → Answer A → Type 0
 PlanIsSafe d (answer.Plan assignment chain) = IsSafe (wiring d assignment)
 PlanIsSafe d (answer.Circle arcs) = Unit {0}
 
--- every assignment to fewer lanes than the plan has deadlocks; and if the answer is
--- a circle, every assignment deadlocks
+-- every assignment to fewer lanes than the plan has deadlocks; if the answer is a circle, every assignment deadlocks
 abbrev pub FewerDeadlock : {A : Type 0} → Declaration → Answer A → Type 0
 FewerDeadlock d (answer.Plan assignment chain) =
     (b : Assignment) → IsAssignment d.groups b → b.lanes < assignment.lanes → Deadlocks (wiring d b)

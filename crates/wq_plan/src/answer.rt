@@ -1,6 +1,4 @@
 //! The answer to a declaration.
-//!
-//! Nothing is computed here.
 
 use std::alloc::Allocator;
 use wq_graph::WaitArc;

@@ -1,6 +1,4 @@
 //! Laws about plans, as contracts of functions with empty bodies. Those about chains and circles are in `wq_items`.
-//!
-//! No code runs here.
 
 ghost use Rattle.std.specs.Prelude.{◌≡◌, ℕ, ◌+◌, ◌<◌, ◌≤◌, ◌⊎◌, List, [], length, slice_index, SomeIndex};
 ghost use Rattle.std.specs.List.{All};
@@ -16,7 +14,7 @@ ghost use Rattle.wq_plan.specs.Plan.{IsPlan, lanes_of, chain_of_plan};
 ghost use Rattle.wq_plan.specs.LongestChain.{IsLongestChain};
 ghost use Rattle.wq_plan.specs.CircleOfGroups.{IsCircleOfGroups};
 
-/// The number of lanes is the greatest lane plus one, or 0 where there is no group.
+/// The number of lanes is the greatest lane plus one, or 0 if there is no group.
 pub fn lanes_are_counted()
     ensures above { (lane : List ℕ) → All (λ l. l < lanes_of lane) lane }
     ensures last { (lane : List ℕ) → 0 < length lane → SomeIndex lane (λ g. slice_index lane g + 1 ≡ lanes_of lane) }
@@ -73,7 +71,7 @@ pub fn printed_chain_is_longest()
         IsDeclaration d → IsPlan d a → IsLongestChain d a (chain_of_plan d a.lane_of_group) }
 {}
 
-/// A plan has only one such chain.
+/// The chain that is printed for a plan is unique.
 pub fn longest_chain_is_unique()
     ensures { (d : Declaration) (a : Assignment) (one other : List WaitArc) →
         IsDeclaration d → IsLongestChain d a one → IsLongestChain d a other → one ≡ other }
@@ -85,7 +83,7 @@ pub fn printed_circle_goes_round_groups()
         IsDeclaration d → IsWalkedCircle (group_graph d) circle → IsCircleOfGroups d circle }
 {}
 
-/// A declaration has at most one such circle.
+/// The circle that is printed for a declaration is unique.
 pub fn printed_circle_is_unique()
     ensures { (d : Declaration) (one other : List WaitArc) → IsDeclaration d →
         IsWalkedCircle (group_graph d) one → IsWalkedCircle (group_graph d) other → one ≡ other }

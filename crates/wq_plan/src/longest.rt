@@ -1,10 +1,11 @@
 //! How many lanes ranks take, and the longest waiting chain that is printed.
 //!
-//! The rule is that of "Plan texts" in docs/FORMAT.md: the chain has as few unsure flushes as a longest one can. Of
-//! those with that few it begins at the lowest-numbered group on the last lane, and leaves each group by its first arc,
-//! in order of place, that leads to the next lane. With how few a chain leads down from each group is found from the
-//! lowest lane up. An arc may be declared by any item of its group. It takes time in the number of groups and arcs, and
-//! memory in the number of groups.
+//! The rule is that of "Plan texts" in docs/FORMAT.md: of the longest chains, the one with the fewest unsure flushes is
+//! printed. Among several of these, it begins at the lowest-numbered group on the last lane, and leaves each group by
+//! the first arc, in order of place, that leads to the next lane. The fewest unsure flushes on a chain down from each
+//! group (its doubts) are found from the lowest lane up. An arc may be declared by any item of its group. It takes
+//!
+//!   O(groups + arcs) time and O(groups) memory.
 ghost use Rattle.std.specs.Prelude.{◌≡◌, ◌+◌, ◌-◌, ◌<◌, ◌≤◌, ◌==◌, ◌^◌, ℕ, false, length, slice_index, slice_index_or};
 ghost use Rattle.std.specs.Prelude.{◌&&◌, if◌then◌else◌, filter, map, IfOk, OnErr};
 ghost use Rattle.std.specs.List.{All, find, range_with_len};
@@ -17,7 +18,7 @@ use std::alloc::{AllocError, Allocator};
 use wq_buckets::Buckets;
 use wq_graph::{WaitArc, WaitGraph};
 
-/// How many lanes there are.
+/// How many lanes these ranks take.
 pub(crate) fn lanes_used(lane: &[u16]) -> u16
     requires { All (λ l. l + 1 < 2 ^ 16) lane.now }
     ensures { result ≡ lanes_of lane.now }
@@ -29,7 +30,7 @@ pub(crate) fn lanes_used(lane: &[u16]) -> u16
     lanes
 }
 
-/// Whether the flush of an arc is unsure, if those at these places are.
+/// Whether the flush of an arc is unsure, where `unsure` tells so of each place.
 fn is_unsure(unsure: &[bool], arc: &WaitArc) -> bool
     ensures { result ≡ slice_index_or unsure.now arc.now.place false }
 {
@@ -39,7 +40,7 @@ fn is_unsure(unsure: &[bool], arc: &WaitArc) -> bool
     }
 }
 
-/// With how few unsure flushes arcs lead down by way of this one, where these are the numbers of all vertices below.
+/// The fewest unsure flushes on a chain down that begins with this arc, where `doubts` has those of all vertices below.
 fn doubts_by(unsure: &[bool], doubts: &[u16], arc: &WaitArc) -> u16
     requires vertex { arc.now.head < length doubts.now }
     requires few { slice_index doubts.now arc.now.head < 4096 }
@@ -49,7 +50,7 @@ fn doubts_by(unsure: &[bool], doubts: &[u16], arc: &WaitArc) -> u16
     doubts[usize::from(arc.head)] + u16::from(is_unsure(unsure, arc))
 }
 
-/// With how few unsure flushes arcs lead down from a vertex with these arcs, where `on` is the next lane.
+/// The fewest unsure flushes on a chain down from a vertex with these arcs, where `on` is the next lane.
 fn fewest_doubts(unsure: &[bool], doubts: &[u16], arcs: &[WaitArc], lane: &[u16], on: u16) -> u16
     requires one_each { length doubts.now ≡ length lane.now }
     requires vertices { All (λ (a : WaitArc). a.head < length lane.now) arcs.now }
@@ -71,7 +72,7 @@ fn fewest_doubts(unsure: &[bool], doubts: &[u16], arcs: &[WaitArc], lane: &[u16]
     fewest.unwrap_or(0)
 }
 
-/// For each vertex with how few unsure flushes arcs lead from it down to lane 0.
+/// For each vertex, the fewest unsure flushes on a chain from it down to lane 0.
 fn all_doubts<A: Allocator + Copy>(
     alloc: A,
     graph: &WaitGraph<A>,
@@ -100,7 +101,7 @@ fn all_doubts<A: Allocator + Copy>(
     Ok(doubts)
 }
 
-/// The vertex on the last lane with the fewest doubts, the first of these.
+/// The vertex on the last lane with the fewest doubts, the first one if there are several.
 fn first_on_last(doubts: &[u16], lane: &[u16], lanes: u16) -> Option<usize>
     requires one_each { length doubts.now ≡ length lane.now }
     requires few { All (λ n. n < 4096) doubts.now }
@@ -118,7 +119,7 @@ fn first_on_last(doubts: &[u16], lane: &[u16], lanes: u16) -> Option<usize>
     first
 }
 
-/// The first arc that leads to the lane with as few doubts as the vertex has.
+/// The first arc that leads to lane `on` with as few doubts as the vertex has.
 fn first_on<'g>(
     unsure: &[bool],
     doubts: &[u16],
@@ -139,8 +140,8 @@ fn first_on<'g>(
     })
 }
 
-/// The arcs from a vertex that has `below` lanes below it. They end early only where some vertex has no arc to the next
-/// lane. No vertex of a plan is like that.
+/// The arcs of the chain from a vertex that has `below` lanes below it. They end early only if some vertex has no arc
+/// to the next lane, which never happens in a plan.
 fn follow<A: Allocator + Copy>(
     alloc: A,
     graph: &WaitGraph<A>,
@@ -176,7 +177,8 @@ fn follow<A: Allocator + Copy>(
     Ok(chain)
 }
 
-/// The arcs of a longest waiting chain with as few unsure flushes as can be, where those at these places are unsure.
+/// The arcs of a longest waiting chain with as few unsure flushes as possible, where `unsure` tells of each place
+/// whether the flush there is unsure.
 pub(crate) fn longest_chain<A: Allocator + Copy>(
     alloc: A,
     graph: &WaitGraph<A>,

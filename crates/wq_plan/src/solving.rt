@@ -1,8 +1,8 @@
 //! One workqueue for each length of waiting chain.
 //!
-//! The lane of a group is its rank in the wait graph of the groups, so a group waits only for groups on lower lanes.
-//! Where groups wait in a circle, none of them has a rank, and the answer is the circle instead of a plan. The time is
-//! that of the graph and of the ranks.
+//! The lane of a group is its rank in the wait graph of the groups, so a group waits only for groups on lower lanes. If
+//! groups wait in a circle, none of them has a rank, and the answer is the circle instead of a plan. The time is that
+//! of the graph and of the ranks.
 
 ghost use Rattle.std.specs.Prelude.{◌≡◌, ◌<◌, ◌≤◌, length, map, IfOk, OnErr};
 ghost use Rattle.std.specs.List.{All, range_with_len};
@@ -31,7 +31,7 @@ fn lane_ids<A: Allocator + Copy>(alloc: A, lane: &[u16]) -> Result<Vec<LaneId, A
     Ok(ids)
 }
 
-/// The assignment with this many lanes in which group g is on lane `lane[g]`.
+/// The assignment with this many lanes that puts group g on lane `lane[g]`.
 fn assign<A: Allocator + Copy>(
     alloc: A,
     lane: &[u16],
@@ -47,7 +47,7 @@ fn assign<A: Allocator + Copy>(
     Ok(Assignment::new(lanes, ids).unwrap())
 }
 
-/// For each place whether the flush there is unsure.
+/// For each place, whether the flush there is unsure.
 fn unsure_flushes<A: Allocator + Copy>(
     alloc: A,
     table: &ItemTable<'_, A>,
@@ -69,11 +69,11 @@ fn unsure_flushes<A: Allocator + Copy>(
     Ok(marks)
 }
 
-/// Finds the plan of the groups of a table's items, or the circle in which they
-/// wait. The groups are those of this table.
+/// Finds the plan of the groups of a table's items, or the circle in which they wait. The groups must be those of this
+/// table.
 ///
 /// No run of a plan ends stuck, and every assignment to fewer workqueues deadlocks. The only error is out of memory
-/// (20), which can't occur where there is no group; any other answer is a list that takes memory.
+/// (20), which can't occur if there is no group: any other answer is a list that takes memory.
 pub fn solve<A: Allocator + Copy>(
     alloc: A,
     table: &ItemTable<'_, A>,

@@ -1,7 +1,7 @@
 -- Chains that lead from one vertex to another.
 use Rattle.std.proofs.Common.{◌≡◌, ℕ, List, [], ◌∷◌, ◌++◌, refl, sym, subst}
 use Rattle.wq_items.specs.Chain.{IsChain, last_of}
-use Rattle.wq_repair.specs.Vertices.{LeadsTo}
+use Rattle.wq_repair.specs.Near.{LeadsTo}
 
 module _ (R : ℕ → ℕ → Type 0) where
   longer : (p z : ℕ) (vs : List ℕ) → IsChain R (p ∷ vs) → R (last_of p vs) z → IsChain R (p ∷ (vs ++ (z ∷ []))) × (last_of p (vs ++ (z ∷ [])) ≡ z)
@@ -15,3 +15,6 @@ module _ (R : ℕ → ℕ → Type 0) where
   LeadsTo-more p q z leads step =
       let more = longer p q leads.others leads.chain leads.step in
       record { others = leads.others ++ (q ∷ []); chain = more.0; step = subst (λ (x : ℕ). R x z) (sym more.1) step }
+
+  pub LeadsTo-first : (p q z : ℕ) → R p q → LeadsTo R q z → LeadsTo R p z
+  LeadsTo-first p q z step leads = record { others = q ∷ leads.others; chain = (step, leads.chain); step = leads.step }

@@ -4,10 +4,55 @@ use Rattle.std.specs.Prelude.{◌↔◌, ◌⊎◌, Contains, AllPairs}
 use Rattle.std.proofs.lemmas.List.Elements.{Contains-get_or, Contains-push, Contains-push_cases, Contains-append_left}
 use Rattle.std.proofs.lemmas.List.Quantifiers.{all_pairs_push}
 use Rattle.std.proofs.Math.ListN.{length-set, length-replicate}
-use Rattle.std.proofs.lemmas.List.{get_or-replicate, get_or_push, get_or_append_left}
-use Rattle.std.proofs.lemmas.Bool.{cases_eq, false≢true}
+use Rattle.std.proofs.lemmas.List.{get_or-replicate, get_or_push, get_or_append_left, get_or_past}
+use Rattle.std.proofs.lemmas.Bool.{cases_eq, cases_lt, cases_Bool, false≢true}
 use Rattle.wq_repair.specs.Marks.{IsMarked, Marks}
 use Rattle.wq_repair.specs.Together.{Lists}
+
+-- a mark is within the list
+pub IsMarked-below : (marks : List Bool) (k : ℕ) → IsMarked marks k → k < length marks
+IsMarked-below marks k marked = elim (cases_lt k (length marks)) [
+  | inl lt ↦ lt
+  | inr past ↦ absurd (false≢true (sym (get_or_past marks k false past) ∙ marked))
+]
+
+-- a list says so, or doesn't
+pub cases_marked : (marks : List Bool) (k : ℕ) → IsMarked marks k ⊎ (¬ IsMarked marks k)
+cases_marked marks k = elim (cases_Bool (get_or marks k false)) [ inl is ↦ inl is | inr not ↦ inr (λ is. false≢true (sym not ∙ is)) ]
+
+-- nothing is marked where all is false
+pub none-marked : (n k : ℕ) → ¬ IsMarked (replicate n false) k
+none-marked n k marked = elim (cases_lt k n) [
+  | inl lt ↦ false≢true (sym (get_or-replicate n k false false lt) ∙ marked)
+  | inr past ↦ false≢true (sym (get_or_past (replicate n false) k false
+      (omega (arith, past, length-replicate n false))) ∙ marked)
+]
+
+-- a list with one mark more at its end
+module _ (xs : List Bool) (b : Bool) (n : ℕ) (long : length xs ≡ n) where
+  pub marked-kept : (k : ℕ) → IsMarked xs k → IsMarked (xs ++ b ∷ []) k
+  marked-kept k marked = get_or_append_left xs (b ∷ []) false k (IsMarked-below xs k marked) ∙ marked
+
+  pub marked-last : b ≡ true → IsMarked (xs ++ b ∷ []) n
+  marked-last is = get_or_push xs b false n long ∙ is
+
+  pub marked-cases : (k : ℕ) → IsMarked (xs ++ b ∷ []) k → IsMarked xs k ⊎ ((k ≡ n) × (b ≡ true))
+  marked-cases k marked = elim (cases_eq k n) [
+    | inl last ↦ inr (
+      last,
+      sym (get_or_push xs b false n long)
+          ∙ ap (λ (x : ℕ). get_or (xs ++ b ∷ []) x false) (sym last) ∙ marked,
+    )
+    | inr other ↦
+        let lt : k < n = omega (
+          arith,
+          IsMarked-below (xs ++ b ∷ []) k marked,
+          length-append xs (b ∷ []),
+          long,
+          other,
+        ) in
+        inl (sym (get_or_append_left xs (b ∷ []) false k (omega (arith, lt, long))) ∙ marked)
+  ]
 
 -- the same said in other words
 pub Marks-as : (P Q : ℕ → Type 0) (n : ℕ) (xs : List Bool) → ((k : ℕ) → k < n → P k ↔ Q k) → Marks P n xs → Marks Q n xs

@@ -19,7 +19,7 @@ use Rattle.wq_repair.specs.Steps.{HoldsMarked}
 use Rattle.wq_repair.specs.Following.{FoundGroups, HasGrown, BringsAlongBy, IsFollowed}
 use Rattle.wq_repair.proofs.Rescuers.{IsLedTo-first, IsLedTo-next}
 use Rattle.wq_repair.proofs.Marks.{Marks-as}
-use Rattle.wq_repair.proofs.StartMade.{IsMarked-below}
+use Rattle.wq_repair.proofs.Marks.{IsMarked-below}
 
 -- a list of what is marked isn't longer than the list of marks
 pub Lists-few : (marks : List Bool) (list : List ℕ) → Lists marks list → length list ≤ length marks

@@ -11,7 +11,7 @@ use Rattle.wq_repair.specs.Marks.{IsMarked, Marks}
 use Rattle.wq_repair.specs.Joined.{HasToLeave, IsTriedInVain, AreChangesNeeded, FallsAlongWaits}
 use Rattle.wq_repair.specs.Steps.{IsToBeGiven, ArePlacedBy, AreLeaving}
 use Rattle.wq_repair.proofs.Rescuers.{cases_rescued, waiting-below, awaited-below}
-use Rattle.wq_repair.proofs.StartsBy.{cases_marked}
+use Rattle.wq_repair.proofs.Marks.{cases_marked}
 
 module _ (d : Declaration) (old new : Workqueues) (names : List ℕ) (named_lanes needed given stays leaves : List Bool) (ranks : List ℕ) (before : IsAssignment d.groups old.assignment)
     (are_lanes : Marks (IsNamedLane d old names) old.assignment.lanes named_lanes)

@@ -11,10 +11,9 @@ use Rattle.wq_repair.specs.Steps.{ArePlacedBy, HoldsMarked}
 use Rattle.wq_repair.specs.Lanes.{nth_lane, AreFree, AreBareNow}
 use Rattle.wq_repair.specs.Placing.{IsLaneOfRank, HasNoLane, HoldsRanked, AreLanesOfRanks, HasRanked, AreEmpty, AreTaken, AreRankedLanes}
 use Rattle.wq_repair.specs.Placing.{AreHosted}
-use Rattle.wq_repair.proofs.StartsBy.{cases_marked}
+use Rattle.wq_repair.proofs.Marks.{IsMarked-below, cases_marked}
 use Rattle.wq_repair.proofs.Readied.{all_or_one}
 use Rattle.wq_repair.proofs.Taking.{nth_lane-in, nth_lane-new, nth_lane-below, few-held}
-use Rattle.wq_repair.proofs.StartMade.{IsMarked-below}
 
 -- a rank has a lane, or none
 cases_lane : (o : Option ℕ) → ((q : ℕ) × (o ≡ Some q)) ⊎ (o ≡ None)

@@ -14,7 +14,7 @@ use Rattle.wq_repair.specs.Lanes.{nth_lane, AreFree}
 use Rattle.wq_repair.specs.Placing.{IsLaneOfRank, HasNoLane, HoldsRanked, AreLanesOfRanks, HasRanked, AreEmpty, AreTaken, AreRankedLanes}
 use Rattle.wq_repair.proofs.Homes.{no_home}
 use Rattle.wq_repair.proofs.Marks.{Marks-none, list-one_more, list-once_more}
-use Rattle.wq_repair.proofs.StartMade.{IsMarked-below}
+use Rattle.wq_repair.proofs.Marks.{IsMarked-below}
 use Rattle.wq_repair.proofs.Taking.{nth_lane-apart}
 
 -- ---- the lanes of those that stay

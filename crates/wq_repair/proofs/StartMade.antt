@@ -10,16 +10,9 @@ use Rattle.wq_repair.specs.Marks.{IsMarked, Marks}
 use Rattle.wq_repair.specs.Together.{Lists}
 use Rattle.wq_repair.specs.Steps.{HoldsOther, IsStartBy}
 use Rattle.wq_repair.specs.Lanes.{nth_lane, AreFree, AreOwnLanes, AreBareNow}
-use Rattle.wq_repair.proofs.StartsBy.{cases_marked}
+use Rattle.wq_repair.proofs.Marks.{IsMarked-below, cases_marked}
 use Rattle.wq_repair.proofs.Readied.{all_or_one}
 use Rattle.wq_repair.proofs.Taking.{nth_lane-in, nth_lane-new, nth_lane-below, few-held}
-
--- a mark is within the list
-pub IsMarked-below : (marks : List Bool) (k : ℕ) → IsMarked marks k → k < length marks
-IsMarked-below marks k marked = elim (cases_lt k (length marks)) [
-  | inl lt ↦ lt
-  | inr past ↦ absurd (false≢true (sym (get_or_past marks k false past) ∙ marked))
-]
 
 -- listed lanes are free lanes
 pub AreFree-lists : (marks : List Bool) (free : List ℕ) → Lists marks free → AreFree (length marks) free

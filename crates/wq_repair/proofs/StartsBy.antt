@@ -10,11 +10,8 @@ use Rattle.wq_repair.specs.Needed.{BringsAlong, NeedsRescuerOf}
 use Rattle.wq_repair.specs.Marks.{IsMarked, Marks}
 use Rattle.wq_repair.specs.Joined.{IsStart}
 use Rattle.wq_repair.specs.Steps.{IsToBeGiven, IsMovable, IsStartBy}
+use Rattle.wq_repair.proofs.Marks.{cases_marked}
 use Rattle.wq_repair.proofs.Rescuers.{cases_rescued, IsLedTo-first, IsLedTo-next}
-
--- a list says so, or doesn't
-pub cases_marked : (marks : List Bool) (k : ℕ) → IsMarked marks k ⊎ (¬ IsMarked marks k)
-cases_marked marks k = elim (cases_Bool (get_or marks k false)) [ inl is ↦ inl is | inr not ↦ inr (λ is. false≢true (sym not ∙ is)) ]
 
 module _ (d : Declaration) (old start : Workqueues) (names : List ℕ) (named named_lanes needed movable given : List Bool) (before : IsAssignment d.groups old.assignment)
     (are_named : Marks (IsNamed d names) d.groups named)

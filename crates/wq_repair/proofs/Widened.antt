@@ -13,7 +13,7 @@ use Rattle.wq_repair.specs.Steps.{IsToBeGiven, IsMovable, IsStartBy, HoldsMarked
 use Rattle.wq_repair.specs.Ready.{Scope, IsReady, IsMinimal}
 use Rattle.wq_repair.specs.Repair.{IsRepair}
 use Rattle.wq_repair.specs.Wider.{IsScope, KeepsNeeded}
-use Rattle.wq_repair.proofs.StartMade.{IsMarked-below}
+use Rattle.wq_repair.proofs.Marks.{IsMarked-below}
 use Rattle.wq_repair.proofs.Rescuers.{IsLedTo-first, rescued-needed}
 use Rattle.wq_repair.proofs.Repaired.{IsRepair-needed}
 

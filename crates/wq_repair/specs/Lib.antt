@@ -9,7 +9,6 @@ pub mod Repair
 pub mod Marks
 pub mod Joined
 pub mod Together
-pub mod Vertices
 pub mod Steps
 pub mod Lanes
 pub mod Following
@@ -17,3 +16,4 @@ pub mod Ready
 pub mod Placing
 pub mod Wider
 pub mod Near
+pub mod Settled

@@ -1,7 +1,7 @@
--- What is known when groups are put back, and what comes of it.
-use Rattle.std.specs.Prelude.{◌≡◌, ◌↔◌, ℕ, ◌<◌, ◌≤◌, ◌⊎◌, max, List, Bool, Option, length, slice_index}
+-- What is known when groups are settled, and what comes of it.
+use Rattle.std.specs.Prelude.{◌≡◌, ◌↔◌, ℕ, ◌<◌, ◌≤◌, ◌⊎◌, max, List, Bool, length, slice_index}
 use Rattle.wq_groups.specs.Declaration.{Declaration, GroupWaits}
-use Rattle.wq_groups.specs.Assignment.{Assignment, IsAssignment}
+use Rattle.wq_groups.specs.Assignment.{IsAssignment}
 use Rattle.wq_graph.specs.declared.arc.WaitArc.{WaitArc}
 use Rattle.wq_graph.specs.Graph.{HasArc}
 use Rattle.wq_core.specs.Workqueues.{Workqueues, wiring_of}
@@ -10,7 +10,7 @@ use Rattle.wq_levels.specs.Ranks.{AreRanks}
 use Rattle.wq_deadlock.specs.Judging.{rescued_graph}
 use Rattle.wq_repair.specs.Changes.{IsRescued, HoldsAny, IsNamed, IsNamedLane, HasMoved, IsToBeCompared, lane_in}
 use Rattle.wq_repair.specs.Marks.{IsMarked, Marks}
-use Rattle.wq_repair.specs.Together.{Lists, IsHomeOf, ArePutTogether}
+use Rattle.wq_repair.specs.Settled.{Settled, IsSettled}
 use Rattle.wq_repair.specs.Joined.{AreChangesNeeded, FallsAlongWaits}
 use Rattle.wq_repair.specs.Steps.{IsToBeGiven, IsMovable, IsStartBy}
 
@@ -56,46 +56,13 @@ pub record IsMinimal (d : Declaration) (old : Workqueues) (names : List ℕ) (ne
   pub hosted : (g : ℕ) → g < d.groups → HasMoved old new g → HoldsAny old (lane_in new g)
       → IsNamedLane d old names (lane_in new g)
 
--- the group may be put back: its lane has a rescuer, or is given one
+-- the group may stay: its lane has a rescuer, or is given one
 abbrev pub IsTried : Workqueues → Scope → ℕ → Type 0
 IsTried old s g = IsMarked s.movable g × (IsMarked s.given (lane_in old g) ⊎ IsRescued old (lane_in old g))
-
--- a group is on lane q that needs a rescuer and can't move
-pub record HoldsNeeded (old : Workqueues) (s : Scope) (q : ℕ) : Type 0 where
-  pub group : ℕ
-  pub is_group : group < length s.needed
-  pub needs : IsMarked s.needed group
-  pub stays : ¬ IsMarked s.movable group
-  pub on : lane_in old group ≡ q
 
 -- the groups of one list that aren't in the other
 abbrev pub IsButNot : List Bool → List Bool → ℕ → Type 0
 IsButNot one other g = IsMarked one g × (¬ IsMarked other g)
-
--- those that are put to trial were put together with those of their lane that need a rescuer and can't move
-pub record IsPutBack (graph : List (List WaitArc)) (old : Workqueues) (s : Scope) (at new : List ℕ)
-    (back : List Bool) : Type 0 where
-  pub homes : List (Option ℕ)
-  pub tried : List Bool
-  pub order : List ℕ
-  pub are_homes : (q v : ℕ) → IsHomeOf homes q v ↔ ((v ≡ q) × HoldsNeeded old s q)
-  pub are_tried : Marks (IsTried old s) (length s.movable) tried
-  pub lists : Lists tried order
-  pub together : ArePutTogether graph old.assignment.lane_of_group homes order at new back
-
--- those that leave were put together with those that leave the same lane
-pub record IsKeptTogether (graph : List (List WaitArc)) (old : Assignment) (leaves : List Bool)
-    (at new : List ℕ) : Type 0 where
-  pub homes : List (Option ℕ)
-  pub order : List ℕ
-  pub again : List Bool
-  pub no_homes : (q v : ℕ) → ¬ IsHomeOf homes q v
-  pub lists : Lists leaves order
-  pub together : ArePutTogether graph old.lane_of_group homes order at new again
-
--- the workqueues on which the groups are on these lanes
-abbrev pub placed_at : Workqueues → List ℕ → Workqueues
-placed_at ws at = record { assignment = record { lanes = ws.assignment.lanes; lane_of_group = at }; bare = ws.bare }
 
 -- for each group the rank of its lane among those that have a rescuer
 pub record AreRanksOfGroups (d : Declaration) (ws : Workqueues) (ranks : List ℕ) : Type 0 where
@@ -103,3 +70,19 @@ pub record AreRanksOfGroups (d : Declaration) (ws : Workqueues) (ranks : List �
   pub are : AreRanks (rescued_graph d ws) of_lanes
   pub one_each : length ranks ≡ d.groups
   pub exactly : (g : ℕ) → g < d.groups → slice_index ranks g ≡ slice_index of_lanes (lane_in ws g)
+
+-- arcs lead from group to group, of those that need a rescuer; and so do those that can't move, and those that may stay
+pub record IsTrial (d : Declaration) (needed fixed tried : List Bool) (graph : List (List WaitArc)) : Type 0 where
+  pub long : length needed ≡ d.groups
+  pub of : IsGraphOfNeeded d needed graph
+  pub fixed_needed : (g : ℕ) → IsMarked fixed g → IsMarked needed g
+  pub tried_needed : (g : ℕ) → IsMarked tried g → IsMarked needed g
+
+-- the groups that can't move stay, and those that may stay are settled in the graph of those that need a rescuer
+pub record IsSettledIn (d : Declaration) (old : Workqueues) (s : Scope) (tried : List Bool) (settled : Settled)
+    : Type 0 where
+  pub graph : List (List WaitArc)
+  pub fixed : List Bool
+  pub of : IsGraphOfNeeded d s.needed graph
+  pub are_fixed : Marks (IsButNot s.needed s.movable) d.groups fixed
+  pub is : IsSettled graph old.assignment fixed tried (length graph) settled

@@ -9,25 +9,19 @@
 
 mod answer;
 mod assigned;
-mod bits;
-mod joined;
+mod checking;
 mod lanes;
-mod largest;
 pub mod laws;
-mod levels;
 mod listing;
 mod named;
 mod near;
 mod needed;
-mod order;
-mod parts;
 mod placing;
+mod plain;
 mod repairing;
 mod scope;
-mod search;
 mod start;
-mod vertex_lists;
 mod wider;
 
 pub use answer::Answer;
-pub use repairing::repair;
+pub use repairing::{repair, repair_by};

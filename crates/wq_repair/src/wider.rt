@@ -24,6 +24,7 @@ use crate::repairing::repaired;
 use crate::scope::{Scope, scope_of};
 use crate::start::{given_lanes, start};
 use std::alloc::{AllocError, Allocator};
+use wq_choice::Chooser;
 use wq_core::{Assigned, Workqueues};
 use wq_graph::{WaitArc, WaitGraph};
 use wq_groups::{GroupId, LaneId};
@@ -197,8 +198,9 @@ fn are_beside<A: Allocator>(
 }
 
 /// A repair in which all of this scope have a rescuer, if its start is safe.
-fn repaired_in<A: Allocator + Copy>(
+fn repaired_in<A: Allocator + Copy, C: Chooser<A>>(
     alloc: A,
+    chooser: &C,
     assigned: &Assigned<'_, '_, A>,
     scope: &Scope<A>,
 ) -> Result<Option<Workqueues<A>>, AllocError>
@@ -216,7 +218,7 @@ fn repaired_in<A: Allocator + Copy>(
     if !others_are_safe(alloc, assigned, &begin)? {
         return Ok(None);
     }
-    let new = repaired(alloc, assigned, &begin, scope)?;
+    let new = repaired(alloc, chooser, assigned, &begin, scope)?;
     Ok(Some(new))
 }
 
@@ -268,8 +270,9 @@ fn wider_scope<A: Allocator + Copy>(
 
 /// A repair in which lanes are given a rescuer on which groups are that need one and others that don't, if there is
 /// one.
-fn wider<A: Allocator + Copy>(
+fn wider<A: Allocator + Copy, C: Chooser<A>>(
     alloc: A,
+    chooser: &C,
     assigned: &Assigned<'_, '_, A>,
     names: &[ItemId],
     needed: &[bool],
@@ -284,7 +287,7 @@ fn wider<A: Allocator + Copy>(
     let Some(scope) = wider_scope(alloc, assigned, names, needed)? else {
         return Ok(None);
     };
-    let Some(new) = repaired_in(alloc, assigned, &scope)? else {
+    let Some(new) = repaired_in(alloc, chooser, assigned, &scope)? else {
         return Ok(None);
     };
     if keeps_needed(
@@ -346,8 +349,9 @@ pub(crate) fn with_fewer_changes<A: Allocator + Copy>(
 }
 
 /// The repair of workqueues that can be repaired: of two, the one with fewer changes.
-pub(crate) fn better_repair<A: Allocator + Copy>(
+pub(crate) fn better_repair<A: Allocator + Copy, C: Chooser<A>>(
     alloc: A,
+    chooser: &C,
     assigned: &Assigned<'_, '_, A>,
     names: &[ItemId],
     start: &Workqueues<A>,
@@ -361,7 +365,7 @@ pub(crate) fn better_repair<A: Allocator + Copy>(
     requires deadlocked { Deadlocks (wiring_of (declared_waits assigned.now.declared) assigned.now.workqueues) }
     ensures { IfOk result (IsRepair (declared_waits assigned.now.declared) assigned.now.workqueues names.now) }
 {
-    let one = repaired(alloc, assigned, start, scope)?;
-    let other = wider(alloc, assigned, names, scope.needed.as_slice())?;
+    let one = repaired(alloc, chooser, assigned, start, scope)?;
+    let other = wider(alloc, chooser, assigned, names, scope.needed.as_slice())?;
     with_fewer_changes(alloc, workqueues_of(assigned), one, other)
 }

@@ -1,8 +1,8 @@
 -- Packing: the 12 bytes that hold a row.
 --
 -- Byte 0 is the kind of the event; byte 1 is 1 if the answer is yes, else 0; bytes 2 and 3 are the item, bytes 4 and 5
--- the lane, byte 6 the helper, each 0 if the event has none; byte 7 is 0; bytes 8 to 11 are the number. The least
--- significant byte of a number comes first.
+-- the lane, byte 6 the helper, each 0 if the event has none; byte 7 is 0; bytes 8 to 11 are the number. Numbers are
+-- little-endian.
 use Rattle.std.specs.Prelude.{◌≡◌, ℕ, ◌<◌, ◌≤◌, ◌^◌, ⊤, Bool, true, false, IsTrue, List, ◌∷◌, ◌++◌}
 use Rattle.std.specs.Int.{w16, w32, to_le_bytes}
 use Rattle.std.specs.List.{flat_map}
@@ -16,7 +16,7 @@ use Rattle.wq_rows.specs.declared.event.Event.TheVariants.{Queue, Cancel, Start,
 use Rattle.wq_rows.specs.declared.event.Event.TheVariants.{OverAll, AskLane, ToldLane, Help}
 use Rattle.wq_rows.specs.declared.event.Row.{Row}
 
--- the number of the kind of a helper's step: that of the same step of the rescuer
+-- the number of the kind of a helper's step: that of the rescuer's step
 abbrev pub help_kind : HelpStep → ℕ
 help_kind (DoStart item) = 3
 help_kind (DoWait target) = 4
@@ -107,8 +107,7 @@ HelpMayAnswer (DoOverAll target) said = IsTrue said
 HelpMayAnswer (DoFinish item) said = IsTrue said
 HelpMayAnswer _ said = ⊤
 
--- there may be such an event, with this answer: events that can't come to nothing
--- always have yes, and a helper has a number from 1 to 8
+-- such an event may have this answer: events that can't fail always have yes, and a helper has a number from 1 to 8
 abbrev pub MayAnswer : Event → Bool → Type 0
 MayAnswer (Start lane item) said = IsTrue said
 MayAnswer (Over lane target) said = IsTrue said
@@ -119,7 +118,7 @@ MayAnswer (ToldLane lane) said = IsTrue said
 MayAnswer (Help lane helper step) said = IsHelperNumber helper × HelpMayAnswer step said
 MayAnswer _ said = ⊤
 
--- a row that may be packed: there may be its event, with its answer
+-- the row may be packed: its event may have its answer
 abbrev pub IsPackable : Row → Type 0
 IsPackable row = MayAnswer row.event row.yes
 

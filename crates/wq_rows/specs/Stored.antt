@@ -17,7 +17,7 @@ use Rattle.wq_rows.specs.Packing.{packed_rows, IsPackable, IsRowInRange}
 abbrev pub max_rows : ℕ
 max_rows = 16777216
 
--- the event of this kind, item and lane, which isn't a helper's; none if no event is of this kind
+-- the event with this kind, item and lane, not made by a helper; none if no event has this kind
 abbrev pub event_of : ℕ → ℕ → ℕ → Option Event
 event_of kind item lane =
     if kind == 1 then Some (Queue item)
@@ -34,7 +34,7 @@ event_of kind item lane =
     else if kind == 12 then Some (ToldLane lane)
     else None
 
--- the step of a helper of this kind and item; none if no such step is of this kind
+-- the step of a helper with this kind and item; none if no such step has this kind
 abbrev pub help_step_of : ℕ → ℕ → Option HelpStep
 help_step_of kind item =
     if kind == 3 then Some (DoStart item)
@@ -45,13 +45,13 @@ help_step_of kind item =
     else if kind == 10 then Some (DoOverAll item)
     else None
 
--- the event of this kind, item, lane and helper, 0 for none; none if no such event is of this kind
+-- the event with this kind, item, lane and helper (0 for none); none if no such event has this kind
 abbrev pub event_by : ℕ → ℕ → ℕ → ℕ → Option Event
 event_by kind item lane zero = event_of kind item lane
 event_by kind item lane (suc h) = option_map (λ step. Help lane (suc h) step) (help_step_of kind item)
 
--- the rows that some bytes hold, 12 bytes each. This is meant for bytes that hold rows. From others it reads what it
--- can: 12 bytes that don't begin with a kind aren't a row, nor are fewer than 12 bytes at the end
+-- the rows that some bytes hold, 12 bytes each. It is meant for bytes that hold rows. Of other bytes it reads what it
+-- can: 12 bytes that don't begin with a kind aren't a row, and neither are fewer than 12 bytes at the end
 abbrev pub rows_of : List ℕ → List Row
 rows_of (kind ∷ answer ∷ item0 ∷ item1 ∷ lane0 ∷ lane1 ∷ helper ∷ spare ∷ number0 ∷ number1 ∷ number2 ∷ number3 ∷ rest) =
     option_to_list (option_map
@@ -71,8 +71,8 @@ pub record IsStored (bytes : List ℕ) (rows : List Row) : Type 0 where
   pub in_range : All IsRowInRange rows
   pub holds : packed_rows rows ≡ bytes
 
--- what holds for the bytes of a history, given how many bytes there is memory for and how many rows there is room for:
--- the bytes hold rows, no more than there is room for, and there is memory for all the rows that there is room for
+-- what holds for the bytes of a history, given how many bytes and how many rows there is room for: the bytes hold rows,
+-- no more than there is room for, and there are enough bytes for all rows that there is room for
 pub record IsRoomy (bytes : List ℕ) (capacity room : ℕ) : Type 0 where
   pub stored : IsStored bytes (rows_of bytes)
   pub within : length bytes ≤ 12 * room

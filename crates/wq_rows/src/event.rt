@@ -3,7 +3,7 @@
 //! Queue, Cancel, Start, Wait, Over, WaitAll, OverAll, Finish and Help record steps of the machine, or that no step was
 //! due. Ask and Told record a flush of an item from outside a workqueue: a caller asks whether the item has an
 //! unfinished entry, and is told once each entry that it waits for is finished (`flush_work` in kernel/workqueue.c).
-//! AskLane and ToldLane record the same of a whole workqueue (`flush_workqueue` there). Nothing is computed here.
+//! AskLane and ToldLane record the same for a whole workqueue (`flush_workqueue` there).
 
 ghost use Rattle.std.specs.Prelude.{◌≡◌};
 ghost use Rattle.wq_rows.specs.Packing.{help_kind as help_kind_of, kind_of, item_in, lane_in, helper_in};
@@ -12,18 +12,19 @@ use wq_core::HelpStep;
 use wq_groups::LaneId;
 use wq_items::ItemId;
 
-/// What happened. Start, Wait, Over, WaitAll, OverAll and Finish are the rescuer's; Help is the same of a helper.
+/// What happened. Start, Wait, Over, WaitAll, OverAll and Finish are steps of the rescuer; Help is such a step of a
+/// helper.
 #[derive(Clone, Copy, Debug, PartialEq, Eq)]
 pub enum Event {
-    /// The item was to be queued.
+    /// A request to queue the item.
     Queue(ItemId),
-    /// The pending entry of the item was to be removed.
+    /// A request to remove the pending entry of the item.
     Cancel(ItemId),
-    /// The lane started its first pending entry whose item wasn't running, which is of this item.
+    /// The lane started its first pending entry whose item wasn't running: an entry of this item.
     Start(LaneId, ItemId),
     /// What the lane runs began to wait for this item.
     Wait(LaneId, ItemId),
-    /// What the lane runs had waited for this item.
+    /// What the lane runs ended its wait for this item.
     Over(LaneId, ItemId),
     /// The lane finished what it ran, an entry of this item.
     Finish(LaneId, ItemId),
@@ -33,14 +34,13 @@ pub enum Event {
     Told(ItemId),
     /// What the lane runs began to wait for the whole lane of this item.
     WaitAll(LaneId, ItemId),
-    /// What the lane runs had waited for the whole lane of this item.
+    /// What the lane runs ended its wait for the whole lane of this item.
     OverAll(LaneId, ItemId),
     /// A caller asked whether the lane has an unfinished entry, to wait for the whole lane.
     AskLane(LaneId),
     /// A caller that waited for the whole lane was told that its wait is over.
     ToldLane(LaneId),
-    /// A helper of the lane made this step, with what it runs. The helpers of a lane
-    /// are numbered from 1, and at most 8.
+    /// A helper of the lane made this step, with what it runs. The helpers of a lane are numbered from 1 to at most 8.
     Help(LaneId, u8, HelpStep),
 }
 
@@ -49,16 +49,16 @@ pub enum Event {
 pub struct Row {
     /// What happened.
     pub event: Event,
-    /// For Queue, whether the item was accepted; for Cancel, whether an entry was removed; for Wait and Ask, whether
-    /// the item had an unfinished entry; for WaitAll, whether the lane of the item had one; for AskLane, whether the
-    /// lane had one; for a helper's step what it is for the rescuer's; for all others true.
+    /// The outcome. For Queue, whether the item was accepted; for Cancel, whether an entry was removed; for Wait and
+    /// Ask, whether the item had an unfinished entry; for WaitAll, whether the lane of the item had one; for AskLane,
+    /// whether the lane had one; for a helper's step, the same as for the rescuer's. For all others, true.
     pub yes: bool,
-    /// The number of the entry that was queued, removed, started or finished; the mark of a wait or an ask. 0 if
+    /// The number of the entry that was queued, removed, started or finished, or the mark of a wait or an ask. 0 if
     /// nothing was queued or removed.
     pub number: u32,
 }
 
-/// The number of the kind of a helper's step: that of the same step of the rescuer.
+/// The number of the kind of a helper's step: that of the rescuer's step.
 #[inline(always)]
 fn help_kind(step: &HelpStep) -> u8
     ensures { result ≡ help_kind_of step.now }
@@ -74,7 +74,7 @@ fn help_kind(step: &HelpStep) -> u8
 }
 
 impl Event {
-    /// The number of its kind. A helper's step has the kind of the rescuer's.
+    /// The number of the kind of the event. A helper's step has the kind of the rescuer's.
     #[inline(always)]
     pub(crate) fn kind(&self) -> u8
         ensures { result ≡ kind_of self.now }
@@ -96,8 +96,8 @@ impl Event {
         }
     }
 
-    /// Its item. For a wait and its end that is the target of the wait. AskLane and ToldLane have none: for them it is
-    /// item 0, which says nothing.
+    /// The item of the event. For a wait and its end, that is the target of the wait. AskLane and ToldLane have none:
+    /// for them it is item 0, which means nothing.
     #[inline(always)]
     pub fn item(&self) -> ItemId
         ensures { result ≡ item_in self.now }
@@ -118,7 +118,7 @@ impl Event {
         }
     }
 
-    /// The number of its lane; 0 if it has none.
+    /// The number of the lane of the event; 0 if it has none.
     #[inline(always)]
     pub(crate) fn lane(&self) -> u16
         ensures { result ≡ lane_in self.now }
@@ -137,7 +137,7 @@ impl Event {
         }
     }
 
-    /// The number of the helper that made its step; 0 if none did.
+    /// The number of the helper that made the step; 0 if none did.
     #[inline(always)]
     pub(crate) fn helper(&self) -> u8
         ensures { result ≡ helper_in self.now }

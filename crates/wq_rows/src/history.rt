@@ -1,7 +1,7 @@
 //! Histories: rows, packed one after the other.
 //!
-//! The bytes of a history are the packings of its rows, joined. Nothing comes before, between or after them. A history
-//! takes its memory once, 12 bytes for each row that there is room for. Each call takes constant time.
+//! The bytes of a history are its packed rows, with nothing before, between or after them. A history allocates once, 12
+//! bytes for each row that there is room for. Each call takes constant time.
 
 ghost use Rattle.std.specs.Prelude.{◌≡◌, ◌<◌, ◌≤◌, [], ◌∷◌, ◌++◌, length, IfOk, OnErr};
 ghost use Rattle.wq_rows.specs.Packing.{packed_rows, IsPackable};
@@ -13,7 +13,7 @@ use crate::rows::Rows;
 use std::alloc::{AllocError, Allocator};
 use std::marker::Model;
 
-/// How many rows a history may have.
+/// The most rows that a history may have.
 pub const MAX_ROWS: u32 = 16_777_216;
 
 /// A history. Contracts see its rows, and how many rows there is room for.
@@ -35,8 +35,8 @@ impl<A: Allocator> Model for History<A> {
 }
 
 impl<A: Allocator> History<A> {
-    /// A history without rows, with room for this many. It takes memory once, 12 bytes for each of them (which is
-    /// tested). The only error is out of memory, which can't occur if there is room for none.
+    /// A history without rows, with room for this many. It allocates once, 12 bytes for each of them (which is tested).
+    /// The only error is out of memory, which can't occur if `room` is 0.
     pub fn new(alloc: A, room: u32) -> Result<Self, AllocError>
         requires { room ≤ max_rows }
         ensures history { IfOk result (λ h. h ≡ record { rows = []; room = room }) }
@@ -46,7 +46,7 @@ impl<A: Allocator> History<A> {
         Ok(History { bytes, room })
     }
 
-    /// Adds a row after the others. It takes no memory.
+    /// Appends a row. It takes no memory.
     #[inline(always)]
     pub fn push(&mut self, row: &Row)
         requires packable { IsPackable row.now }

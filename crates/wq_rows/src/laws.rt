@@ -1,6 +1,6 @@
 //! Laws about packed rows, as contracts of functions with empty bodies.
 //!
-//! They are about rows and bytes alone, whatever code packs them.
+//! They speak of rows and bytes alone, whatever code packs them.
 
 ghost use Rattle.std.specs.Prelude.{◌≡◌, ℕ, List};
 ghost use Rattle.std.specs.List.{All};
@@ -8,27 +8,27 @@ ghost use Rattle.wq_rows.specs.declared.event.Row.{Row};
 ghost use Rattle.wq_rows.specs.Packing.{packed_rows, IsRowInRange, IsPackedRow};
 ghost use Rattle.wq_rows.specs.Stored.{rows_of, IsStored};
 
-/// What is packed is unpacked again: the same bytes hold one row at most.
+/// A packed row is unpacked to itself: the same bytes hold at most one row.
 pub fn what_is_packed_is_unpacked_again()
     ensures { (bytes : List ℕ) (a b : Row) → IsPackedRow bytes a → IsPackedRow bytes b → a ≡ b }
 {}
 
-/// One row is held by one run of bytes at most.
+/// A row has at most one packing.
 pub fn a_row_is_packed_in_one_way()
     ensures { (a b : List ℕ) (row : Row) → IsPackedRow a row → IsPackedRow b row → a ≡ b }
 {}
 
-/// The rows that are read from the packings of some rows, joined, are these rows.
+/// The rows read from the joined packings of some rows are these rows.
 pub fn packed_rows_are_read_again()
     ensures { (rows : List Row) → All IsRowInRange rows → rows_of (packed_rows rows) ≡ rows }
 {}
 
-/// The same bytes hold one list of rows at most.
+/// The same bytes hold at most one list of rows.
 pub fn packed_rows_are_the_only_ones()
     ensures { (bytes : List ℕ) (a b : List Row) → IsStored bytes a → IsStored bytes b → a ≡ b }
 {}
 
-/// One list of rows is held by one run of bytes at most.
+/// A list of rows has at most one packing.
 pub fn rows_are_packed_in_one_way()
     ensures { (a b : List ℕ) (rows : List Row) → IsStored a rows → IsStored b rows → a ≡ b }
 {}

@@ -10,10 +10,9 @@
 //! | 7 | 0 |
 //! | 8 to 11 | the number of the row |
 //!
-//! The least significant byte of a number comes first. A wait on lane 1 for item 1 that was
-//! answered by no, with the mark 1, is 040001000100000001000000 in hexadecimal digits; with
-//! the digits 02 for the seventh byte it is the wait of helper 2. Each row is held by one run
-//! of 12 bytes, and each run of bytes holds one row at most. Both calls take constant time.
+//! Numbers are little-endian. For example, a wait on lane 1 for item 1 that was answered by no, with the mark 1, is
+//! 040001000100000001000000 in hexadecimal; with the digits 02 for the seventh byte it is the wait of helper 2. Each
+//! row has one packing, and each run of 12 bytes holds at most one row. Both calls take constant time.
 
 ghost use Rattle.std.specs.Prelude.{◌≡◌, ◌<◌, ◌^◌, ℕ, IfSome, IfNone, Some, None, Bool};
 ghost use Rattle.wq_core.specs.declared.step.HelpStep.{HelpStep as HelpStepValue};
@@ -69,7 +68,7 @@ fn answer_of(byte: u8) -> Option<bool>
     }
 }
 
-/// The step of a helper of a kind and an item, if it may have this answer.
+/// The step of a helper with this kind and item, if it may have this answer.
 fn help_step_of(kind: u8, item: ItemId, yes: bool) -> Option<HelpStep>
     ensures kind { IfSome result (λ step. help_kind step ≡ kind) }
     ensures item { IfSome result (λ step. deed_item step ≡ item) }
@@ -88,8 +87,8 @@ fn help_step_of(kind: u8, item: ItemId, yes: bool) -> Option<HelpStep>
     }
 }
 
-/// The event of a helper of this number, by its kind, its item and the number of its
-/// lane, if it may have this answer.
+/// The event of a helper with this number, by its kind, its item and the number of its lane, if it may have this
+/// answer.
 fn help_of(kind: u8, item: ItemId, lane: u16, helper: u8, yes: bool) -> Option<Event>
     requires { 0 < helper }
     ensures kind { IfSome result (λ event. kind_of event ≡ kind) }
@@ -108,8 +107,8 @@ fn help_of(kind: u8, item: ItemId, lane: u16, helper: u8, yes: bool) -> Option<E
     Some(Event::Help(LaneId::new(lane), helper, step))
 }
 
-/// The event of a kind, an item and the number of a lane, which isn't a helper's, if it may have this answer. The
-/// item of an event that has none is 0, and so is its lane.
+/// The event with a kind, an item and the number of a lane, not made by a helper, if it may have this answer. An event
+/// without an item has item 0, and one without a lane has lane 0.
 fn event_of(kind: u8, item: ItemId, lane: u16, yes: bool) -> Option<Event>
     ensures kind { IfSome result (λ event. kind_of event ≡ kind) }
     ensures item { IfSome result (λ event. item_in event ≡ item) }
@@ -139,7 +138,7 @@ fn event_of(kind: u8, item: ItemId, lane: u16, yes: bool) -> Option<Event>
     }
 }
 
-/// The event of a kind, an item, the number of a lane and that of a helper, 0 for none, if it may have this answer.
+/// The event with a kind, an item, the number of a lane and that of a helper (0 for none), if it may have this answer.
 fn event_by(kind: u8, item: ItemId, lane: u16, helper: u8, yes: bool) -> Option<Event>
     ensures kind { IfSome result (λ event. kind_of event ≡ kind) }
     ensures item { IfSome result (λ event. item_in event ≡ item) }
@@ -157,7 +156,7 @@ fn event_by(kind: u8, item: ItemId, lane: u16, helper: u8, yes: bool) -> Option<
     }
 }
 
-/// Unpacks the row that these bytes hold; none exactly if they hold no row.
+/// Unpacks the row that these bytes hold; `None` exactly if they hold no row.
 pub fn unpack(bytes: &[u8]) -> Option<Row>
     ensures some { IfSome result (λ row. IsPackedRow bytes.now row) }
     ensures none { IfNone result ((row : RowValue) → ¬ IsPackedRow bytes.now row) }

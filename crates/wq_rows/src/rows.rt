@@ -1,7 +1,7 @@
-//! Rows: the rows that packed bytes hold, one after the other.
+//! Iterating over the rows that packed bytes hold.
 //!
-//! The bytes are checked once, before the first row is handed out, so that each row is known to be one. That takes time
-//! in the number of bytes. Each row is then handed out in constant time. Nothing is copied.
+//! The bytes are checked once, in linear time, before the first row is yielded, so that each row is known to be one.
+//! Each row then takes constant time. Nothing is copied.
 
 ghost use Rattle.std.specs.Prelude.{◌≡◌, List, length, IfSome, IfNone};
 ghost use Rattle.std.specs.Bool.{OnTrue, OnFalse};
@@ -47,8 +47,8 @@ fn hold_rows(bytes: &[u8]) -> bool
 }
 
 impl<'r> Rows<'r> {
-    /// The rows that these bytes hold; none exactly if they hold no rows: 12 of
-    /// them are no row, or fewer than 12 are left at the end.
+    /// The rows that these bytes hold; `None` exactly if they hold none: some 12 of them aren't a row, or fewer than 12
+    /// are left at the end.
     pub fn of(bytes: &'r [u8]) -> Option<Self>
         ensures some { IfSome result (λ rows. IsStored bytes.now rows) }
         ensures none { IfNone result ((rows : List RowValue) → ¬ IsStored bytes.now rows) }

@@ -69,7 +69,7 @@ impl<A: Allocator> Caller for ScriptCaller<A> {
     /// Makes its calls in order, each as the runtime makes it. An item is queued on its own workqueue.
     ///
     /// The error is the first refusal: `HistoryFull` (60), `Closed` (61), `WrongLane` (64), if there is no such
-    /// workqueue to flush, `NotAsked` (65) or `NoItem` (66). The calls before it are made, and those after it aren't.
+    /// workqueue to flush, or `NoItem` (66). The calls before it are made, and those after it aren't.
     fn call<N: Naming, S: Allocator, R: Wait>(
         &mut self,
         rt: &R,

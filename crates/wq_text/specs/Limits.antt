@@ -5,7 +5,7 @@ use Rattle.wq_text.specs.declared.text.TextError.TheVariants.{TextTooLong, LineT
 use Rattle.wq_text.specs.Lines.{LineView, lines_of}
 use Rattle.wq_text.specs.Refusal.{Refusal}
 
--- the first line with more bytes than this
+-- the first line with more than this many bytes
 abbrev pub first_long_line : ℕ → List LineView → Option LineView
 first_long_line max_line lines = find (λ line. nat_lt max_line (length line.bytes)) lines
 

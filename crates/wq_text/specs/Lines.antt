@@ -10,7 +10,7 @@ pub record Piece : Type 0 where
   pub bytes : List ℕ
   pub ended : Bool
 
--- these pieces with one more byte before the first; if there is no piece, the byte is a piece by itself
+-- the pieces with one more byte in front; if there is no piece, the byte is a piece by itself
 abbrev pub in_front : ℕ → List Piece → List Piece
 in_front b [] = record { bytes = b ∷ []; ended = false } ∷ []
 in_front b (p ∷ ps) = record { bytes = b ∷ p.bytes; ended = p.ended } ∷ ps
@@ -34,7 +34,7 @@ pub record LineView : Type 0 where
 abbrev pub taken : Piece → ℕ
 taken p = length p.bytes + (if p.ended then 1 else 0)
 
--- the pieces as lines, the first of which has this number and begins at this offset
+-- the pieces as lines, where the first has this number and begins at this offset
 abbrev pub lines_from : ℕ → ℕ → List Piece → List LineView
 lines_from n at [] = []
 lines_from n at (p ∷ ps) = record { no = n; start = at; bytes = line_bytes p } ∷ lines_from (n + 1) (at + taken p) ps

@@ -23,13 +23,13 @@ abbrev pub begins_word : List ℕ → Bool
 begins_word [] = false
 begins_word (b ∷ bs) = is_filled b
 
--- these words with one more byte before the first word, which then begins at this offset
+-- the words with one more byte before the first word, which then begins at this offset
 abbrev pub longer : ℕ → ℕ → List WordView → List WordView
 longer at b [] = record { start = at; bytes = b ∷ [] } ∷ []
 longer at b (w ∷ ws) = record { start = at; bytes = b ∷ w.bytes } ∷ ws
 
--- the words of bytes, the first of which is at this offset: a blank separates words; any other byte makes the word
--- right after it longer, or is a word by itself if none begins there
+-- the words of bytes, the first of which is at this offset: a blank separates words; any other byte is put in front of
+-- the word right after it, or is a word by itself if none begins there
 abbrev pub words_from : ℕ → List ℕ → List WordView
 words_from at [] = []
 words_from at (b ∷ bs) =
@@ -50,22 +50,22 @@ ends_word b = is_blank b || b == 35
 abbrev pub in_word : ℕ → Bool
 in_word b = not (ends_word b)
 
--- only bytes that may be in a word before a comment
+-- each byte may be in a word before a comment
 abbrev pub AllInWord : List ℕ → Type 0
 AllInWord bs = AllByRecursion (λ b. in_word b ≡ true) bs
 
--- nothing, or a byte that ends a word and what follows it
+-- the bytes are empty, or begin with a byte that ends a word
 abbrev pub EndsAtOnce : List ℕ → Type 0
 EndsAtOnce [] = ⊤
 EndsAtOnce (b ∷ bs) = in_word b ≡ false
 
 -- ---- the same without recursion over the bytes
 
--- only blanks
+-- each byte is a blank
 abbrev pub AllBlank : List ℕ → Type 0
 AllBlank bs = AllByRecursion (λ b. is_blank b ≡ true) bs
 
--- no blank
+-- no byte is a blank
 abbrev pub NoBlank : List ℕ → Type 0
 NoBlank bs = AllByRecursion (λ b. is_blank b ≡ false) bs
 

@@ -1,7 +1,7 @@
 //! Laws about lines and words, as contracts of functions that compute nothing.
 //!
-//! They follow from the definitions of docs/FORMAT.md, "Lines, words and numbers", for every text, and say them in
-//! other words: what a reader of a text relies on, and that no other way to cut the text meets it.
+//! They follow from the definitions of docs/FORMAT.md, "Lines, words and numbers", for every text. They say in other
+//! words what a reader of a text relies on, and that no other way to cut the text has these properties.
 
 ghost use Rattle.std.specs.List.{HoldsAt};
 ghost use Rattle.std.specs.Prelude.{◌≡◌, ◌≢◌, ◌+◌, ◌<◌, ◌≤◌, ◌↔◌, ◌∷◌, ◌++◌, [], true, false, ℕ, List, length, map};
@@ -12,15 +12,16 @@ ghost use Rattle.wq_text.specs.Lines.{Piece, LineView, pieces, line_bytes, lines
 ghost use Rattle.wq_text.specs.Comments.{before_comment, IsBeforeComment};
 ghost use Rattle.wq_text.specs.Words.{WordView, words_from, words_of, AreTheWords};
 
-/// A text has exactly one list of pieces that make it, hold no line feed and lack one only at the end.
+/// A text has exactly one list of pieces: they make up the text, none holds a line feed, and only the last may lack
+/// one.
 pub fn pieces_are_the_only_ones()
     ensures are { (text : List ℕ) → AreThePieces text (pieces text) }
     ensures only { (text : List ℕ) (others : List Piece)
         → AreThePieces text others → others ≡ pieces text }
 {}
 
-/// A line feed takes one carriage return directly before it, and no more: not a second, no other byte, and nothing
-/// where a last line ends without it.
+/// One carriage return directly before a line feed is dropped, and nothing else: no second one, no other byte, and none
+/// from a last line without a line feed.
 pub fn one_carriage_return_is_dropped()
     ensures dropped { (bs : List ℕ) → line_bytes (record { bytes = bs ++ (13 ∷ []); ended = true }) ≡ bs }
     ensures others_stay { (bs : List ℕ) (b : ℕ) → b ≢ 13
@@ -29,22 +30,23 @@ pub fn one_carriage_return_is_dropped()
     ensures last_line_stays { (bs : List ℕ) → line_bytes (record { bytes = bs; ended = false }) ≡ bs }
 {}
 
-/// Bytes have exactly one front that holds no `#` and is all of them or ends
-/// directly before a `#`: what comes before the comment.
+/// Bytes have exactly one prefix without `#` that is all of them or ends directly before a `#`: what comes before the
+/// comment.
 pub fn a_comment_begins_at_the_first_hash()
     ensures is { (bs : List ℕ) → IsBeforeComment bs (before_comment bs) }
     ensures only { (bs front : List ℕ) → IsBeforeComment bs front → front ≡ before_comment bs }
 {}
 
-/// Bytes have exactly one list of words: unbroken, as long as they can be, with only blanks around them.
+/// Bytes have exactly one list of words: no word holds a blank, each is as long as it can be, and only blanks are
+/// around them.
 pub fn words_are_the_only_ones()
     ensures are { (at : ℕ) (bs : List ℕ) → AreTheWords at bs (words_from at bs) }
     ensures only { (at : ℕ) (bs : List ℕ) (others : List WordView)
         → AreTheWords at bs others → others ≡ words_from at bs }
 {}
 
-/// The lines of a text are numbered from 1, are in it in order where they say, and are what its pieces hold, each
-/// without one carriage return directly before its line feed.
+/// The lines of a text are numbered from 1, stand in order at their offsets, and are what the pieces of the text hold,
+/// each without one carriage return directly before its line feed.
 pub fn lines_are_slices_of_the_text()
     ensures numbers { (text : List ℕ) → EachIndex (lines_of text)
         (λ k. HoldsAt (λ (line : LineView). line.no ≡ k + 1) (lines_of text) k) }
@@ -60,7 +62,7 @@ pub fn lines_are_slices_of_the_text()
         ≡ map line_bytes (pieces text) }
 {}
 
-/// The words of each line of a text are in the text where they say, within their line, in order and apart.
+/// The words of each line stand at their offsets in the text, within their line, in order, and apart from one another.
 pub fn words_are_slices_of_the_text()
     ensures slices { (text : List ℕ) → All
         (λ line. All
@@ -77,7 +79,7 @@ pub fn words_are_slices_of_the_text()
 {}
 
 /// The limits find no fault in exactly the texts that keep them. Otherwise the fault is that the text is too long or,
-/// in a text that isn't, the lowest line that is too long.
+/// if it isn't, the first line that is too long.
 pub fn limits_are_kept()
     ensures none { (max_text max_line : ℕ) (text : List ℕ)
         → (limit_fault max_text max_line text ≡ None)

@@ -1,12 +1,12 @@
-//! Texts as lines and words, and numbers in them: how they are read, without a copy, and how they are printed.
+//! Texts as lines and words, and numbers in them: read without a copy, and printed.
 //!
-//! What the layers above rely on: each line and each word is the slice of the text at its span, they come in
-//! order, and none is left out. A line leaves out its line feed and one CR directly before that, and the words of a
-//! line are those before its comment. The rules are those of "Lines, words and numbers" in docs/FORMAT.md, a format
-//! of this project's own. Going through the lines and words of a text takes time in its length.
+//! The layers above rely on this: each line and each word is the slice of the text at its span, they come in order, and
+//! none is left out. A line leaves out its line feed and one CR directly before it, and its words are those before its
+//! comment. The rules are those of "Lines, words and numbers" in docs/FORMAT.md, a format of this project's own. Going
+//! through the lines and words of a text takes linear time.
 //!
-//! Of what is printed (`put` .., by which certificates and the answers of the commands are printed): what each call
-//! adds is the text of these words, byte by byte. A word is any bytes. The caller decides what may be in it.
+//! `put` and the calls beside it print certificates and the answers of commands. Contracts say byte by byte what each
+//! call appends. A word may be any bytes; the caller decides which it may hold.
 #![tactic(auto)]
 
 pub mod laws;

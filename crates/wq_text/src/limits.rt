@@ -1,9 +1,9 @@
-//! The limit of lines: whether some line has more bytes, and which one is the first.
+//! The limit of a line's length: whether some line is longer, and which line is the first.
 //!
-//! Texts whose lines keep the limit aren't cut for that. From where a line begins, the search jumps
-//! past the last line feed among as many bytes as a line may have, and one more. No line that it
-//! jumps over is too long. So it looks at about one line for each jump, and at no byte more than
-//! three times. Where a line is too long, the lines are cut up to that one, to count them.
+//! A text whose lines keep the limit isn't cut into lines for this. From the start of a line, the search jumps past the
+//! last line feed among the next `limit + 1` bytes; no line that it jumps over is too long. So it looks at about one
+//! line per jump, and at each byte at most three times. Only if a line is too long are the lines up to it cut, to count
+//! them.
 
 ghost use Rattle.std.specs.Prelude.{◌≡◌, ◌<◌, ◌^◌, length, is_some, option_map};
 ghost use Rattle.wq_text.specs.Lines.{LineView, lines_of};
@@ -12,7 +12,7 @@ ghost use Rattle.wq_text.specs.Limits.{first_long_line};
 use crate::line::{Lines, first_cut, line_bytes};
 use memchr::memrchr;
 
-/// Whether some line has more bytes than the limit, including its comment.
+/// Whether some line has more than `limit` bytes, including its comment.
 fn has_long_line(text: &[u8], limit: u32) -> bool
     ensures { result ≡ is_some (first_long_line limit (lines_of text.now)) }
 {
@@ -34,7 +34,7 @@ fn has_long_line(text: &[u8], limit: u32) -> bool
     false
 }
 
-/// The number of the first line that has more bytes than the limit, including its comment.
+/// The number of the first line with more than `limit` bytes, including its comment.
 pub(crate) fn first_long_line(text: &[u8], limit: u32) -> Option<u32>
     requires { length text.now < 2 ^ 32 }
     ensures { result ≡ option_map (λ (line : LineView). line.no) (first_long_line limit (lines_of text.now)) }

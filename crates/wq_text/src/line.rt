@@ -2,10 +2,10 @@
 //!
 //! A line feed (LF, the byte 10) ends a line, and what comes after the last one is a line if it isn't empty. One
 //! carriage return (CR, the byte 13) directly before a line feed isn't part of the line. A comment begins at the first
-//! `#` of a line and reaches to the line's end. The rules are those of "Lines, words and numbers" in docs/FORMAT.md.
+//! `#` of a line and runs to the end of the line. The rules are those of "Lines, words and numbers" in docs/FORMAT.md.
 //!
-//! Going through the lines looks at each byte of the text once, sixteen at a time,
-//! and so does looking for the comment of a line, by `memchr`.
+//! Iterating over the lines looks at each byte of the text once, sixteen at a time. The comment of a line is found by
+//! `memchr`.
 
 ghost use Rattle.std.specs.Prelude.{◌≡◌, ◌+◌, ◌<◌, ◌≤◌, ◌^◌, ◌∷◌, ◌++◌, [], List, ℕ, length, take, find, nat_lt};
 ghost use Rattle.std.specs.Prelude.{option_map, IfSome, IfNone};
@@ -21,15 +21,15 @@ use crate::word::Words;
 use memchr::memchr;
 use std::marker::Model;
 
-/// A line of a text, without its line feed and without one CR directly before that. Contracts see its number, its
-/// offset and its bytes.
+/// A line of a text, without its line feed and one CR directly before it. Contracts see its number, its offset and its
+/// bytes.
 #[derive(Drop)]
 pub struct Line<'a> {
     no: u32,
     start: u32,
-    /// How many bytes it has.
+    /// The length of the line in bytes.
     len: u32,
-    /// The text from its first byte on.
+    /// The text from the first byte of the line on.
     text: &'a [u8],
 }
 
@@ -52,7 +52,7 @@ impl<'a> Line<'a> {
         self.no
     }
 
-    /// Where the line is in the text, without its line feed and one CR directly before that.
+    /// Where the line is in the text, without its line feed and one CR directly before it.
     pub fn span(&self) -> Span
         ensures start { result.start ≡ self.now.start }
         ensures end { result.end ≡ self.now.start + length self.now.bytes }
@@ -63,15 +63,15 @@ impl<'a> Line<'a> {
         }
     }
 
-    /// The bytes of the line with its comment, without its line feed and without one CR directly before that.
+    /// The bytes of the line with its comment, without its line feed and one CR directly before it.
     pub fn bytes(&self) -> &'a [u8]
         ensures { result.now ≡ self.now.bytes }
     {
         &self.text[..self.len as usize]
     }
 
-    /// The bytes of the line before its comment, which begins at the first `#` and reaches to the line's end. They are
-    /// all bytes where there is no `#`.
+    /// The bytes of the line before its comment, which runs from the first `#` to the end of the line. If there is no
+    /// `#`, these are all bytes.
     pub fn content(&self) -> &'a [u8]
         ensures { result.now ≡ before_comment self.now.bytes }
     {
@@ -89,8 +89,8 @@ impl<'a> Line<'a> {
         Words::of(self.start, self.text, self.len)
     }
 
-    /// The words after the first, if the line begins with this word and a space.
-    /// There is no answer otherwise, even if the first word is this one.
+    /// The words after the first, if the line begins with `word` and a space: for `item`, the word `a` of `item a # x`.
+    /// Otherwise `None`, even if the first word is `word`.
     pub fn words_after(&self, word: &[u8]) -> Option<Words<'a>>
         requires some { 0 < length word.now }
         requires unbroken { AllInWord word.now }
@@ -117,7 +117,7 @@ pub(crate) struct Cut<'a> {
     pub(crate) rest: &'a [u8],
 }
 
-/// Cuts bytes after their first line feed.
+/// Cuts bytes after the first line feed.
 pub(crate) fn first_cut<'a>(bytes: &'a [u8]) -> Cut<'a>
     requires { 0 < length bytes.now }
     ensures first { pieces bytes.now
@@ -141,7 +141,7 @@ pub(crate) fn first_cut<'a>(bytes: &'a [u8]) -> Cut<'a>
     }
 }
 
-/// The bytes of the line that a piece makes: those of the piece, without one CR directly before its line feed.
+/// The bytes of the line that a piece makes: the piece without one CR directly before its line feed.
 pub(crate) fn line_bytes(piece: &[u8], ended: bool) -> &[u8]
     ensures bytes { result.now ≡ line_bytes (record { bytes = piece.now; ended = ended }) }
     ensures no_longer { length result.now ≤ length piece.now }
@@ -156,7 +156,7 @@ pub(crate) fn line_bytes(piece: &[u8], ended: bool) -> &[u8]
 /// The lines of a text, in order. Contracts see the list of the lines that are left.
 #[derive(Drop)]
 pub struct Lines<'a> {
-    /// How many lines were handed out.
+    /// How many lines have been yielded.
     before: u32,
     start: u32,
     rest: &'a [u8],
@@ -186,7 +186,7 @@ impl<'a> Lines<'a> {
         }
     }
 
-    /// The same lines again.
+    /// A second iterator over the lines that are left.
     pub fn again(&self) -> Lines<'a>
         ensures { result ≡ self.now }
     {
@@ -197,7 +197,7 @@ impl<'a> Lines<'a> {
         }
     }
 
-    /// The number of the first line that has more bytes than the limit, including its comment.
+    /// The number of the first line with more than `limit` bytes, including its comment.
     pub(crate) fn first_longer_than(self, limit: u32) -> Option<u32>
         ensures { result ≡ option_map (λ (line : LineView). line.no) (first_long_line limit self.entry) }
     {

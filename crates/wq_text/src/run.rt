@@ -1,7 +1,7 @@
 //! Runs of bytes of one kind, sixteen at a time: bytes greater than `#`, and bytes other than a line feed.
 //!
 //! All bytes of a name are greater than `#`, and so are those of most words. A space, a TAB, a line feed and the `#`
-//! itself aren't (docs/FORMAT.md, "Lines, words and numbers"). A run of n bytes takes time in n / 16.
+//! itself aren't (docs/FORMAT.md, "Lines, words and numbers"). A run of n bytes takes n / 16 steps.
 
 ghost use Rattle.std.specs.Prelude.{◌≡◌, ◌+◌, ◌<◌, ◌≤◌, ◌==◌, ℕ, true, false, nat_le, length, slice_index};
 ghost use Rattle.memchr.specs.Find.{IsFirstByte, is_byte};
@@ -9,10 +9,10 @@ ghost use Rattle.wq_text.specs.Runs.{first_set};
 
 use std::simd::prelude::*;
 
-/// How many bytes a vector has.
+/// How many bytes a vector holds.
 const LANES: usize = 16;
 
-/// The place of the lowest bit that is set, or 16 if none is.
+/// The index of the lowest bit that is set, or 16 if none is.
 fn first_set(mask: u64) -> usize
     ensures { result ≡ first_set mask }
 {
@@ -23,7 +23,7 @@ fn first_set(mask: u64) -> usize
     }
 }
 
-/// How many of the sixteen bytes from this place on come before the first that isn't greater than `#`.
+/// How many of the sixteen bytes from index `at` on come before the first that isn't greater than `#`.
 fn greater_of_sixteen(text: &[u8], at: usize) -> usize
     requires { at + 16 ≤ length text.now }
     ensures short { result ≤ 16 }
@@ -33,7 +33,7 @@ fn greater_of_sixteen(text: &[u8], at: usize) -> usize
     first_set(others.to_bitmask())
 }
 
-/// How many of the sixteen bytes from this place on come before the first line feed.
+/// How many of the sixteen bytes from index `at` on come before the first line feed.
 fn feedless_of_sixteen(text: &[u8], at: usize) -> usize
     requires { at + 16 ≤ length text.now }
     ensures short { result ≤ 16 }
@@ -44,8 +44,8 @@ fn feedless_of_sixteen(text: &[u8], at: usize) -> usize
     first_set(feeds.to_bitmask())
 }
 
-/// So many of the bytes from this place on, at least, are greater than `#`. Where
-/// the text ends within sixteen bytes, none is looked at.
+/// A lower bound of how many bytes from index `at` on are greater than `#`: at most 16, and 0 if fewer than sixteen
+/// bytes are left.
 pub(crate) fn greater_at(text: &[u8], at: usize) -> usize
     requires { at ≤ length text.now }
     ensures within { at + result ≤ length text.now }
@@ -57,7 +57,7 @@ pub(crate) fn greater_at(text: &[u8], at: usize) -> usize
     greater_of_sixteen(text, at)
 }
 
-/// The place of the first line feed.
+/// The index of the first line feed.
 pub(crate) fn first_feed(text: &[u8]) -> Option<usize>
     ensures { IsFirstByte (is_byte 10) text.now result }
 {

@@ -1,7 +1,7 @@
 //! Spans: where something is in a text.
 //!
-//! The offsets are those of the bytes of the text, from 0, as in "Lines, words and numbers" in docs/FORMAT.md. Making
-//! and reading a span takes constant time.
+//! Offsets count the bytes of the text from 0, as in "Lines, words and numbers" in docs/FORMAT.md. Making and reading a
+//! span takes constant time.
 
 /// A range of bytes of a text, from `start` up to but not including `end`.
 #[derive(Clone, Copy, Debug, PartialEq, Eq)]

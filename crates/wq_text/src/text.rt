@@ -1,8 +1,8 @@
 //! Texts within limits, and how a text is refused.
 //!
 //! The caller sets the limits: those of a declaration aren't those of a certificate (docs/FORMAT.md, "Limits"). Making
-//! a text takes time in its length at most, and much less where its lines are short compared with their limit. Handing
-//! it out, or a part of it, takes constant time.
+//! a text takes at most linear time, and much less if its lines are short compared with their limit. Handing out the
+//! text or a part of it takes constant time.
 
 ghost use Rattle.std.specs.Prelude.{◌≡◌, ◌≤◌, List, ℕ, length, slice_range, IfErr, IfOk, None, Some};
 ghost use Rattle.wq_text.specs.Lines.{lines_of};
@@ -21,7 +21,7 @@ pub enum TextError {
     #[error("the text is too long")]
     TextTooLong,
     /// A line has more bytes than the limit of a line (2, with its line). Its comment counts; its line feed and one CR
-    /// directly before that don't.
+    /// directly before it don't.
     #[error("line {line} is too long")]
     LineTooLong { line: u32 },
 }
@@ -48,7 +48,7 @@ impl TextError {
     }
 }
 
-/// Bytes that are cut into lines. Contracts see the bytes.
+/// Bytes that can be cut into lines. Contracts see the bytes.
 #[derive(Drop)]
 pub struct Text<'a> {
     bytes: &'a [u8],
@@ -66,10 +66,9 @@ impl<'a> Model for Text<'a> {
 
 impl<'a> Text<'a> {
     /// Makes a text of the bytes: at most `max_text` bytes, with lines of at most `max_line` bytes each. The comment of
-    /// a line counts; its line feed and one CR directly before that don't.
+    /// a line counts; its line feed and one CR directly before it don't.
     ///
-    /// The error is the first fault: `TextTooLong` (1), or else `LineTooLong` (2)
-    /// with the lowest line that is too long.
+    /// The error is the first fault: `TextTooLong` (1), or else `LineTooLong` (2) with the first line that is too long.
     pub fn new(text: &'a [u8], max_text: u32, max_line: u32) -> Result<Text<'a>, TextError>
         ensures text { IfOk result (λ t. (t ≡ text.now) × (limit_fault max_text max_line text.now ≡ None)) }
         ensures fault { IfErr result (λ e. limit_fault max_text max_line text.now ≡ Some e) }
@@ -83,14 +82,14 @@ impl<'a> Text<'a> {
         }
     }
 
-    /// The same text again.
+    /// The same text, borrowed again.
     pub fn again(&self) -> Text<'a>
         ensures { result ≡ self.now }
     {
         Text { bytes: self.bytes }
     }
 
-    /// The bytes.
+    /// All bytes of the text.
     pub fn bytes(&self) -> &'a [u8]
         ensures { result.now ≡ self.now }
     {
@@ -106,7 +105,7 @@ impl<'a> Text<'a> {
         &self.bytes[span.start as usize..span.end as usize]
     }
 
-    /// The lines, in order.
+    /// The lines of the text, in order.
     pub fn lines(&self) -> Lines<'a>
         ensures { result ≡ lines_of self.now }
     {

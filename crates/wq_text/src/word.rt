@@ -1,8 +1,8 @@
 //! Words: the longest runs of bytes other than space and TAB.
 //!
-//! The rule is that of "Lines, words and numbers" in docs/FORMAT.md. A `#` ends the word
-//! before it and all words of a line, so there is no search for the comment before the words
-//! are cut. Blanks are looked at one by one, and the bytes of a word sixteen at a time.
+//! The rule is that of "Lines, words and numbers" in docs/FORMAT.md. A `#` ends the word before it and the words of its
+//! line, so the comment isn't searched for first. Blanks are looked at one by one, the bytes of a word sixteen at a
+//! time.
 
 ghost use Rattle.std.specs.Prelude.{◌≡◌, ◌+◌, ◌<◌, ◌≤◌, ◌^◌, ◌⊎◌, true, [], ◌++◌, length, take};
 ghost use Rattle.std.specs.List.{prefix_len};
@@ -51,7 +51,7 @@ impl<'a> Word<'a> {
         }
     }
 
-    /// The same word again.
+    /// The same word, borrowed again.
     pub fn again(&self) -> Word<'a>
         ensures { result ≡ self.now }
     {
@@ -62,7 +62,7 @@ impl<'a> Word<'a> {
     }
 }
 
-/// Whether a byte separates words: a space or a TAB. Most bytes of a line are greater, which one comparison tells.
+/// Whether a byte separates words: a space or a TAB. Most bytes of a line are greater, so one comparison tells.
 fn is_blank(byte: u8) -> bool
     ensures { result ≡ is_blank byte }
 {
@@ -70,7 +70,7 @@ fn is_blank(byte: u8) -> bool
 }
 
 /// Whether a byte may be in a word: it is neither a blank nor the `#` of a comment. Most bytes of a line are greater
-/// than these, which one comparison tells.
+/// than these, so one comparison tells.
 fn in_word(byte: u8) -> bool
     ensures { result ≡ in_word byte }
 {
@@ -89,8 +89,8 @@ fn blanks_in_front(bytes: &[u8]) -> usize
     bytes.len()
 }
 
-/// How many of the first `left` bytes of a text may be in a word, before one that may not. Sixteen are looked at at a
-/// time, also past these, where what is found doesn't count.
+/// The length of the word at the front of the first `left` bytes of a text. It looks at sixteen bytes at a time, so it
+/// may look past `left`; what it finds there doesn't count.
 fn word_in_front(text: &[u8], left: usize) -> usize
     requires { left ≤ length text.now }
     ensures { result ≡ prefix_len in_word (take left text.now) }
@@ -119,8 +119,8 @@ fn split_blanks(bytes: &[u8]) -> (&[u8], &[u8])
     bytes.split_at(len)
 }
 
-/// Separates the word at the front of these bytes from what follows it. There is none if the comment or the end
-/// comes at once. The text begins with these bytes.
+/// Separates the word at the front of `bytes` from what follows it. The word is empty if a comment or the end comes at
+/// once. `text` begins with `bytes`.
 fn split_word<'a>(bytes: &'a [u8], text: &[u8]) -> (&'a [u8], &'a [u8])
     requires { bytes.now ≡ take (length bytes.now) text.now }
     ensures whole { bytes.now ≡ result.0.now ++ result.1.now }
@@ -137,7 +137,7 @@ pub struct Words<'a> {
     start: u32,
     /// How many bytes of the line are left.
     left: u32,
-    /// The text from there on: those bytes, and what follows the line.
+    /// The text from the first of these bytes on, including what follows the line.
     text: &'a [u8],
 }
 
@@ -154,7 +154,7 @@ impl<'a> Model for Words<'a> {
 }
 
 impl<'a> Words<'a> {
-    /// The words of the first bytes of a text, so many, before their comment. The first of the bytes is at this offset.
+    /// The words of the first `left` bytes of `text`, before their comment. The first byte is at offset `start`.
     pub(crate) fn of(start: u32, text: &'a [u8], left: u32) -> Words<'a>
         requires within { left ≤ length text.now }
         requires few { start + left < 2 ^ 32 }
@@ -163,7 +163,7 @@ impl<'a> Words<'a> {
         Words { start, left, text }
     }
 
-    /// The same words again. There are fewer than 2^32.
+    /// A second iterator over the words that are left. There are fewer than 2^32.
     pub fn again(&self) -> Words<'a>
         ensures same { result ≡ self.now }
         ensures few { length self.now < 2 ^ 32 }

@@ -1,15 +1,14 @@
 use Rattle.std.proofs.Common.{vec_len, sym, ◌∙◌}
 use Rattle.wq_held.specs.Locked.{slots}
-use Rattle.wq_held.proofs.Closings.{none_left, IsGathered-none, IsGathered-more, few_gathered, SumsSeats-gathered}
-use Rattle.wq_held.proofs.Closings.{total-gathered}
+use Rattle.wq_held.proofs.Closings.{none_left, IsGathered-none, IsGathered-more, few_gathered, all-gathered}
 use Rattle.wq_held.proofs.closing.gather.Goals as goal
 
 pub loop-seat-init : goal.loop-seat-init
 loop-seat-init g c =
     let rest = c.args.rest.now in
     IsGathered-none (slots g.N.Naming.wiring) g.N.Ledger.parts c.args.ledger.now.total c.args.seats.items
-    c.args.sums.now rest.parts rest.amount (vec_len c.args.seats) c.requires.empty c.requires.parts
-    c.requires.amount
+    c.args.sums.now rest.parts rest.amount (vec_len c.args.seats) c.requires.empty c.requires.parts_are
+    c.requires.no_amount
 
 pub add-requires-clause-items : goal.add-requires-clause-items
 add-requires-clause-items g c = c.loop-seat.invariant.a_count_each ∙ sym c.seat.invariant.a_count_each
@@ -27,15 +26,9 @@ loop-seat-preserved g c =
     c.add.ensures.length (c.audit.ensures.parts ∙ c.merge.ensures.parts)
     (c.audit.ensures.amount ∙ c.merge.ensures.amount) c.audit.ensures.total
 
-pub returns-clause-sums : goal.returns-clause-sums
-returns-clause-sums g c =
+pub returns : goal.returns
+returns g c =
     let left = c.loop-seat.seats in
-    SumsSeats-gathered c.loop-seat.invariant (none_left left.items c.pop.new.self.items (vec_len left)
-    c.in_default.ensures.cases.0 c.in_default.ensures.items c.in_default.ensures.rest)
-
-pub returns-clause-length : goal.returns-clause-length
-returns-clause-length g c = c.loop-seat.invariant.a_count_each
-
-pub returns-clause-total : goal.returns-clause-total
-returns-clause-total g c =
-    total-gathered c.loop-seat.invariant c.in_default.ensures.cases.0 c.audit-2.ensures.whole
+    all-gathered c.loop-seat.invariant (none_left left.items c.pop.new.self.items (vec_len left)
+    c.in_default.ensures.cases.0 c.in_default.ensures.items c.in_default.ensures.rest) c.in_default.ensures.cases.0
+    c.audit-2.ensures.whole

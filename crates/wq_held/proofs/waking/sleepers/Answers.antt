@@ -6,5 +6,5 @@ use Rattle.wq_held.proofs.waking.sleepers.Goals as goal
 
 pub subject_of-requires : goal.subject_of-requires
 subject_of-requires g c =
-    awaited-there c.args.book.now c.requires.book c.in-Over.field-0 c.in-Over.flush
-    (subst (λ (call : Call). IsEarly c.args.book.now call) c.in-Over.is c.requires.early)
+    awaited-there c.args.book.now c.requires.0 c.in-Over.field-0 c.in-Over.flush
+    (subst (λ (call : Call). IsEarly c.args.book.now call) c.in-Over.is c.requires.1)

@@ -3,7 +3,7 @@ use Rattle.std.specs.Prelude.{◌↔◌, ◌⊎◌, Contains, AllPairs}
 use Rattle.std.proofs.lemmas.Bool.{cases_eq, false≢true}
 use Rattle.wq_repair.specs.Marks.{IsMarked}
 use Rattle.wq_repair.proofs.Marks.{list-one_more, list-once_more}
-use Rattle.wq_repair.proofs.StartMade.{IsMarked-below}
+use Rattle.wq_repair.proofs.Marks.{IsMarked-below}
 use Rattle.wq_repair.proofs.listing.listed.Goals as goal
 
 pub loop-number-preserved-then-not-is_marked : goal.loop-number-preserved-then-not-is_marked

@@ -4,7 +4,7 @@ use Rattle.std.proofs.lemmas.Bool.{false≢true}
 use Rattle.wq_repair.specs.Changes.{IsRescued}
 use Rattle.wq_repair.specs.Marks.{IsMarked}
 use Rattle.wq_repair.specs.Together.{AreListed}
-use Rattle.wq_repair.proofs.StartMade.{IsMarked-below}
+use Rattle.wq_repair.proofs.Marks.{IsMarked-below}
 use Rattle.wq_repair.proofs.PlacedSteps.{AreListed-skip, AreListed-next}
 use Rattle.wq_repair.proofs.LaneReads.{bare-read}
 use Rattle.wq_repair.proofs.placing.rescued_of.Goals as goal

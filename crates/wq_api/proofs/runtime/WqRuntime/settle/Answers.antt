@@ -1,8 +1,8 @@
 use Rattle.std.proofs.Common.{[]}
 use Rattle.wq_api.proofs.runtime.WqRuntime.settle.Goals as goal
 
-pub returns-clause-took : goal.returns-clause-took
-returns-clause-took g c =
+pub returns : goal.returns
+returns g c =
     let turn = c.call-answered.ensures.3 in (
       turn.1.0,
       record {
@@ -10,8 +10,6 @@ returns-clause-took g c =
         new = c.call-answered.ensures.1.book;
         holds = turn.0;
         answers = (turn.1.1 []).answers;
+        settled = (turn.1.1 []).settled;
       },
     )
-
-pub returns-clause-settled : goal.returns-clause-settled
-returns-clause-settled g c = (c.call-answered.ensures.3.1.1 []).settled

@@ -1,6 +1,7 @@
 use Rattle.std.proofs.Common.{◌≡◌, ◌↔◌, ℕ, List, sym, ap, subst, ◌∙◌, IsTrue, sum}
 use Rattle.wq_history.proofs.Words.{HasUnfinished, all_asks_waiting, state}
-use Rattle.wq_held.specs.Locked.{HeldView}
+use Rattle.wq_held.specs.Locked.{HeldView, slots}
+use Rattle.wq_held.specs.Closing.{AreGathered}
 use Rattle.wq_held.proofs.Closings.{IsClosed-held}
 use Rattle.wq_held.proofs.held.Held.closed.Goals as goal
 
@@ -11,6 +12,6 @@ returns-clause-closed g c =
     c.self.invariant c.legal.ensures
     (subst (λ (v : HeldView). ¬ HasUnfinished (state v.book)) (sym c.self.view_is) c.requires.idle)
     (subst (λ (v : HeldView). all_asks_waiting v.book.rows ≡ 0) (sym c.self.view_is) c.requires.nobody_waits)
-    c.gather.ensures.sums c.gather.ensures.length
-    (c.gather.ensures.total ∙ c.tallies.invariant.total_is ∙ ap sum c.tallies.view_is)
+    (subst (AreGathered (slots g.N.Naming.wiring) c.args.seats.items c.gather.new.sums)
+    (c.tallies.invariant.total_is ∙ ap sum c.tallies.view_is) c.gather.ensures)
     (subst (λ (ts : List ℕ). IsTrue c.is_same-agree.result ↔ (c.gather.new.sums ≡ ts)) c.tallies.view_is c.is_same-agree.ensures)

@@ -1,0 +1,256 @@
+//! Whether a choice of groups that stay on their lanes is right: in one pass along the waits.
+//!
+//! The vertices are groups: a group that stays is at the home of its lane, which is one of those that stay there, and
+//! each other group is alone. A choice is right if ranks fall along all waits, those that stay on a lane have the same
+//! rank, and each group that could stay and doesn't reaches the home of its lane, or is reached by it (`near`): with it
+//! at the home that is a circle.
+
+ghost use Rattle.std.specs.Prelude.{◌≡◌, ◌<◌, ◌≤◌, ℕ, Bool, List, length, slice_index, IfOk, IsTrue};
+ghost use Rattle.std.specs.List.{All, Any};
+ghost use Rattle.wq_groups.specs.Assignment.{group_lane};
+ghost use Rattle.wq_repair.specs.Marks.{IsMarked};
+ghost use Rattle.wq_repair.specs.Near.{IsAsked, LeadEitherWay};
+ghost use Rattle.wq_repair.specs.Settled.{IsHomeOf, AreHomes, AreVertices, HaveRanks, AreInVain, IsSettled, IsWithin};
+
+use crate::near::near_homes;
+use crate::scope::but_not;
+use std::alloc::{AllocError, Allocator};
+use std::marker::Model;
+use wq_graph::{WaitArc, WaitGraph};
+use wq_groups::{Assignment, GroupId};
+
+/// Ranks are below this.
+pub(crate) const RANKS: u16 = 4096;
+
+/// Which groups stay on their lanes, and a rank for each group.
+#[derive(Drop)]
+pub(crate) struct Settled<A: Allocator> {
+    pub(crate) stays: Vec<bool, A>,
+    pub(crate) ranks: Vec<u16, A>,
+}
+
+impl<A: Allocator> Model for Settled<A> {
+    ghost use Rattle.wq_repair.specs.Settled.{Settled as SettledView};
+
+    ghost Value = { SettledView };
+
+    ghost view = { λ s. record { stays = s.stays.items; ranks = s.ranks.items } };
+}
+
+/// For each lane one of the groups that stay on it, if there is one.
+pub(crate) fn homes_of<A: Allocator + Copy>(
+    alloc: A,
+    assignment: &Assignment<A>,
+    stays: &[bool],
+) -> Result<Vec<Option<u16>, A>, AllocError>
+    requires one_each { length stays.now ≡ length assignment.now.lane_of_group }
+    requires few { length stays.now ≤ 4096 }
+    ensures { IfOk result (λ homes. AreHomes assignment.now stays.now homes.items) }
+{
+    let _lanes = assignment.lanes();
+    let mut homes: Vec<Option<u16>, A> = vec![in alloc; None; usize::from(assignment.lanes())]?;
+    for (group, does_stay) in stays.iter().enumerate() {
+        if !*does_stay {
+            continue;
+        }
+        let lane = assignment.lane(GroupId::new(group as u16)).get();
+        homes[usize::from(lane)] = Some(group as u16);
+    }
+    Ok(homes)
+}
+
+/// The vertex of each group: the home of its lane if it stays, and else the group itself.
+pub(crate) fn vertices_of<A: Allocator + Copy>(
+    alloc: A,
+    assignment: &Assignment<A>,
+    stays: &[bool],
+    homes: &[Option<u16>],
+) -> Result<Vec<u16, A>, AllocError>
+    requires one_each { length stays.now ≡ length assignment.now.lane_of_group }
+    requires few { length stays.now ≤ 4096 }
+    requires homes { AreHomes assignment.now stays.now homes.now }
+    ensures { IfOk result (λ at. AreVertices assignment.now stays.now homes.now at.items) }
+{
+    let _lanes = assignment.lanes();
+    let mut vertices = Vec::with_capacity(alloc, stays.len())?;
+    for (group, does_stay) in stays.iter().enumerate() {
+        if !*does_stay {
+            vertices.push(group as u16)?;
+            continue;
+        }
+        let lane = assignment.lane(GroupId::new(group as u16)).get();
+        let home = homes[usize::from(lane)];
+        vertices.push(home.unwrap())?;
+    }
+    Ok(vertices)
+}
+
+/// Whether a rank is above those of the groups to which these arcs lead.
+fn is_above(ranks: &[u16], arcs: &[WaitArc], rank: u16) -> bool
+    requires { All (λ a. a.head < length ranks.now) arcs.now }
+    ensures { IsTrue result → (h : ℕ) → Any (λ a. a.head ≡ h) arcs.now → slice_index ranks.now h < rank }
+{
+    for arc in arcs {
+        if rank <= ranks[usize::from(arc.head)] {
+            return false;
+        }
+    }
+    true
+}
+
+/// Whether ranks fall along all waits, are low, and are those of the vertices of their groups.
+fn have_ranks<A: Allocator + Copy>(graph: &WaitGraph<A>, vertices: &[u16], ranks: &[u16]) -> bool
+    requires one_each { length vertices.now ≡ length graph.now }
+    requires within { All (λ v. v < length graph.now) vertices.now }
+    ensures { IsTrue result → HaveRanks graph.now vertices.now ranks.now }
+{
+    let groups = graph.vertices();
+    if ranks.len() != usize::from(groups) {
+        return false;
+    }
+    for group in 0..groups {
+        let rank = ranks[usize::from(group)];
+        let vertex = vertices[usize::from(group)];
+        if RANKS <= rank || ranks[usize::from(vertex)] != rank {
+            return false;
+        }
+        if !is_above(ranks, graph.arcs(group), rank) {
+            return false;
+        }
+    }
+    true
+}
+
+/// For each of these groups the home of its lane, if it has one.
+fn homes_asked<A: Allocator + Copy>(
+    alloc: A,
+    assignment: &Assignment<A>,
+    groups: &[bool],
+    homes: &[Option<u16>],
+) -> Result<Vec<Option<u16>, A>, AllocError>
+    requires one_each { length groups.now ≡ length assignment.now.lane_of_group }
+    requires few { length groups.now ≤ 4096 }
+    requires homes { length homes.now ≡ assignment.now.lanes }
+    ensures { IfOk result (λ asked. (g v : ℕ) → IsAsked asked.items g v
+        → IsHomeOf homes.now (group_lane assignment.now g) v) }
+{
+    let _lanes = assignment.lanes();
+    let mut asked = Vec::with_capacity(alloc, groups.len())?;
+    for (group, is_one) in groups.iter().enumerate() {
+        if !*is_one {
+            asked.push(None)?;
+            continue;
+        }
+        let lane = assignment.lane(GroupId::new(group as u16)).get();
+        asked.push(homes[usize::from(lane)])?;
+    }
+    Ok(asked)
+}
+
+/// Whether all of the one list are of the other, too.
+fn are_among(some: &[bool], all: &[bool]) -> bool
+    requires { length all.now ≡ length some.now }
+    ensures { IsTrue result → (g : ℕ) → IsMarked some.now g → IsMarked all.now g }
+{
+    for (group, is_one) in some.iter().enumerate() {
+        if *is_one && !all[group] {
+            return false;
+        }
+    }
+    true
+}
+
+/// Whether each of these groups reaches the home of its lane, or is reached by it.
+fn are_in_vain<A: Allocator + Copy>(
+    alloc: A,
+    graph: &WaitGraph<A>,
+    assignment: &Assignment<A>,
+    homes: &[Option<u16>],
+    vertices: &[u16],
+    ranks: &[u16],
+    groups: &[bool],
+) -> Result<bool, AllocError>
+    requires assigned { length assignment.now.lane_of_group ≡ length graph.now }
+    requires homes { length homes.now ≡ assignment.now.lanes }
+    requires one_each { length vertices.now ≡ length graph.now }
+    requires within { All (λ v. v < length graph.now) vertices.now }
+    requires ranks { length ranks.now ≡ length graph.now }
+    requires groups { length groups.now ≡ length graph.now }
+    ensures { IfOk result (λ are. IsTrue are →
+        AreInVain graph.now assignment.now homes.now vertices.now groups.now) }
+{
+    // There are at most 4,096 groups.
+    let _groups = graph.vertices();
+    let asked = homes_asked(alloc, assignment, groups, homes)?;
+    let near = near_homes(alloc, graph, vertices, ranks, asked.as_slice())?;
+    Ok(are_among(groups, near.as_slice()))
+}
+
+/// Whether a choice is right, where `homes` has the home of each lane and `vertices` the vertex of each group.
+fn is_right<A: Allocator + Copy>(
+    alloc: A,
+    graph: &WaitGraph<A>,
+    assignment: &Assignment<A>,
+    tried: &[bool],
+    stays: &[bool],
+    ranks: &[u16],
+    homes: &[Option<u16>],
+    vertices: &[u16],
+) -> Result<bool, AllocError>
+    requires assigned { length assignment.now.lane_of_group ≡ length graph.now }
+    requires tried { length tried.now ≡ length graph.now }
+    requires stays { length stays.now ≡ length graph.now }
+    requires homes { AreHomes assignment.now stays.now homes.now }
+    requires vertices { AreVertices assignment.now stays.now homes.now vertices.now }
+    ensures { IfOk result (λ is. IsTrue is → (fixed : List Bool) → IsWithin fixed tried.now stays.now →
+        IsSettled graph.now assignment.now fixed tried.now (length graph.now)
+        (record { stays = stays.now; ranks = ranks.now })) }
+{
+    // There are at most 4,096 groups.
+    let _groups = graph.vertices();
+    if !have_ranks(graph, vertices, ranks) {
+        return Ok(false);
+    }
+    let vain = but_not(alloc, tried, stays)?;
+    are_in_vain(
+        alloc,
+        graph,
+        assignment,
+        homes,
+        vertices,
+        ranks,
+        vain.as_slice(),
+    )
+}
+
+/// Whether a choice is right: no group that may stay (`tried`) and doesn't could, and ranks fall along all waits.
+pub(crate) fn is_settled<A: Allocator + Copy>(
+    alloc: A,
+    graph: &WaitGraph<A>,
+    assignment: &Assignment<A>,
+    tried: &[bool],
+    stays: &[bool],
+    ranks: &[u16],
+) -> Result<bool, AllocError>
+    requires assigned { length assignment.now.lane_of_group ≡ length graph.now }
+    requires tried { length tried.now ≡ length graph.now }
+    requires stays { length stays.now ≡ length graph.now }
+    ensures { IfOk result (λ is. IsTrue is → (fixed : List Bool) → IsWithin fixed tried.now stays.now →
+        IsSettled graph.now assignment.now fixed tried.now (length graph.now)
+        (record { stays = stays.now; ranks = ranks.now })) }
+{
+    // There are at most 4,096 groups.
+    let _groups = graph.vertices();
+    let homes = homes_of(alloc, assignment, stays)?;
+    let vertices = vertices_of(alloc, assignment, stays, homes.as_slice())?;
+    is_right(
+        alloc,
+        graph,
+        assignment,
+        tried,
+        stays,
+        ranks,
+        homes.as_slice(),
+        vertices.as_slice(),
+    )
+}
