@@ -29,7 +29,7 @@ abbrev pub AreSafeAnyway : List ℕ → List ℕ → Type 0
 AreSafeAnyway declared lanes =
     (s : Named) × (ws : Workqueues) × SayBoth declared lanes s ws × IsSafeAnyway (wiring_of s.declared ws)
 
--- the text has these steps, and says that these unsure flushes are kept; none if it has no unsure part
+-- the text has these steps, and says that these unsure flushes are kept; none, if the text has no unsure part
 abbrev pub IsRunText : Named → List ℕ → List ℕ → List Step → Type 0
 IsRunText s out kept steps =
     (part : Option (List ℕ)) × (made_of s.names s.declared.waits out ≡ Ok (part, steps)) × (kept ≡ unwrap_or part [])

@@ -1,4 +1,4 @@
-//! What is printed where a text is refused.
+//! What is printed if a text is refused.
 //!
 //! It takes constant time.
 

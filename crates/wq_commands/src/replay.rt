@@ -51,13 +51,13 @@ impl<A: Allocator + Copy> Command<A> for ReplayCommand {
     }
 }
 
-/// Reads a declaration, an assignment and a run to their ends, makes the steps of
-/// the run, and writes how it ends: `open`, `deadlock`, `stuck` or `not lawful N`.
-/// Where one of the three is refused, it writes the refusal of the first that is.
+/// Reads a declaration, an assignment and a run to their ends, makes the steps of the run, and writes how it ends:
+/// `open`, `deadlock`, `stuck` or `not lawful N`. If one of the three is refused, it writes the refusal of the first
+/// that is.
 ///
 /// At most 1,048,577 bytes of the declaration and 8,388,609 of each of the others are read, in at most as many calls.
-/// Each isn't touched until those before it have been read to their ends. The errors are `Fault::Read`, where a read
-/// failed, `Fault::Memory`, where memory ran out, and `Fault::Write`, where a write failed or took no byte. After
+/// Each isn't touched until those before it have been read to their ends. The errors are `Fault::Read` if a read
+/// failed, `Fault::Memory` if memory ran out, and `Fault::Write` if a write failed or took no byte. After
 /// `Fault::Write` a prefix of the answer is written, and after the others nothing.
 ///
 /// The names are hashed with `seed`. No answer depends on it.
