@@ -73,7 +73,7 @@ fn put_line<A: Allocator + Copy>(
 }
 
 /// The text of workqueues of declared groups: a line for each, with its items in the order of their declaration, and
-/// with its name, where it has one among these.
+/// with its name, if it has one.
 ///
 /// The only error is out of memory (20).
 pub fn assignment_text<A: Allocator + Copy>(

@@ -45,7 +45,7 @@ fn run_of_groups<A: Allocator + Copy>(
         IsDeadlock (declared_waits declared.now) (own_lanes declared.now.partition.groups) steps.items) }
 {
     let run = circle_run(alloc, &declared.table, &declared.groups)?;
-    // `None` would say that these workqueues are safe.
+    // `None` would mean that these workqueues are safe, and they aren't.
     Ok(run.unwrap())
 }
 
