@@ -63,7 +63,7 @@ fn group_to_behind_words<A: Allocator + Copy>(
     messages::group_waits_for_behind(alloc, &item, &target, &next)
 }
 
-/// Who waits, and for what.
+/// Which group waits, and for what.
 pub(crate) fn group_wait_words<A: Allocator + Copy>(
     alloc: A,
     declared: &Declaration<'_, A>,
