@@ -24,7 +24,7 @@ pub struct Hanging<A: Allocator> {
     pub answer: Answer<A>,
 }
 
-/// The text of the run of these waits: with the unsure flushes among them, if a flush is unsure.
+/// The text of the run of these waits. If a flush is unsure, the unsure flushes among the waits come first.
 fn hang_text<A: Allocator + Copy>(
     alloc: A,
     assigned: &Assigned<'_, '_, A>,
