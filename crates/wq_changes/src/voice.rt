@@ -26,8 +26,8 @@ pub struct RepairVoice<'n> {
     pub files: FileNames<'n>,
 }
 
-/// What is said of what `repair` found in the text of the assignment, where the items with these names may move, or all
-/// if there is none.
+/// What is said of what `repair` found in the text of the assignment, if the items with these names may move, or all
+/// items, if no name is given.
 fn say_read<A: Allocator + Copy>(
     alloc: A,
     files: &FileNames<'_>,
