@@ -31,7 +31,7 @@ use wq_groups::{Assignment, Declaration};
 use wq_items::ItemTable;
 use wq_plan::{Answer, solve};
 
-/// How many rows a history needs where each item is queued, flushed by a caller and executed once.
+/// How many rows a history needs if each item is queued, flushed by a caller and executed once.
 fn rows_for<A: Allocator + Copy>(table: &ItemTable<'_, A>) -> u32
     ensures { result ≡ 5 * length table.now.names + 2 * flush_count table.now.waits }
 {
