@@ -22,7 +22,7 @@ impl Read for Endless {
 pub enum Failure {
     /// With an error.
     Error(ErrorKind),
-    /// It moves nothing. A writer has failed so; a reader has come to its end.
+    /// Moves nothing: for a writer that is a failure, for a reader the end of its text.
     Nothing,
 }
 

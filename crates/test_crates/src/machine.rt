@@ -86,8 +86,8 @@ const PLAYED: &[Played] = &[
     (Finish(1, 0), Some(2), 0, None, None, None),
 ];
 
-/// The number that a step would give, and the work that would be left after it; or,
-/// where it gives none, the work that is left now.
+/// The number that a step would give, and the work that would be left after it; or, if it gives none, the work that is
+/// left now.
 fn looked_ahead(core: &Core<Global>, step: &Step) -> (Option<u32>, u64) {
     let left = core.work_left();
     match core.peek(step) {

@@ -97,8 +97,8 @@ fn keeps_book(rt: &impl Abort, ample: &Heap, heap: &Heap) -> Result<bool, Fail> 
     }
 }
 
-/// Judges the rows of such a book on a machine on which nothing has happened. Says
-/// whether they were judged; if not, the machine is as it was.
+/// Judges the rows of such a book on a machine on which nothing has happened. Says whether they were judged; if not,
+/// the machine hasn't changed.
 fn judges_on<A: Allocator + Copy>(rt: &impl Abort, heap: A, core: &mut Core<A>) -> bool
     requires { core.old.state ≡ empty_state core.old.wiring }
 {

@@ -38,7 +38,7 @@ struct Order<'a> {
 }
 
 /// The task of a subcommand in these files, with the words after them and this many helpers, of which a book has 8 at
-/// most. A history that is judged has as many rows as it has.
+/// most. The number of rows of a judged history is that of its text.
 fn order_of<'a>(
     command: &str,
     declaration: &'a str,

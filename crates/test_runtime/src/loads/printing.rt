@@ -90,7 +90,7 @@ fn put_seat_of_lane<N: Naming>(
     Ok(())
 }
 
-/// Prints what each seat counted, of each item and of each of so many lanes.
+/// Prints what each seat counted, of each item and of each lane.
 fn put_seats<N: Naming>(
     out: &mut String,
     table: &ItemTable<'_, Global>,

@@ -28,7 +28,7 @@ pub(crate) enum RuntimeCall {
     Counted(Counted),
     /// One seat more.
     Seat,
-    /// So many seats more.
+    /// This many more seats.
     Seats(u32),
     /// The calls that follow count in the seat with this number.
     Use(u32),

@@ -67,7 +67,7 @@ pub(crate) fn tell(
     }
 }
 
-/// Gives up those that are left.
+/// Gives up the asks that are left.
 pub(crate) fn give_up_all(mut asks: Vec<Option<Asked>>) {
     while let Some(slot) = asks.pop() {
         match slot {

@@ -140,7 +140,7 @@ fn put_started(
     }
 }
 
-/// Adds what the rescuer of a lane runs and waits for, and then so many helpers.
+/// Adds what the rescuer of a lane runs and waits for, and then what each helper does.
 fn put_lane(
     out: &mut String,
     table: &ItemTable<'_, Global>,
@@ -167,7 +167,7 @@ fn put_lane(
     Ok(())
 }
 
-/// Adds the state of a book with so many helpers, after an answer, and the end of the line.
+/// Adds the state of a book with this many helpers, after an answer, and the end of the line.
 fn put_state(
     out: &mut String,
     table: &ItemTable<'_, Global>,

@@ -28,7 +28,7 @@ pub(crate) struct Doer<'a> {
 }
 
 impl<'a> Doer<'a> {
-    /// Makes one that does these things, and can count this many items.
+    /// Makes a doer that does these things, and can count this many items.
     pub(crate) fn new(
         alloc: Global,
         flags: &'a Flags,

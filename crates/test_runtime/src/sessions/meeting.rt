@@ -1,5 +1,5 @@
-//! How threads see each other: a flag for each, one for the end, a count of those that dawdled, and for each item how
-//! many run it. Looking takes as long as the others let it wait, but at most 1,000,000,000 looks for each.
+//! How threads see each other: a flag for each, one for the end, a count of the doers that dawdled, and for each item,
+//! how many doers run it. Looking takes as long as the others let it wait, but at most 1,000,000,000 looks for each.
 
 use std::alloc::{AllocError, Global};
 use std::sync::atomic::{AtomicBool, AtomicU32, Ordering};
