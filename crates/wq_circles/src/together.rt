@@ -21,7 +21,7 @@ use std::alloc::{AllocError, Allocator};
 use wq_graph::WaitGraph;
 
 /// Finds a vertex that wasn't found yet, and all that it leads to, from list to list, over vertices that weren't found.
-fn spread<A: Allocator + Copy>(
+pub(crate) fn spread<A: Allocator + Copy>(
     found: &mut FoundVertices<A>,
     lists: &[Vec<u16, A>],
     root: u16,

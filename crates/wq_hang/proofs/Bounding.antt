@@ -22,6 +22,12 @@ next_has_rescuer w i first [] rescuer path = subst (λ (k : ℕ). HasRescuer w (
 next_has_rescuer w i first (h ∷ hops) rescuer path =
     subst (λ (k : ℕ). HasRescuer w (lane_of w k)) path.0 path.1.rescuer
 
+replicate-none : (n q : ℕ) → slice_index (replicate n 0) q ≡ 0
+replicate-none n q = elim (cases_lt q n) [
+  | inl within ↦ get_or-replicate n q 0 0 within
+  | inr past ↦ get_or_past (replicate n 0) q 0 (omega (arith, past, length-replicate {A = ℕ} n 0))
+]
+
 module _ (w : Wiring) (marks : List Bool) where
   -- a path to a marked lane costs at least what is below each flush of its first item
   pub path-bound : (bounds : List ℕ) (i cost first : ℕ) (hops : List Hop) → AreLaneBounds w marks bounds
@@ -49,10 +55,7 @@ module _ (w : Wiring) (marks : List Bool) where
   }
     where
       none : (q : ℕ) → slice_index bounds q ≡ 0
-      none q = ap (λ (l : List ℕ). get_or l q 0) is ∙ elim (cases_lt q w.lanes) [
-        | inl within ↦ get_or-replicate w.lanes q 0 0 within
-        | inr past ↦ get_or_past (replicate w.lanes 0) q 0 (omega (arith, past, length-replicate {A = ℕ} w.lanes 0))
-      ]
+      none q = ap (λ (l : List ℕ). get_or l q 0) is ∙ replicate-none w.lanes q
 
   -- one lane more, which isn't marked
   pub AreLaneBounds-more : (bounds new : List ℕ) (on : List (List ℕ)) (q cost : ℕ) → AreItemsOn w on
@@ -101,31 +104,42 @@ module _ (w : Wiring) (marks : List Bool) where
         )
       ]
 
-  -- the bounds of items, one after the other
-  pub AreBounds-lanes : (bounds found : List ℕ) (first : ℕ) → AreLaneBounds w marks bounds
-      → ((i : ℕ) → i < items w → IsBelowEach w bounds i (slice_index found i))
-      → HasRescuer w (lane_of w first) → slice_index_or marks (lane_of w first) false ≡ true
+  -- the bounds of lanes, by what is below each flush of their items
+  pub AreBounds-lanes : (on : List (List ℕ)) (bounds found : List ℕ) (first : ℕ) → AreItemsOn w on
+      → AreLaneBounds w marks bounds
+      → ((q i : ℕ) → q < w.lanes → Contains (slice_index_or on q []) i → IsBelowEach w bounds i (slice_index found q))
+      → IsWiring w → HasRescuer w (lane_of w first) → slice_index_or marks (lane_of w first) false ≡ true
       → AreBounds w found first
-  AreBounds-lanes bounds found first are below rescuer marked i [] some path = absurd (omega arith)
-  AreBounds-lanes bounds found first are below rescuer marked i (h ∷ hops) some path =
+  AreBounds-lanes on bounds found first on_lanes are below wiring rescuer marked i [] some path = absurd (omega arith)
+  AreBounds-lanes on bounds found first on_lanes are below wiring rescuer marked i (h ∷ hops) some path =
       let item : i < items w = subst (λ (k : ℕ). k < items w) path.0
       (declared-item w h.item h.flush path.1.declared) in
-      path-bound bounds i (slice_index found i) first (h ∷ hops) are (below i item) rescuer marked some path
+      let q : ℕ = lane_of w i in
+      path-bound bounds i (slice_index found q) first (h ∷ hops) are
+      (below q i (lane_of-within w wiring i item) (on_lanes.all i item)) rescuer marked some path
 
--- one item more has its bound
-pub bounds-more : (w : Wiring) (lanes found new : List ℕ) (n cost : ℕ) → length found ≡ n
-    → ((i : ℕ) → i < n → IsBelowEach w lanes i (slice_index found i)) → IsBelowEach w lanes n cost
-    → new ≡ found ++ (cost ∷ []) → (i : ℕ) → i < n + 1 → IsBelowEach w lanes i (slice_index new i)
-bounds-more w lanes found new n cost size are one is i below = by (cases_eq i n)
+-- bounds that leave nothing out
+pub AreBounds-none : (w : Wiring) (bounds : List ℕ) (n first : ℕ) → bounds ≡ replicate n 0 → AreBounds w bounds first
+AreBounds-none w bounds n first is i hops some path =
+    omega (arith, replicate-none n (lane_of w i), ap (λ (l : List ℕ). get_or l (lane_of w i) 0) is)
+
+-- one lane more has its bound
+pub bounds-more : (w : Wiring) (on : List (List ℕ)) (lanes found new : List ℕ) (n cost : ℕ) → length found ≡ n
+    → ((q i : ℕ) → q < n → Contains (slice_index_or on q []) i → IsBelowEach w lanes i (slice_index found q))
+    → ((i : ℕ) → Contains (slice_index_or on n []) i → IsBelowEach w lanes i cost)
+    → new ≡ found ++ (cost ∷ []) → (q i : ℕ) → q < n + 1 → Contains (slice_index_or on q []) i
+    → IsBelowEach w lanes i (slice_index new q)
+bounds-more w on lanes found new n cost size are one is q i below there = by (cases_eq q n)
   where
-    by : (i ≡ n) ⊎ (i ≢ n) → IsBelowEach w lanes i (slice_index new i)
+    by : (q ≡ n) ⊎ (q ≢ n) → IsBelowEach w lanes i (slice_index new q)
     by (inl same) =
-        let at : slice_index new i ≡ cost =
-        ap (λ (l : List ℕ). get_or l i 0) is
+        let at : slice_index new q ≡ cost =
+        ap (λ (l : List ℕ). get_or l q 0) is
         ∙ ap (λ (k : ℕ). get_or (found ++ (cost ∷ [])) k 0) (same ∙ sym size) ∙ get_or-append_seam found cost [] 0 in
-        subst (IsBelowEach w lanes i) (sym at) (subst (λ (k : ℕ). IsBelowEach w lanes k cost) (sym same) one)
+        subst (IsBelowEach w lanes i) (sym at)
+        (one i (subst (λ (p : ℕ). Contains (slice_index_or on p []) i) same there))
     by (inr other) =
-        let before : i < n = omega arith in
-        let at : slice_index new i ≡ slice_index found i =
-        ap (λ (l : List ℕ). get_or l i 0) is ∙ get_or_append_left found (cost ∷ []) 0 i (omega (arith, before, size)) in
-        subst (IsBelowEach w lanes i) (sym at) (are i before)
+        let before : q < n = omega arith in
+        let at : slice_index new q ≡ slice_index found q =
+        ap (λ (l : List ℕ). get_or l q 0) is ∙ get_or_append_left found (cost ∷ []) 0 q (omega (arith, before, size)) in
+        subst (IsBelowEach w lanes i) (sym at) (are q i before there)

@@ -79,7 +79,7 @@ IsNoBetter-still w first least none (h ∷ hops) some path =
 
 -- no round costs less than the item's bound
 pub IsNoBetter-bound : (w : Wiring) (bounds : List ℕ) (first least : ℕ) → AreBounds w bounds first
-    → least ≤ slice_index bounds first → IsNoBetter w first least
+    → least ≤ slice_index bounds (lane_of w first) → IsNoBetter w first least
 IsNoBetter-bound w bounds first least are low hops some path = omega (arith, low, are first hops some path)
 
 pub IsNoBetter-searched : (w : Wiring) (first least : ℕ) (s : Reach) → IsSearched w first least s → least ≤ slice_index s.costs first → IsNoBetter w first least

@@ -1,5 +1,6 @@
 -- What a search finds: each step keeps what holds at each time, and no cost rises.
-use Rattle.std.proofs.Common.{◌≡◌, ◌≢◌, ℕ, zero, suc, ◌+◌, ◌*◌, ◌<◌, ◌≤◌, ◌⊎◌, inl, inr, Bool, true, false, eqb, ltb, List, [], ◌∷◌, length, get_or, set, refl, sym, ap, subst, ◌∙◌, arith}
+use Rattle.std.proofs.Common.{◌≡◌, ◌≢◌, ℕ, zero, suc, ◌+◌, ◌-◌, ◌*◌, min, ◌<◌, ◌≤◌, ◌⊎◌, inl, inr, Bool, true, false}
+use Rattle.std.proofs.Common.{eqb, ltb, List, [], ◌∷◌, length, get_or, set, refl, sym, ap, subst, ◌∙◌, arith}
 use Rattle.std.specs.Prelude.{Contains, fold, slice_index, slice_index_or, if◌then◌else◌, ◌||◌, ◌&&◌, not}
 use Rattle.std.proofs.lemmas.Bool.{cases_eq, ltb-true, ltb-false, both_ways, false≢true, eq-eqb}
 use Rattle.std.proofs.lemmas.List.{get_or-set_same, get_or-set_other, length-set, length-append}
@@ -12,7 +13,8 @@ use Rattle.wq_hang.specs.declared.hop.Hop.{Hop}
 use Rattle.wq_hang.specs.Walk.{IsHop, unsure_part}
 use Rattle.wq_hang.specs.Search.{hop_cost, Reach, IsTodo, and_then, with_todo, reached, reach, hop_to, reach_all}
 use Rattle.wq_hang.specs.Search.{with_lane_cost, reach_lane}
-use Rattle.wq_hang.specs.Search.{step, lane_step, follow, expand, AreItemsOn, IsReachedBy, IsReach, IsFollowed}
+use Rattle.wq_hang.specs.Search.{step, lane_step, most_of_use, to_target, to_lane, to_both, follow, expand}
+use Rattle.wq_hang.specs.Search.{AreItemsOn, IsReachedBy, IsReach, IsFollowed}
 use Rattle.wq_hang.proofs.Declared.{declared-target}
 
 -- ---- how much is left to do
@@ -368,75 +370,157 @@ module _ (w : Wiring) (first limit : ℕ) where
 
     -- ---- all flushes of an item
 
-    -- where the flush leads on
-    abbrev LedOn : Reach → ℕ → Target → Type 0
-    LedOn r cost t = HasRescuer w (lane_of w t.item) → (slice_index r.costs t.item ≤ cost + step t)
-        × (slice_index r.lane_costs (lane_of w t.item) ≤ cost + lane_step t)
+    module _ (bounds : List ℕ) where
+      abbrev most : Reach → Target → ℕ
+      most s t = most_of_use w bounds first s (lane_of w t.item)
 
-    LedOn-later : (r end : Reach) (cost : ℕ) (t : Target) → Later r end → LedOn r cost t → LedOn end cost t
-    LedOn-later r end cost t later led rescuer = let is = led rescuer in (omega (arith, is.0, later.less t.item), omega (arith, is.1, later.lanes_less (lane_of w t.item)))
+      -- the flush leads on, or that is of no use
+      abbrev LedOn : Reach → ℕ → Target → Type 0
+      LedOn r cost t = HasRescuer w (lane_of w t.item)
+          → (min (most_of_use w bounds first r (lane_of w t.item)) (slice_index r.costs t.item) ≤ cost + step t)
+          × (min (most_of_use w bounds first r (lane_of w t.item)) (slice_index r.lane_costs (lane_of w t.item))
+          ≤ cost + lane_step t)
 
-    direct-enough : (t : Target) (i : ℕ) → hop_cost (hop_to i t t.item) ≤ step t
-    direct-enough t i = by t.whole (eqb t.item t.item) refl
-      where
-        by : (whole same : Bool) → eqb t.item t.item ≡ same
-            → unsure_part t + (3 + length (if whole || same then [] else t.item ∷ [])) ≤ unsure_part t + 3
-        by true same is = omega arith
-        by false true is = omega arith
-        by false false is = absurd (both_ways (eqb t.item t.item) is (eq-eqb t.item t.item refl))
+      pub most-later : (r end : Reach) (q : ℕ) → Later r end
+          → most_of_use w bounds first end q ≤ most_of_use w bounds first r q
+      most-later r end q later = by (eqb q (lane_of w first))
+        where
+          by : (b : Bool)
+              → (if b then slice_index end.costs first else slice_index end.costs first - slice_index bounds q)
+              ≤ (if b then slice_index r.costs first else slice_index r.costs first - slice_index bounds q)
+          by true = omega (arith, later.less first)
+          by false = omega (arith, later.less first)
 
-    Grown-follow : (i cost : ℕ) (s : Reach) (t : Target) → IsReach w first limit s → HasRescuer w (lane_of w i) → Contains (declared_by w i) t → (i ≢ first → slice_index s.costs i ≤ cost)
-        → Grown w first limit s (follow w on i cost s t) × LedOn (follow w on i cost s t) cost t
-    Grown-follow i cost s t is rescuer declared from_other = by (slice_index_or w.bare (lane_of w t.item) false) refl
-      where
-        below : t.item < items w
-        below = declared-target w i t wiring declared
+      LedOn-later : (r end : Reach) (cost : ℕ) (t : Target) → Later r end → LedOn r cost t → LedOn end cost t
+      LedOn-later r end cost t later led rescuer =
+          let is = led rescuer in
+          let less = most-later r end (lane_of w t.item) later in (
+            omega (arith, is.0, less, later.less t.item),
+            omega (arith, is.1, less, later.lanes_less (lane_of w t.item)),
+          )
 
-        direct : HasRescuer w (lane_of w t.item) → LeadsOn w first s (hop_to i t t.item) (cost + step t)
-        direct other = record {
-          below = below;
-          rescuer = other;
-          hop = record { declared = declared; rescuer = rescuer };
-          on = refl;
-          from_first = λ e. omega (arith, direct-enough t i);
-          from_other = λ e. omega (arith, direct-enough t i, from_other e);
-        }
+      direct-enough : (t : Target) (i : ℕ) → hop_cost (hop_to i t t.item) ≤ step t
+      direct-enough t i = by t.whole (eqb t.item t.item) refl
+        where
+          by : (whole same : Bool) → eqb t.item t.item ≡ same
+              → unsure_part t + (3 + length (if whole || same then [] else t.item ∷ [])) ≤ unsure_part t + 3
+          by true same is = omega arith
+          by false true is = omega arith
+          by false false is = absurd (both_ways (eqb t.item t.item) is (eq-eqb t.item t.item refl))
 
-        lead : HasRescuer w (lane_of w t.item)
-            → Grown w first limit s (reach_lane t.whole (cost + lane_step t) i t (lane_of w t.item)
-            (slice_index_or on (lane_of w t.item) []) (reach true (cost + step t) s (hop_to i t t.item)))
-            × LedOn (reach_lane t.whole (cost + lane_step t) i t (lane_of w t.item)
-            (slice_index_or on (lane_of w t.item) []) (reach true (cost + step t) s (hop_to i t t.item))) cost t
-        lead other =
-            let one = Grown-reach true (cost + step t) s (hop_to i t t.item) is (direct other) in
-            let r : Reach = reach true (cost + step t) s (hop_to i t t.item) in
-            let begins : Begins r i t cost = record { declared = declared; rescuer = rescuer; other_rescuer = other; from_other = λ e. omega (arith, from_other e, one.0.later.less i) } in
-            let two = Grown-lane t.whole cost i t r one.0.reach begins below in
-            let end : Reach = reach_lane t.whole (cost + lane_step t) i t (lane_of w t.item) (slice_index_or on (lane_of w t.item) []) r in
-            (Grown-both w first limit s r end one.0 two.0, λ rescued. (omega (arith, one.1, two.0.later.less t.item), two.1))
+      -- to the target: what costs no less than the most that is of use is of no use
+      Grown-target : (most i cost : ℕ) (s : Reach) (t : Target) → IsReach w first limit s
+          → LeadsOn w first s (hop_to i t t.item) (cost + step t)
+          → Grown w first limit s (to_target most i cost s t)
+          × (min most (slice_index (to_target most i cost s t).costs t.item) ≤ cost + step t)
+      Grown-target most i cost s t is leads = by (ltb (cost + step t) most) refl
+        where
+          by : (b : Bool) → ltb (cost + step t) most ≡ b
+              → Grown w first limit s (if b then reach true (cost + step t) s (hop_to i t t.item) else s)
+              × (min most (slice_index (if b then reach true (cost + step t) s (hop_to i t t.item) else s).costs t.item)
+              ≤ cost + step t)
+          by true test =
+              let one = Grown-reach true (cost + step t) s (hop_to i t t.item) is leads in
+              (one.0, omega (arith, one.1))
+          by false test = (
+            record { reach = is; later = Later-same s },
+            omega (arith, ltb-false (cost + step t) most test),
+          )
 
-        by : (b : Bool) → slice_index_or w.bare (lane_of w t.item) false ≡ b
-            → Grown w first limit s (if b then s else reach_lane t.whole (cost + lane_step t) i t (lane_of w t.item)
-            (slice_index_or on (lane_of w t.item) []) (reach true (cost + step t) s (hop_to i t t.item)))
-            × LedOn (if b then s else reach_lane t.whole (cost + lane_step t) i t (lane_of w t.item)
-            (slice_index_or on (lane_of w t.item) []) (reach true (cost + step t) s (hop_to i t t.item))) cost t
-        by true bare = (record { reach = is; later = Later-same s }, λ rescued. absurd (false≢true (sym rescued ∙ bare)))
-        by false rescued = lead rescued
+      -- to the lane of the target
+      Grown-to_lane : (most i cost : ℕ) (s : Reach) (t : Target) → IsReach w first limit s → Begins s i t cost
+          → t.item < items w → Grown w first limit s (to_lane w on most i cost s t)
+          × (min most (slice_index (to_lane w on most i cost s t).lane_costs (lane_of w t.item)) ≤ cost + lane_step t)
+      Grown-to_lane most i cost s t is begins below = by (ltb (cost + lane_step t) most) refl
+        where
+          end : Reach
+          end = reach_lane t.whole (cost + lane_step t) i t (lane_of w t.item) (slice_index_or on (lane_of w t.item) [])
+              s
 
-    Grown-follows : (i cost : ℕ) (ts : List Target) (s : Reach) → IsReach w first limit s → HasRescuer w (lane_of w i) → ((t : Target) → Contains ts t → Contains (declared_by w i) t) → (i ≢ first → slice_index s.costs i ≤ cost)
-        → Grown w first limit s (fold (follow w on i cost) s ts) × ((t : Target) → Contains ts t → LedOn (fold (follow w on i cost) s ts) cost t)
-    Grown-follows i cost [] s is rescuer declared from_other = (record { reach = is; later = Later-same s }, λ t there. absurd (omega (arith, there.1)))
-    Grown-follows i cost (x ∷ ts) s is rescuer declared from_other =
-        let one = Grown-follow i cost s x is rescuer (declared x (0, omega arith, refl)) from_other in
-        let r : Reach = follow w on i cost s x in
-        let rest = Grown-follows i cost ts r one.0.reach rescuer (λ t there. declared t (Contains-later x ts t there)) (λ e. omega (arith, from_other e, one.0.later.less i)) in
-        let end : Reach = fold (follow w on i cost) r ts in
-        (Grown-both w first limit s r end one.0 rest.0, λ t there. each end (LedOn-later r end cost x rest.0.later one.1) rest.1 t there)
-      where
-        each : (end : Reach) → LedOn end cost x → ((t : Target) → Contains ts t → LedOn end cost t) → (t : Target) → Contains (x ∷ ts) t → LedOn end cost t
-        each end here rest t (zero, lt, at) = subst (λ (u : Target). LedOn end cost u) at here
-        each end here rest t (suc k, lt, at) = rest t (k, omega arith, at)
+          by : (b : Bool) → ltb (cost + lane_step t) most ≡ b → Grown w first limit s (if b then end else s)
+              × (min most (slice_index (if b then end else s).lane_costs (lane_of w t.item)) ≤ cost + lane_step t)
+          by true test =
+              let one = Grown-lane t.whole cost i t s is begins below in
+              (one.0, omega (arith, one.1))
+          by false test = (
+            record { reach = is; later = Later-same s },
+            omega (arith, ltb-false (cost + lane_step t) most test),
+          )
 
-    pub Grown-expand : (i cost : ℕ) (s : Reach) → IsReach w first limit s → HasRescuer w (lane_of w i) → (i ≢ first → slice_index s.costs i ≤ cost)
-        → Grown w first limit s (expand w on i cost s) × IsFollowed w (expand w on i cost s) i cost
-    Grown-expand i cost s is rescuer from_other = Grown-follows i cost (declared_by w i) s is rescuer (λ t there. there) from_other
+      Grown-follow : (i cost : ℕ) (s : Reach) (t : Target) → IsReach w first limit s → HasRescuer w (lane_of w i)
+          → Contains (declared_by w i) t → (i ≢ first → slice_index s.costs i ≤ cost)
+          → Grown w first limit s (follow w on bounds first i cost s t)
+          × LedOn (follow w on bounds first i cost s t) cost t
+      Grown-follow i cost s t is rescuer declared from_other =
+          by (slice_index_or w.bare (lane_of w t.item) false) refl
+        where
+          below : t.item < items w
+          below = declared-target w i t wiring declared
+
+          direct : HasRescuer w (lane_of w t.item) → LeadsOn w first s (hop_to i t t.item) (cost + step t)
+          direct other = record {
+            below = below;
+            rescuer = other;
+            hop = record { declared = declared; rescuer = rescuer };
+            on = refl;
+            from_first = λ e. omega (arith, direct-enough t i);
+            from_other = λ e. omega (arith, direct-enough t i, from_other e);
+          }
+
+          led : HasRescuer w (lane_of w t.item) → Grown w first limit s (to_both w on (most s t) i cost s t)
+              × LedOn (to_both w on (most s t) i cost s t) cost t
+          led other =
+              let one = Grown-target (most s t) i cost s t is (direct other) in
+              let r : Reach = to_target (most s t) i cost s t in
+              let begins : Begins r i t cost = record {
+                declared = declared;
+                rescuer = rescuer;
+                other_rescuer = other;
+                from_other = λ e. omega (arith, from_other e, one.0.later.less i);
+              } in
+              let two = Grown-to_lane (most s t) i cost r t one.0.reach begins below in
+              let end : Reach = to_both w on (most s t) i cost s t in
+              let both = Grown-both w first limit s r end one.0 two.0 in
+              let less = most-later s end (lane_of w t.item) both.later in (
+                both,
+                λ rescued. (omega (arith, one.1, two.0.later.less t.item, less), omega (arith, two.1, less)),
+              )
+
+          by : (b : Bool) → slice_index_or w.bare (lane_of w t.item) false ≡ b
+              → Grown w first limit s (if b then s else to_both w on (most s t) i cost s t)
+              × LedOn (if b then s else to_both w on (most s t) i cost s t) cost t
+          by true bare = (
+            record { reach = is; later = Later-same s },
+            λ rescued. absurd (false≢true (sym rescued ∙ bare)),
+          )
+          by false rescued = led rescued
+
+      Grown-follows : (i cost : ℕ) (ts : List Target) (s : Reach) → IsReach w first limit s
+          → HasRescuer w (lane_of w i) → ((t : Target) → Contains ts t → Contains (declared_by w i) t)
+          → (i ≢ first → slice_index s.costs i ≤ cost)
+          → Grown w first limit s (fold (follow w on bounds first i cost) s ts)
+          × ((t : Target) → Contains ts t → LedOn (fold (follow w on bounds first i cost) s ts) cost t)
+      Grown-follows i cost [] s is rescuer declared from_other =
+          (record { reach = is; later = Later-same s }, λ t there. absurd (omega (arith, there.1)))
+      Grown-follows i cost (x ∷ ts) s is rescuer declared from_other =
+          let one = Grown-follow i cost s x is rescuer (declared x (0, omega arith, refl)) from_other in
+          let r : Reach = follow w on bounds first i cost s x in
+          let rest = Grown-follows i cost ts r one.0.reach rescuer
+          (λ t there. declared t (Contains-later x ts t there))
+          (λ e. omega (arith, from_other e, one.0.later.less i)) in
+          let end : Reach = fold (follow w on bounds first i cost) r ts in (
+            Grown-both w first limit s r end one.0 rest.0,
+            λ t there. each end (LedOn-later r end cost x rest.0.later one.1) rest.1 t there,
+          )
+        where
+          each : (end : Reach) → LedOn end cost x → ((t : Target) → Contains ts t → LedOn end cost t) → (t : Target)
+              → Contains (x ∷ ts) t → LedOn end cost t
+          each end here rest t (zero, lt, at) = subst (λ (u : Target). LedOn end cost u) at here
+          each end here rest t (suc k, lt, at) = rest t (k, omega arith, at)
+
+      pub Grown-expand : (i cost : ℕ) (s : Reach) → IsReach w first limit s → HasRescuer w (lane_of w i)
+          → (i ≢ first → slice_index s.costs i ≤ cost)
+          → Grown w first limit s (expand w on bounds first i cost s)
+          × IsFollowed w bounds first (expand w on bounds first i cost s) i cost
+      Grown-expand i cost s is rescuer from_other =
+          Grown-follows i cost (declared_by w i) s is rescuer (λ t there. there) from_other

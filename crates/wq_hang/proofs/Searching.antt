@@ -6,6 +6,8 @@ use Rattle.std.proofs.Common.{
   zero,
   suc,
   ◌+◌,
+  ◌-◌,
+  min,
   ◌<◌,
   ◌≤◌,
   ◌⊎◌,
@@ -28,7 +30,7 @@ use Rattle.std.proofs.Common.{
   arith,
 }
 use Rattle.std.specs.Prelude.{Contains, slice_index, slice_index_or, if◌then◌else◌, ◌||◌, replicate}
-use Rattle.std.proofs.lemmas.Bool.{cases_eq, cases_lt, eqb-true}
+use Rattle.std.proofs.lemmas.Bool.{cases_eq, cases_lt, eqb-true, eq-eqb}
 use Rattle.std.proofs.lemmas.List.{get_or-replicate, get_or_past, length-replicate}
 use Rattle.wq_items.proofs.Lists.{Contains-here, Contains-later}
 use Rattle.wq_core.specs.Wiring.{Wiring, IsWiring, HasRescuer, items, lane_of}
@@ -36,9 +38,9 @@ use Rattle.wq_core.proofs.Wirings.{lane_of-within}
 use Rattle.wq_hang.specs.declared.hop.Hop.{Hop}
 use Rattle.wq_hang.specs.Walk.{IsHop, IsPath, unsure_part}
 use Rattle.wq_hang.specs.Search.{hop_cost, hops_cost, Reach, IsTodo, lane_step, expand, AreItemsOn, IsReachedBy}
-use Rattle.wq_hang.specs.Search.{IsReach, IsFollowed, AreBounds, IsDone, IsGoing, IsTaken, IsSearched}
+use Rattle.wq_hang.specs.Search.{most_of_use, IsReach, IsFollowed, AreBounds, IsGoing, IsTaken, IsSearched}
 use Rattle.wq_hang.proofs.Declared.{declared-item}
-use Rattle.wq_hang.proofs.Reaching.{queues, work, Later, Grown, Grown-expand}
+use Rattle.wq_hang.proofs.Reaching.{queues, work, Later, Grown, most-later, Grown-expand}
 
 -- ---- the beginning
 
@@ -87,14 +89,20 @@ IsReach-new w first limit s wiring new = record {
     lane_at_limit i below = ap (λ (l : List ℕ). get_or l (lane_of w i) 0) new.lane_costs ∙ get_or-replicate w.lanes
         (lane_of w i) limit 0 (lane_of-within w wiring i below)
 
-IsFollowed-later : (w : Wiring) (s r : Reach) (i cost : ℕ) → Later s r → IsFollowed w s i cost → IsFollowed w r i cost
-IsFollowed-later w s r i cost later is t there rescuer =
+IsFollowed-later : (w : Wiring) (bounds : List ℕ) (first limit : ℕ) (wiring : IsWiring w) (on : List (List ℕ))
+    (are : AreItemsOn w on) (s r : Reach) (i cost : ℕ) → Later s r → IsFollowed w bounds first s i cost
+    → IsFollowed w bounds first r i cost
+IsFollowed-later w bounds first limit wiring on are s r i cost later is t there rescuer =
     let before = is t there rescuer in
-    (omega (arith, before.0, later.less t.item), omega (arith, before.1, later.lanes_less (lane_of w t.item)))
+    let less = most-later w first limit wiring on are bounds s r (lane_of w t.item) later in (
+      omega (arith, before.0, less, later.less t.item),
+      omega (arith, before.1, less, later.lanes_less (lane_of w t.item)),
+    )
 
 module _ (w : Wiring) (bounds : List ℕ) (first limit : ℕ) (wiring : IsWiring w) (on : List (List ℕ))
     (are : AreItemsOn w on) where
-  pub IsGoing-first : (s r : Reach) → IsNew w limit s → HasRescuer w (lane_of w first) → r ≡ expand w on first 0 s →
+  pub IsGoing-first : (s r : Reach) → IsNew w limit s → HasRescuer w (lane_of w first)
+      → r ≡ expand w on bounds first first 0 s →
       IsGoing w bounds first limit r
   IsGoing-first s r new rescuer is = subst (IsGoing w bounds first limit) (sym is)
       (record { reach = grown.0.reach; begun = grown.1; followed = followed })
@@ -102,21 +110,23 @@ module _ (w : Wiring) (bounds : List ℕ) (first limit : ℕ) (wiring : IsWiring
       reach : IsReach w first limit s
       reach = IsReach-new w first limit s wiring new
 
-      grown : Grown w first limit s (expand w on first 0 s) × IsFollowed w (expand w on first 0 s) first 0
-      grown = Grown-expand w first limit wiring on are first 0 s reach rescuer (λ other. absurd (other refl))
+      grown : Grown w first limit s (expand w on bounds first first 0 s)
+          × IsFollowed w bounds first (expand w on bounds first first 0 s) first 0
+      grown = Grown-expand w first limit wiring on are bounds first 0 s reach rescuer (λ other. absurd (other refl))
 
-      followed : (i : ℕ) → i < items w → IsTodo (expand w on first 0 s) i ⊎ IsDone w bounds first
-          (expand w on first 0 s) i
+      followed : (i : ℕ) → i < items w → IsTodo (expand w on bounds first first 0 s) i
+          ⊎ IsFollowed w bounds first (expand w on bounds first first 0 s) i
+          (slice_index (expand w on bounds first first 0 s).costs i)
       followed i below = elim (grown.0.later.noted i) [
         | inr todo ↦ inl todo
-        | inl same ↦ inr (inl (λ t there other.
+        | inl same ↦ inr (λ t there other.
             let at_limit : slice_index s.costs i ≡ limit = ap (λ (l : List ℕ). get_or l i 0) new.costs ∙
             get_or-replicate (items w) i limit 0 below in (
               omega (arith, same, at_limit, grown.0.reach.capped t.item),
               omega
                   (arith, same, at_limit, grown.0.reach.lanes_capped (lane_of w t.item)),
             )
-            ))
+            )
       ]
 
   -- ---- one item more
@@ -231,92 +241,76 @@ module _ (w : Wiring) (bounds : List ℕ) (first limit : ℕ) (wiring : IsWiring
             from_other = λ e. omega (arith, by_it.from_other e, same j, same (slice_index_or s.by j d).item);
           })
 
+  -- what is of use is the same when an item is taken
+  most-taken : (s r : Reach) (i : ℕ) → IsTaken s i r → (q : ℕ)
+      → most_of_use w bounds first r q ≡ most_of_use w bounds first s q
+  most-taken s r i taken q =
+      ap (λ (l : List ℕ). if eqb q (lane_of w first) then slice_index l first
+      else slice_index l first - slice_index bounds q) taken.costs
+
   -- what was followed before the item was taken
-  followed_taken : (s r : Reach) (i : ℕ) → IsTaken s i r → (j c : ℕ) → IsFollowed w s j c → IsFollowed w r j c
+  followed_taken : (s r : Reach) (i : ℕ) → IsTaken s i r → (j c : ℕ) → IsFollowed w bounds first s j c
+      → IsFollowed w bounds first r j c
   followed_taken s r i taken j c led t there rescuer =
-      let before = led t there rescuer in (
-        omega (arith, before.0, ap (λ (l : List ℕ). slice_index l t.item) taken.costs),
+      let before = led t there rescuer in
+      let same = most-taken s r i taken (lane_of w t.item) in (
+        omega (arith, before.0, same, ap (λ (l : List ℕ). slice_index l t.item) taken.costs),
         omega
-            (arith, before.1, ap (λ (l : List ℕ). slice_index l (lane_of w t.item)) taken.lane_costs),
+            (arith, before.1, same, ap (λ (l : List ℕ). slice_index l (lane_of w t.item)) taken.lane_costs),
       )
 
   same_cost : (s r : Reach) (i : ℕ) → IsTaken s i r → (j : ℕ) → slice_index r.costs j ≡ slice_index s.costs j
   same_cost s r i taken j = ap (λ (l : List ℕ). slice_index l j) taken.costs
 
   pub IsGoing-next : (s r end : Reach) (i cost : ℕ) → IsGoing w bounds first limit s → IsTaken s i r
-      → cost ≡ slice_index
-      r.costs i → end ≡ expand w on i cost r → IsGoing w bounds first limit end
+      → cost ≡ slice_index r.costs i → end ≡ expand w on bounds first i cost r → IsGoing w bounds first limit end
   IsGoing-next s r end i cost going taken costs is =
       let todo = going.reach.todo i (taken_was s r i taken) in
-      let grown = Grown-expand w first limit wiring on are i cost r (IsReach-taken s r i taken going.reach) todo.1
+      let grown = Grown-expand w first limit wiring on are bounds i cost r (IsReach-taken s r i taken going.reach)
+      todo.1
       (λ other. omega (arith, costs)) in
       subst (IsGoing w bounds first limit) (sym is) (record {
         reach = grown.0.reach;
-        begun = IsFollowed-later w r (expand w on i cost r) first 0 grown.0.later
-            (followed_taken s r i taken first 0 going.begun);
+        begun = kept grown.0.later first 0 (followed_taken s r i taken first 0 going.begun);
         followed = λ j below. followed grown.0.later grown.1 j below (cases_eq j i) (going.followed j below)
             (grown.0.later.noted j);
       })
     where
-      followed : Later r (expand w on i cost r) → IsFollowed w (expand w on i cost r) i cost → (j : ℕ) → j < items w →
-          (j ≡ i) ⊎ (j ≢ i) → IsTodo s j ⊎ IsDone w bounds first s j
-          → (slice_index (expand w on i cost r).costs j ≡ slice_index r.costs j) ⊎ IsTodo (expand w on i cost r) j
-          → IsTodo (expand w on i cost r) j ⊎ IsDone w bounds first (expand w on i cost r) j
+      next : Reach
+      next = expand w on bounds first i cost r
+
+      kept : Later r next → (j c : ℕ) → IsFollowed w bounds first r j c → IsFollowed w bounds first next j c
+      kept later j c = IsFollowed-later w bounds first limit wiring on are r next j c later
+
+      followed : Later r next → IsFollowed w bounds first next i cost → (j : ℕ) → j < items w
+          → (j ≡ i) ⊎ (j ≢ i) → IsTodo s j ⊎ IsFollowed w bounds first s j (slice_index s.costs j)
+          → (slice_index next.costs j ≡ slice_index r.costs j) ⊎ IsTodo next j
+          → IsTodo next j ⊎ IsFollowed w bounds first next j (slice_index next.costs j)
       followed later led j below which before (inr todo) = inl todo
-      followed later led j below (inl it) before (inl kept) =
-          let now : slice_index (expand w on i cost r).costs j ≡ cost = kept ∙ ap (slice_index r.costs) it ∙ sym costs
-          in
-          inr (inl (subst (λ (c : ℕ). IsFollowed w (expand w on i cost r) j c) (sym now)
-          (subst (λ (k : ℕ). IsFollowed w (expand w on i cost r) k cost) (sym it) led)))
-      followed later led j below (inr other) (inl todo) (inl kept) = elim (taken_todo s r i taken j todo) [
+      followed later led j below (inl it) before (inl same) =
+          let now : slice_index next.costs j ≡ cost = same ∙ ap (slice_index r.costs) it ∙ sym costs in
+          inr (subst (λ (c : ℕ). IsFollowed w bounds first next j c) (sym now)
+          (subst (λ (k : ℕ). IsFollowed w bounds first next k cost) (sym it) led))
+      followed later led j below (inr other) (inl todo) (inl same) = elim (taken_todo s r i taken j todo) [
         | inl it ↦ absurd (other it)
         | inr stays ↦ inl (later.kept j stays)
       ]
-      followed later led j below (inr other) (inr (inr past)) (inl kept) =
-          inr (inr (omega (arith, past, kept, same_cost s r i taken j, same_cost s r i taken first, later.less first)))
-      followed later led j below (inr other) (inr (inl done)) (inl kept) =
-          let now : slice_index (expand w on i cost r).costs j ≡ slice_index s.costs j = kept ∙ same_cost s r i taken j
-          in
-          inr (inl (subst (λ (c : ℕ). IsFollowed w (expand w on i cost r) j c) (sym now)
-          (IsFollowed-later w r (expand w on i cost r) j (slice_index s.costs j) later
-          (followed_taken s r i taken j (slice_index s.costs j) done))))
-
-  -- an item by way of which no round costs less than the cheapest so far
-  pub IsGoing-skipped : (s r : Reach) (i : ℕ) → IsGoing w bounds first limit s → IsTaken s i r
-      → slice_index r.costs first ≤
-      slice_index r.costs i + slice_index bounds i → IsGoing w bounds first limit r
-  IsGoing-skipped s r i going taken enough = record {
-    reach = IsReach-taken s r i taken going.reach;
-    begun = followed_taken s r i taken first 0 going.begun;
-    followed = λ j below. followed j (cases_eq j i) (going.followed j below);
-  }
-    where
-      followed : (j : ℕ) → (j ≡ i) ⊎ (j ≢ i) → IsTodo s j ⊎ IsDone w bounds first s j
-          → IsTodo r j ⊎ IsDone w bounds first r j
-      followed j (inl it) before = inr
-          (inr (omega (arith, enough, ap (slice_index r.costs) it, ap (slice_index bounds) it)))
-      followed j (inr other) (inl todo) = elim (taken_todo s r i taken j todo)
-          [ inl it ↦ absurd (other it) | inr stays ↦ inl stays ]
-      followed j (inr other) (inr (inr past)) = inr (inr (omega
-          (arith, past, same_cost s r i taken j, same_cost s r i taken first)))
-      followed j (inr other) (inr (inl done)) =
-          inr (inl (subst (λ (c : ℕ). IsFollowed w r j c) (sym (same_cost s r i taken j))
-          (followed_taken s r i taken j (slice_index s.costs j) done)))
+      followed later led j below (inr other) (inr done) (inl same) =
+          let now : slice_index next.costs j ≡ slice_index s.costs j = same ∙ same_cost s r i taken j in
+          inr (subst (λ (c : ℕ). IsFollowed w bounds first next j c) (sym now)
+          (kept later j (slice_index s.costs j) (followed_taken s r i taken j (slice_index s.costs j) done)))
 
   -- less is left to do
   work-taken : (s r : Reach) (i : ℕ) → IsTaken s i r → work r + 1 ≡ work s
   work-taken s r i taken = for_queues i r (λ (x : Reach). work r + 1 ≡ work x) (omega arith) (omega arith) (omega arith)
       (omega arith) s taken.queues
 
-  pub work-skipped : (s r : Reach) (i : ℕ) → IsTaken s i r → work r < work s
-  work-skipped s r i taken = omega (arith, work-taken s r i taken)
-
   pub work-less : (s r end : Reach) (i cost : ℕ) → IsGoing w bounds first limit s → IsTaken s i r
-      → cost ≡ slice_index r.costs
-      i → end ≡ expand w on i cost r → work end < work s
+      → cost ≡ slice_index r.costs i → end ≡ expand w on bounds first i cost r → work end < work s
   work-less s r end i cost going taken costs is =
       let todo = going.reach.todo i (taken_was s r i taken) in
-      let grown = Grown-expand w first limit wiring on are i cost r (IsReach-taken s r i taken going.reach) todo.1
+      let grown = Grown-expand w first limit wiring on are bounds i cost r (IsReach-taken s r i taken going.reach)
+      todo.1
       (λ other. omega (arith, costs)) in
       omega (arith, grown.0.later.work, work-taken s r i taken, ap work is)
 
@@ -330,22 +324,27 @@ module _ (w : Wiring) (bounds : List ℕ) (first limit : ℕ) (wiring : IsWiring
     none_left i (inr (inr (inl there))) = omega (arith, there.1, none)
     none_left i (inr (inr (inr there))) = omega (arith, there.1, none)
 
-    all_done : (i : ℕ) → i < items w → IsDone w bounds first s i
+    all_done : (i : ℕ) → i < items w → IsFollowed w bounds first s i (slice_index s.costs i)
     all_done i below = elim (going.followed i below) [ inl todo ↦ absurd (none_left i todo) | inr done ↦ done ]
 
-    -- a hop from an item costs enough
+    -- below it, it is of use to come to the item to which a hop leads
+    abbrev most : Hop → ℕ
+    most h = most_of_use w bounds first s (lane_of w h.flush.item)
+
+    -- a hop from an item costs enough, or is of no use
     hop_enough : (h : Hop) (cost : ℕ) → IsHop w h → lane_of w h.next ≡ lane_of w h.flush.item → h.next < items w →
-        HasRescuer w (lane_of w h.next) → IsFollowed w s h.item cost → slice_index s.costs h.next ≤ cost + hop_cost h
+        HasRescuer w (lane_of w h.next) → IsFollowed w bounds first s h.item cost
+        → min (most h) (slice_index s.costs h.next) ≤ cost + hop_cost h
     hop_enough h cost hop on below rescuer led =
         let is = led h.flush hop.declared (subst (HasRescuer w) on rescuer) in
-        let lane : slice_index s.costs h.next ≤ cost + lane_step h.flush = omega
+        let lane : min (most h) (slice_index s.costs h.next) ≤ cost + lane_step h.flush = omega
         (arith, going.reach.by_lane h.next below, is.1, ap (slice_index s.lane_costs) on) in
         by h.flush.whole (eqb h.flush.item h.next) refl refl lane is.0
       where
-        by : (whole same : Bool) → h.flush.whole ≡ whole → eqb h.flush.item h.next ≡ same → slice_index s.costs h.next ≤
-            cost + (unsure_part h.flush + (if whole then 3 else 4))
-            → slice_index s.costs h.flush.item ≤ cost + (unsure_part h.flush + 3)
-            → slice_index s.costs h.next
+        by : (whole same : Bool) → h.flush.whole ≡ whole → eqb h.flush.item h.next ≡ same
+            → min (most h) (slice_index s.costs h.next) ≤ cost + (unsure_part h.flush + (if whole then 3 else 4))
+            → min (most h) (slice_index s.costs h.flush.item) ≤ cost + (unsure_part h.flush + 3)
+            → min (most h) (slice_index s.costs h.next)
             ≤ cost + (unsure_part h.flush + (3 + length (if whole || same then [] else h.flush.item ∷ [])))
         by true same kind test lane direct = omega arith
         by false true kind test lane direct = omega (
@@ -356,30 +355,57 @@ module _ (w : Wiring) (bounds : List ℕ) (first limit : ℕ) (wiring : IsWiring
         )
         by false false kind test lane direct = omega arith
 
+    -- what is of no use costs enough with any hops that lead back to the first item
+    no_use : (q cost rest : ℕ) → most_of_use w bounds first s q ≤ cost → slice_index bounds q ≤ rest
+        → slice_index s.costs first ≤ cost + rest
+    no_use q cost rest least far = by (eqb q (lane_of w first)) least
+      where
+        by : (b : Bool)
+            → (if b then slice_index s.costs first else slice_index s.costs first - slice_index bounds q) ≤ cost
+            → slice_index s.costs first ≤ cost + rest
+        by true least = omega (arith, least)
+        by false least = omega (arith, least, far)
+
+    -- of the lane of the first item, everything is of use that costs less than the cheapest way round so far
+    most-first : (q : ℕ) → q ≡ lane_of w first → most_of_use w bounds first s q ≡ slice_index s.costs first
+    most-first q same = ap (λ (b : Bool). if b then slice_index s.costs first
+        else slice_index s.costs first - slice_index bounds q) (eq-eqb q (lane_of w first) same)
+
     -- so does a path that leads back to the first item
-    path_enough : (i : ℕ) (hops : List Hop) (cost : ℕ) → first < items w → HasRescuer w (lane_of w first) → IsFollowed w
-        s i cost → 0 < length hops → IsPath w i hops first → slice_index s.costs first ≤ cost + hops_cost hops
+    path_enough : (i : ℕ) (hops : List Hop) (cost : ℕ) → first < items w → HasRescuer w (lane_of w first)
+        → IsFollowed w bounds first s i cost → 0 < length hops → IsPath w i hops first
+        → slice_index s.costs first ≤ cost + hops_cost hops
     path_enough i [] cost below rescuer led some path = absurd (omega arith)
     path_enough i (h ∷ []) cost below rescuer led some path =
-        let led_here : IsFollowed w s h.item cost = subst (λ (k : ℕ). IsFollowed w s k cost) (sym path.0) led in
+        let led_here : IsFollowed w bounds first s h.item cost =
+        subst (λ (k : ℕ). IsFollowed w bounds first s k cost) (sym path.0) led in
         let one = hop_enough h cost path.1 path.2 (subst (λ (k : ℕ). k < items w) (sym path.3) below)
         (subst (λ (k : ℕ). HasRescuer w (lane_of w k)) (sym path.3) rescuer) led_here in
-        omega (arith, one, ap (slice_index s.costs) path.3)
+        let all = most-first (lane_of w h.flush.item) (sym path.2 ∙ ap (lane_of w) path.3) in
+        omega (arith, one, all, ap (slice_index s.costs) path.3)
     path_enough i (h ∷ g ∷ hops) cost below rescuer led some path =
-        let led_here : IsFollowed w s h.item cost = subst (λ (k : ℕ). IsFollowed w s k cost) (sym path.0) led in
+        let led_here : IsFollowed w bounds first s h.item cost =
+        subst (λ (k : ℕ). IsFollowed w bounds first s k cost) (sym path.0) led in
         let next : h.next < items w = subst (λ (k : ℕ). k < items w) path.3.0
         (declared-item w g.item g.flush path.3.1.declared) in
         let has : HasRescuer w (lane_of w h.next) = subst (λ (k : ℕ). HasRescuer w (lane_of w k)) path.3.0
         path.3.1.rescuer in
         let one = hop_enough h cost path.1 path.2 next has led_here in
-        elim (all_done h.next next) [
-          | inl further ↦ omega (
+        let far : slice_index bounds (lane_of w h.flush.item) ≤ hops_cost (g ∷ hops) =
+        subst (λ (q : ℕ). slice_index bounds q ≤ hops_cost (g ∷ hops)) path.2
+        (bounded h.next (g ∷ hops) (omega arith) path.3) in
+        elim (cases_lt (cost + hop_cost h) (most h)) [
+          | inr past ↦ omega (
+            arith,
+            no_use (lane_of w h.flush.item) (cost + hop_cost h) (hops_cost (g ∷ hops)) past far,
+          )
+          | inl of_use ↦ omega (
             arith,
             one,
+            of_use,
             path_enough h.next (g ∷ hops) (slice_index s.costs h.next) below rescuer
-                further (omega arith) path.3,
+                (all_done h.next next) (omega arith) path.3,
           )
-          | inr past ↦ omega (arith, one, past, bounded h.next (g ∷ hops) (omega arith) path.3)
         ]
 
     pub IsSearched-all : first < items w → HasRescuer w (lane_of w first) → IsSearched w first limit s

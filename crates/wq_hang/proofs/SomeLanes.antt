@@ -47,7 +47,6 @@ use Rattle.wq_core.proofs.Wirings.{lane_of-within, IsWiring-wiring, IsWiring-wit
 use Rattle.wq_hang.specs.declared.hop.Hop.{Hop}
 use Rattle.wq_hang.specs.Walk.{IsPath, IsRound, IsRoundOn, IsLeastRoundOn, ArePlacesApart}
 use Rattle.wq_hang.specs.Search.{hops_cost, AreItemsOn, ArePassed, IsLeastRound, AreMarked, AreMarkedOf, AreMade}
-use Rattle.wq_hang.specs.Search.{AreBounds}
 use Rattle.wq_hang.proofs.Declared.{declared-item}
 use Rattle.wq_hang.proofs.StuckRounds.{walk_cost-hops}
 use Rattle.wq_hang.proofs.LeastWalks.{no_round}
@@ -147,9 +146,9 @@ module _ (w : Wiring) (wiring : IsWiring w) (lanes : List ℕ) (bare : List Bool
   AreItemsOn-kept on is = record { one_each = is.one_each; within = is.within; all = is.all }
 
   -- the items on those of the lanes that are marked are passed
-  pub ArePassed-on : (on : List (List ℕ)) (marks : List Bool) (bounds passed : List ℕ) → AreMade w on marks bounds
+  pub ArePassed-on : (on : List (List ℕ)) (marks : List Bool) (passed : List ℕ) → AreMade w on marks
       → AreMarkedOf on marks lanes passed → ArePassed v passed
-  ArePassed-on on marks bounds passed made of = ArePassed-marked v made.numbers marks passed marked
+  ArePassed-on on marks passed made of = ArePassed-marked v made.numbers marks passed marked
       (λ i below rescuer there.
       let on_them = (are (lane_of w i) (lane_of-within w wiring i below)).0 rescuer in
       of.all (lane_of w i) i on_them.1 there (made.items_on.all i below))
@@ -159,22 +158,10 @@ module _ (w : Wiring) (wiring : IsWiring w) (lanes : List ℕ) (bare : List Bool
           let own = (are (lane_of w h.item) (own_lane h hop.declared)).0 hop.rescuer in
           made.marked h (record { declared = hop.declared; rescuer = own.0 }) low
 
-  -- what it costs at least to come to an item that is passed
-  pub AreBounds-on : (on : List (List ℕ)) (marks : List Bool) (bounds passed : List ℕ) → AreMade w on marks bounds
-      → AreMarkedOf on marks lanes passed → (i : ℕ) → Contains passed i → HasRescuer v (lane_of v i)
-      → AreBounds v bounds i
-  AreBounds-on on marks bounds passed made of i there rescuer j hops some path =
-      let at = of.within i there in
-      let it = made.items_on.within at.0 i at.1 in
-      let has = ((are (lane_of w i) (lane_of-within w wiring i it.0)).0 rescuer).0 in
-      let marked : slice_index_or marks (lane_of w i) false ≡ true =
-      ap (λ (q : ℕ). slice_index_or marks q false) it.1 ∙ at.2 in
-      made.bounded i it.0 has marked j hops some (path_on j i hops path)
-
 -- the items that are passed exist
-pub passed_items : (w : Wiring) (on : List (List ℕ)) (marks : List Bool) (bounds lanes passed : List ℕ)
-    → AreMade w on marks bounds → AreMarkedOf on marks lanes passed → All (λ i. i < items w) passed
-passed_items w on marks bounds lanes passed made of k d lt =
+pub passed_items : (w : Wiring) (on : List (List ℕ)) (marks : List Bool) (lanes passed : List ℕ)
+    → AreMade w on marks → AreMarkedOf on marks lanes passed → All (λ i. i < items w) passed
+passed_items w on marks lanes passed made of k d lt =
     let i : ℕ = get_or passed k d in
     let at = of.within i (Contains-get_or passed k d lt) in
     (made.items_on.within at.0 i at.1).0

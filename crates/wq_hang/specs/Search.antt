@@ -1,5 +1,6 @@
 -- A search from one item: what it costs to come from it to the others, hop by hop.
-use Rattle.std.specs.Prelude.{◌≡◌, ◌≢◌, ℕ, ◌<◌, ◌≤◌, ◌+◌, ◌⊎◌, nat_lt, not, ◌&&◌, Bool, true, false, List, [], ◌∷◌}
+use Rattle.std.specs.Prelude.{◌≡◌, ◌≢◌, ◌==◌, ℕ, ◌<◌, ◌≤◌, ◌+◌, ◌-◌, min, ◌⊎◌, nat_lt, not, ◌&&◌, Bool, true, false}
+use Rattle.std.specs.Prelude.{List, [], ◌∷◌}
 use Rattle.std.specs.Prelude.{if◌then◌else◌, ◌++◌, length, fold, slice_index, slice_index_or, slice_set, Contains}
 use Rattle.std.specs.List.{list_any}
 use Rattle.wq_items.specs.declared.target.Target.{Target}
@@ -83,18 +84,36 @@ step t = unsure_part t + 3
 abbrev pub lane_step : Target → ℕ
 lane_step t = unsure_part t + (if t.whole then 3 else 4)
 
--- the flush of item i, which costs so much, leads on to its target and to all items on the lane of its target, if that
--- has a rescuer
-abbrev pub follow : Wiring → List (List ℕ) → ℕ → ℕ → Reach → Target → Reach
-follow w on i cost s t =
+-- it has to cost less than this to come to lane q, so that a round by way of it can cost less than the cheapest so far
+abbrev pub most_of_use : Wiring → List ℕ → ℕ → Reach → ℕ → ℕ
+most_of_use w bounds first s q =
+    if q == lane_of w first then slice_index s.costs first else slice_index s.costs first - slice_index bounds q
+
+-- the flush of item i leads on to its target, if that costs less than the most that is of use
+abbrev pub to_target : ℕ → ℕ → ℕ → Reach → Target → Reach
+to_target most i cost s t =
+    if nat_lt (cost + step t) most then reach true (cost + step t) s (hop_to i t t.item) else s
+
+-- it leads on to all items on the lane of its target, if that costs less than the most that is of use
+abbrev pub to_lane : Wiring → List (List ℕ) → ℕ → ℕ → ℕ → Reach → Target → Reach
+to_lane w on most i cost s t =
+    if nat_lt (cost + lane_step t) most
+    then reach_lane t.whole (cost + lane_step t) i t (lane_of w t.item) (slice_index_or on (lane_of w t.item) []) s
+    else s
+
+-- it leads on to both
+abbrev pub to_both : Wiring → List (List ℕ) → ℕ → ℕ → ℕ → Reach → Target → Reach
+to_both w on most i cost s t = to_lane w on most i cost (to_target most i cost s t) t
+
+-- the flush of item i, which costs so much, leads on as far as that is of use, if the lane of its target has a rescuer
+abbrev pub follow : Wiring → List (List ℕ) → List ℕ → ℕ → ℕ → ℕ → Reach → Target → Reach
+follow w on bounds first i cost s t =
     if slice_index_or w.bare (lane_of w t.item) false then s
-    else reach_lane t.whole (cost
-    + lane_step t) i t (lane_of w t.item) (slice_index_or on (lane_of w t.item) [])
-    (reach true (cost + step t) s (hop_to i t t.item))
+    else to_both w on (most_of_use w bounds first s (lane_of w t.item)) i cost s t
 
 -- all flushes of item i
-abbrev pub expand : Wiring → List (List ℕ) → ℕ → ℕ → Reach → Reach
-expand w on i cost s = fold (follow w on i cost) s (declared_by w i)
+abbrev pub expand : Wiring → List (List ℕ) → List ℕ → ℕ → ℕ → ℕ → Reach → Reach
+expand w on bounds first i cost s = fold (follow w on bounds first i cost) s (declared_by w i)
 
 -- ---- what is found
 
@@ -125,33 +144,28 @@ pub record IsReach (w : Wiring) (first limit : ℕ) (s : Reach) : Type 0 where
   pub reached : (i : ℕ) (d : Hop) → i < items w → slice_index s.costs i < limit
       → IsReachedBy w first s i (slice_index_or s.by i d)
 
--- the flushes of item i lead on at no more than this cost and what each costs more
-abbrev pub IsFollowed : Wiring → Reach → ℕ → ℕ → Type 0
-IsFollowed w s i cost = (t : Target) → Contains (declared_by w i) t → HasRescuer w (lane_of w t.item)
-    → (slice_index s.costs t.item ≤ cost + step t) × (slice_index s.lane_costs (lane_of w t.item) ≤ cost + lane_step t)
+-- the flushes of item i lead on at no more than this cost and what each costs more, or that is of no use
+abbrev pub IsFollowed : Wiring → List ℕ → ℕ → Reach → ℕ → ℕ → Type 0
+IsFollowed w bounds first s i cost = (t : Target) → Contains (declared_by w i) t → HasRescuer w (lane_of w t.item)
+    → (min (most_of_use w bounds first s (lane_of w t.item)) (slice_index s.costs t.item) ≤ cost + step t)
+    × (min (most_of_use w bounds first s (lane_of w t.item)) (slice_index s.lane_costs (lane_of w t.item))
+    ≤ cost + lane_step t)
 
 -- what each hop of item i costs at least
 abbrev pub least_hop : Wiring → ℕ → ℕ
 least_hop w i = if list_any (λ (t : Target). not t.unsure) (declared_by w i) then 3 else unsure_cost + 3
 
--- bounds: to come from item i to the first one, by one hop or more, costs at least the bound of item i
+-- bounds: to come from an item to the first one, by one hop or more, costs at least the bound of the item's lane
 abbrev pub AreBounds : Wiring → List ℕ → ℕ → Type 0
 AreBounds w bounds first = (i : ℕ) (hops : List Hop) → 0 < length hops → IsPath w i hops first
-    → slice_index bounds i ≤ hops_cost hops
-
--- item i need not be gone on from: its flushes are followed, or by its bound no round by way of it costs less than the
--- cheapest way round so far
-abbrev pub IsDone : Wiring → List ℕ → ℕ → Reach → ℕ → Type 0
-IsDone w bounds first s i =
-    IsFollowed w s i (slice_index s.costs i)
-    ⊎ (slice_index s.costs first ≤ slice_index s.costs i + slice_index bounds i)
+    → slice_index bounds (lane_of w i) ≤ hops_cost hops
 
 -- while the search goes on: the first item's flushes are followed from nothing; and each other item is to be gone on
--- from, or need not be
+-- from, or its flushes are followed
 pub record IsGoing (w : Wiring) (bounds : List ℕ) (first limit : ℕ) (s : Reach) : Type 0 where
   pub reach : IsReach w first limit s
-  pub begun : IsFollowed w s first 0
-  pub followed : (i : ℕ) → i < items w → IsTodo s i ⊎ IsDone w bounds first s i
+  pub begun : IsFollowed w bounds first s first 0
+  pub followed : (i : ℕ) → i < items w → IsTodo s i ⊎ IsFollowed w bounds first s i (slice_index s.costs i)
 
 -- the search is over: its cost for the first item is no more than that of any round from it; and the hops lead round,
 -- if it is less than the limit
@@ -221,13 +235,9 @@ pub record AreMarkedOf (on : List (List ℕ)) (marks : List Bool) (lanes items :
   pub all : (q i : ℕ) → Contains lanes q → slice_index_or marks q false ≡ true → Contains (slice_index_or on q []) i
       → Contains items i
 
--- what is made of a wiring once: the items on each lane, marks of lanes by some numbers, and bounds of what it costs to
--- come to each item of a marked lane
-pub record AreMade (w : Wiring) (on : List (List ℕ)) (marks : List Bool) (bounds : List ℕ) : Type 0 where
+-- what is made of a wiring once: the items on each lane, and marks of lanes by some numbers
+pub record AreMade (w : Wiring) (on : List (List ℕ)) (marks : List Bool) : Type 0 where
   pub items_on : AreItemsOn w on
   pub one_each : length marks ≡ w.lanes
   pub numbers : List ℕ
   pub marked : AreMarked w numbers marks
-  pub bound_each : length bounds ≡ items w
-  pub bounded : (first : ℕ) → first < items w → HasRescuer w (lane_of w first)
-      → slice_index_or marks (lane_of w first) false ≡ true → AreBounds w bounds first

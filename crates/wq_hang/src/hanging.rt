@@ -14,7 +14,7 @@ ghost use Rattle.wq_hang.specs.Search.{IsLeastRound, hops_cost};
 
 use crate::answer::Answer;
 use crate::bare::first_to_bare;
-use crate::bounds::bounds;
+use crate::bounds::by_falling_numbers;
 use crate::hop::Hop;
 use crate::hop_back::unsure_part;
 use crate::least::{MOST, least_round_settled};
@@ -55,10 +55,10 @@ fn least_of_all<A: Allocator + Copy>(
 {
     let on = items_on_lanes(alloc, waits)?;
     let marks = marked_lanes(alloc, waits, numbers)?;
-    let bounds = bounds(alloc, waits, numbers, &on, &marks)?;
+    let order = by_falling_numbers(alloc, numbers)?;
     let passed = marked_items(alloc, waits, &marks)?;
     let mut search = Search::new(alloc);
-    least_round_settled(alloc, waits, &on, &bounds, &mut search, &passed, limit)
+    least_round_settled(alloc, waits, &on, &order, &mut search, &passed, limit)
 }
 
 /// A least walk, with the items that are queued beside those that wait.

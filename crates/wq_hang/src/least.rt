@@ -1,9 +1,9 @@
 //! A least round: waits that hold one another up, at the least cost.
 //!
-//! A round is searched for from each of some items in turn, for less than the best one so far costs. If the item's
-//! bound isn't less, there is none; and if two hops from the item cost no less, only the item's own flushes are looked
-//! at. Each round passes one of these items. It takes the time of a search for each of them, and memory in the number
-//! of items and lanes.
+//! A round is searched for from each of some items in turn, for less than the best one so far costs. If the bound of
+//! the item's lane isn't less, there is none; and if two hops from the item cost no less, only the item's own flushes
+//! are looked at. Each round passes one of these items. It takes the time of a search for each of them, and memory in
+//! the number of items and lanes.
 
 ghost use Rattle.std.specs.Prelude.{◌≡◌, ◌+◌, ◌<◌, ◌≤◌, ℕ, List, length, slice_index, Contains, IfOk, IfSome};
 ghost use Rattle.std.specs.Prelude.{IfNone};
@@ -14,6 +14,7 @@ ghost use Rattle.wq_hang.specs.Walk.{AreFirstAlike, BeginsUnsure, IsRound, max_w
 ghost use Rattle.wq_hang.specs.Search.{AreItemsOn, ArePassed, IsReach, IsBetter, IsNoBetter, IsLeastRound, hops_cost};
 ghost use Rattle.wq_hang.specs.Search.{AreBounds, least_hop};
 
+use crate::bounds::{bounds, no_bounds};
 use crate::hop::Hop;
 use crate::hop_back::{UNSURE, cost_back, hop_back, least_hop};
 use crate::search::{Search, search_from};
@@ -26,6 +27,15 @@ use wq_items::ItemId;
 /// No round costs as much that meets no lane twice: there are at most 4,096 lanes, each costs at most 4 and `UNSURE`,
 /// and as much more.
 pub(crate) const MOST: u32 = 4097 * (UNSURE + 4);
+
+/// So many searches share their bounds.
+pub(crate) const AT_A_TIME: usize = 128;
+
+/// To make bounds takes as long as so many searches.
+const TOO_FEW: usize = 4;
+
+/// For a round of fewer hops than the best one so far, if that has so few, each search is short.
+const SHORT: usize = 3;
 
 /// The round that a search from an item found, the item's own hop first.
 fn round<A: Allocator + Copy>(
@@ -74,7 +84,7 @@ fn better_hop<A: Allocator + Copy>(
 }
 
 /// A round from an item that costs less than the least so far, and what it costs at most, if there is one.
-fn better_round<A: Allocator + Copy>(
+pub(crate) fn better_round<A: Allocator + Copy>(
     alloc: A,
     waits: &Waits<'_, A>,
     on: &Buckets<A>,
@@ -84,7 +94,7 @@ fn better_round<A: Allocator + Copy>(
     least: u32,
 ) -> Result<Option<(u32, Vec<Hop, A>)>, AllocError>
     requires on { AreItemsOn waits.now on.now }
-    requires one_each { length bounds.now ≡ items waits.now }
+    requires one_each { length bounds.now ≡ waits.now.lanes }
     requires bounds { HasRescuer waits.now (lane_of waits.now first) → AreBounds waits.now bounds.now first }
     requires first { first < items waits.now }
     requires low { least ≤ max_walk_cost }
@@ -98,7 +108,7 @@ fn better_round<A: Allocator + Copy>(
     if !waits.has_rescuer(waits.lane_of(first)) {
         return Ok(None);
     }
-    if least <= bounds[usize::from(first.get())] {
+    if least <= bounds[usize::from(waits.lane_of(first).get())] {
         return Ok(None);
     }
     // A second hop costs 3.
@@ -114,21 +124,48 @@ fn better_round<A: Allocator + Copy>(
     Ok(Some((cost, hops)))
 }
 
+/// Whether a round was found that is short.
+fn is_short<A: Allocator>(found: &Option<Vec<Hop, A>>) -> bool {
+    match found {
+        Some(hops) => hops.len() <= SHORT,
+        None => false,
+    }
+}
+
+/// Bounds for searches from these few items, if they save more time than they take, and else such that leave nothing
+/// out.
+fn bounds_of_use<A: Allocator + Copy>(
+    alloc: A,
+    waits: &Waits<'_, A>,
+    on: &Buckets<A>,
+    order: &[u16],
+    few: &[u32],
+    found: &Option<Vec<Hop, A>>,
+) -> Result<Vec<u32, A>, AllocError>
+    requires on { AreItemsOn waits.now on.now }
+    requires few { All (λ i. i < items waits.now) few.now }
+    ensures len { IfOk result (λ bounds. length bounds.items ≡ waits.now.lanes) }
+    ensures bounds { IfOk result (λ bounds. (i : ℕ) → Contains few.now i → HasRescuer waits.now (lane_of waits.now i) →
+        AreBounds waits.now bounds.items i) }
+{
+    if few.len() <= TOO_FEW || is_short(found) {
+        return no_bounds(alloc, waits.lanes());
+    }
+    bounds(alloc, waits, on, order, few)
+}
+
 /// A round that costs less than the limit and no more than any other, if there is one that costs less. Each round
-/// passes one of these items.
+/// passes one of these items. The order of lanes is that in which bounds are made.
 pub(crate) fn least_round<A: Allocator + Copy>(
     alloc: A,
     waits: &Waits<'_, A>,
     on: &Buckets<A>,
-    bounds: &[u32],
+    order: &[u16],
     search: &mut Search<A>,
     passed: &[u32],
     limit: u32,
 ) -> Result<Option<Vec<Hop, A>>, AllocError>
     requires on { AreItemsOn waits.now on.now }
-    requires one_each { length bounds.now ≡ items waits.now }
-    requires bounds { (i : ℕ) → Contains passed.now i → HasRescuer waits.now (lane_of waits.now i) →
-        AreBounds waits.now bounds.now i }
     requires items { All (λ i. i < items waits.now) passed.now }
     requires passed { ArePassed waits.now passed.now }
     requires low { limit ≤ max_walk_cost }
@@ -139,12 +176,21 @@ pub(crate) fn least_round<A: Allocator + Copy>(
     let _items = waits.items();
     let mut least = limit;
     let mut found = None;
-    for i in passed {
-        let first = ItemId::new(*i as u16);
-        if let Some((cost, hops)) = better_round(alloc, waits, on, bounds, search, first, least)? {
-            least = cost;
-            found = Some(hops);
+    let mut from = 0;
+    while from < passed.len() {
+        let to = passed.len().min(from + AT_A_TIME);
+        let few = &passed[from..to];
+        let bounds = bounds_of_use(alloc, waits, on, order, few, &found)?;
+        for i in few {
+            let first = ItemId::new(*i as u16);
+            if let Some((cost, hops)) = better_round(
+                alloc, waits, on, &bounds, search, first, least,
+            )? {
+                least = cost;
+                found = Some(hops);
+            }
         }
+        from = to;
     }
     Ok(found)
 }
@@ -155,15 +201,12 @@ pub(crate) fn least_round_settled<A: Allocator + Copy>(
     alloc: A,
     waits: &Waits<'_, A>,
     on: &Buckets<A>,
-    bounds: &[u32],
+    order: &[u16],
     search: &mut Search<A>,
     passed: &[u32],
     limit: u32,
 ) -> Result<Option<Vec<Hop, A>>, AllocError>
     requires on { AreItemsOn waits.now on.now }
-    requires one_each { length bounds.now ≡ items waits.now }
-    requires bounds { (i : ℕ) → Contains passed.now i → HasRescuer waits.now (lane_of waits.now i) →
-        AreBounds waits.now bounds.now i }
     requires items { All (λ i. i < items waits.now) passed.now }
     requires passed { ArePassed waits.now passed.now }
     requires low { limit ≤ max_walk_cost }
@@ -173,7 +216,7 @@ pub(crate) fn least_round_settled<A: Allocator + Copy>(
     ensures begins { IfOk result (λ found. IfSome found (λ hops. BeginsUnsure hops.items)) }
     ensures alike { IfOk result (λ found. IfSome found (λ hops. AreFirstAlike waits.now hops.items)) }
 {
-    match least_round(alloc, waits, on, bounds, search, passed, limit)? {
+    match least_round(alloc, waits, on, order, search, passed, limit)? {
         Some(mut hops) => {
             settle(waits, hops.as_mut_slice());
             Ok(Some(hops))

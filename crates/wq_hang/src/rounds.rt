@@ -11,7 +11,7 @@ ghost use Rattle.wq_core.specs.Workqueues.{wiring_of, with_bare};
 ghost use Rattle.wq_hang.specs.declared.hop.Hop.{Hop};
 ghost use Rattle.wq_hang.specs.Walk.{BeginsUnsure, IsRoundOn, IsLeastRoundOn};
 
-use crate::bounds::bounds;
+use crate::bounds::by_falling_numbers;
 use crate::hop::Hop;
 use crate::least::{MOST, least_round_settled};
 use crate::marks::marked_lanes;
@@ -31,7 +31,7 @@ pub struct Rounds<A: Allocator> {
     core: Core<A>,
     on: Buckets<A>,
     marks: Vec<bool, A>,
-    bounds: Vec<u32, A>,
+    order: Vec<u16, A>,
     bare: Vec<bool, A>,
     passed: Vec<u32, A>,
     search: Search<A>,
@@ -45,7 +45,7 @@ impl<A: Allocator> Model for Rounds<A> {
 
     ghost view = { λ r. r.core.wiring };
 
-    ghost invariant = { λ r. AreMade r.core.wiring r.on r.marks.items r.bounds.items };
+    ghost invariant = { λ r. AreMade r.core.wiring r.on r.marks.items };
 }
 
 /// Leaves out all of this many lanes.
@@ -91,12 +91,12 @@ impl<A: Allocator + Copy> Rounds<A> {
         let waits = Waits::new(&core, workqueues.bare());
         let on = items_on_lanes(alloc, &waits)?;
         let marks = marked_lanes(alloc, &waits, &numbers)?;
-        let bounds = bounds(alloc, &waits, &numbers, &on, &marks)?;
+        let order = by_falling_numbers(alloc, &numbers)?;
         Ok(Rounds {
             core,
             on,
             marks,
-            bounds,
+            order,
             bare: Vec::new(alloc),
             passed: Vec::new(alloc),
             search: Search::new(alloc),
@@ -122,7 +122,7 @@ impl<A: Allocator + Copy> Rounds<A> {
             alloc,
             &waits,
             &self.on,
-            self.bounds.as_slice(),
+            self.order.as_slice(),
             &mut self.search,
             self.passed.as_slice(),
             MOST,

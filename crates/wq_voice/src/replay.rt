@@ -46,7 +46,7 @@ fn say_unlawful<A: Allocator + Copy>(
 }
 
 /// The same of a run that was made in a reading, or with all flushes.
-fn say_unlawful_in_reading<A: Allocator + Copy>(
+pub(crate) fn say_unlawful_in_reading<A: Allocator + Copy>(
     alloc: A,
     assigned: &Assigned<'_, '_, A>,
     assignment: &[u8],

@@ -16,18 +16,3 @@ least_round_settled-requires-clause-passed g c =
     c.in_ok-passed.ensures.all i below (subst (λ (l : List Bool). slice_index_or l (lane_of w i) false ≡ true)
     (sym c.deref-2.ensures.value) marked)) in
     subst (ArePassed w) (sym c.deref-4.ensures.value) are
-
-pub least_round_settled-requires-clause-bounds : goal.least_round_settled-requires-clause-bounds
-least_round_settled-requires-clause-bounds g c = λ i there rescuer.
-    let w = c.args.waits.now in
-    let marks = c.in_ok-marks.marks.items in
-    let passed = c.in_ok-passed.passed.items in
-    let bounds = c.in_ok-bounds.bounds.items in
-    let here : Contains passed i = subst (λ (l : List ℕ). Contains l i) c.deref-4.ensures.value there in
-    let item : i < items w = All-contains (λ k. k < items w) passed i c.in_ok-passed.ensures.items here in
-    let marked : slice_index_or marks (lane_of w i) false ≡ true =
-    subst (λ (l : List Bool). slice_index_or l (lane_of w i) false ≡ true) c.deref-2.ensures.value
-    (c.in_ok-passed.ensures.marked i here) in
-    let are : AreBounds w bounds i = c.in_ok-bounds.ensures.bounds i item rescuer
-    (subst (λ (l : List Bool). slice_index_or l (lane_of w i) false ≡ true) (sym c.deref.ensures.value) marked) in
-    subst (λ (l : List ℕ). AreBounds w l i) (sym c.deref-3.ensures.value) are

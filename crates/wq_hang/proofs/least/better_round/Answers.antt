@@ -16,7 +16,11 @@ returns-then-least-bounds g c =
     record {
       some = tt;
       none = IsNoBetter-bound w c.args.bounds.now c.args.first c.args.least (c.requires.bounds rescuer)
-          (omega (arith, c.if-least-bounds.true, ap (slice_index c.args.bounds.now) (c.from.ensures ∙ c.get.ensures)));
+          (omega (
+            arith,
+            c.if-least-bounds.true,
+            ap (slice_index c.args.bounds.now) (c.from.ensures ∙ c.get.ensures ∙ c.lane_of-2.ensures.lane),
+          ));
     }
 
 pub returns-then-not-has_rescuer : goal.returns-then-not-has_rescuer

@@ -5,9 +5,7 @@ use Rattle.wq_hang.proofs.Searching.{
   IsNew,
   IsGoing-first,
   IsGoing-next,
-  IsGoing-skipped,
   work-less,
-  work-skipped,
   taken_was,
   IsSearched-all,
 }
@@ -80,30 +78,3 @@ returns g c =
       c.in_default.ensures.far_unsure,
     )) c.requires.bounds c.requires.first c.requires.rescuer in
     subst (IsSearched w c.args.first c.args.limit) (sym c.in_default.ensures.none) all
-
-pub loop-item-preserved-then-left-bounds : goal.loop-item-preserved-then-left-bounds
-loop-item-preserved-then-left-bounds g c =
-    IsGoing-skipped c.args.waits.now c.args.bounds.now c.args.first c.args.limit c.items.ensures.wiring c.args.on.now
-    c.requires.on c.loop-item.search c.take.new.self c.in-Some.item c.loop-item.invariant c.in-Some.ensures.some
-    (omega (
-      arith,
-      c.cost-cost.ensures,
-      c.cost.ensures,
-      c.saturating_sub-left.ensures,
-      c.if-left-bounds.true,
-      ap (slice_index c.args.bounds.now) (c.from.ensures ∙ c.get.ensures),
-    ))
-
-pub loop-item-smaller-then-left-bounds : goal.loop-item-smaller-then-left-bounds
-loop-item-smaller-then-left-bounds g c =
-    work-skipped c.args.waits.now c.args.bounds.now c.args.first c.args.limit c.items.ensures.wiring c.args.on.now
-    c.requires.on c.loop-item.search c.take.new.self c.in-Some.item c.in-Some.ensures.some
-
-pub bounds-bounds-from : goal.bounds-bounds-from
-bounds-bounds-from g c =
-    let w = c.args.waits.now in
-    let s = c.loop-item.search in
-    let was = taken_was w c.args.bounds.now c.args.first c.args.limit c.items.ensures.wiring c.args.on.now c.requires.on
-    s c.take.new.self
-    c.in-Some.item c.in-Some.ensures.some in
-    omega (arith, (c.loop-item.invariant.reach.todo c.in-Some.item was).0, c.requires.one_each)

@@ -40,7 +40,7 @@ least_round_settled-requires-clause-items g c =
     subst (λ (l : List Bool). AreMarkedOf c.self.inside.on l c.args.lanes.now passed) c.deref.ensures.value
     c.in_ok-marked_items_of.ensures in
     let all : All (λ i. i < items w) passed = passed_items w c.self.inside.on c.self.inside.marks.items
-    c.self.inside.bounds.items c.args.lanes.now passed c.self.invariant of in
+    c.args.lanes.now passed c.self.invariant of in
     let here : All (λ i. i < items w) c.as_slice-3.result.now =
     subst (λ (l : List ℕ). All (λ i. i < items w) l) (sym c.as_slice-3.ensures.value) all in
     subst (λ (v : Wiring). All (λ i. i < items v) c.as_slice-3.result.now) (sym same) here
@@ -56,77 +56,7 @@ least_round_settled-requires-clause-passed g c =
     subst (λ (l : List Bool). AreMarkedOf c.self.inside.on l c.args.lanes.now passed) c.deref.ensures.value
     c.in_ok-marked_items_of.ensures in
     let are : ArePassed (with_bare w bare) passed = ArePassed-on w c.lanes-lanes.ensures.machine.wiring c.args.lanes.now
-    bare c.in_ok-leave_others_out.ensures c.self.inside.on c.self.inside.marks.items c.self.inside.bounds.items
+    bare c.in_ok-leave_others_out.ensures c.self.inside.on c.self.inside.marks.items
     passed c.self.invariant of in
     subst (ArePassed c.new-waits.result) (sym c.as_slice-3.ensures.value)
     (subst (λ (v : Wiring). ArePassed v passed) (sym same) are)
-
-pub least_round_settled-requires-clause-bounds : goal.least_round_settled-requires-clause-bounds
-least_round_settled-requires-clause-bounds g c = λ i there rescuer.
-    let w = c.self.inside.core.wiring in
-    let bare = c.leave_others_out.new.bare.items in
-    let passed = c.marked_items_of.new.list.items in
-    let bounds = c.self.inside.bounds.items in
-    let same : c.new-waits.result ≡ with_bare w bare = c.new-waits.ensures ∙ ap (with_bare w) c.as_slice.ensures.value
-    in
-    let of : AreMarkedOf c.self.inside.on c.self.inside.marks.items c.args.lanes.now passed =
-    subst (λ (l : List Bool). AreMarkedOf c.self.inside.on l c.args.lanes.now passed) c.deref.ensures.value
-    c.in_ok-marked_items_of.ensures in
-    let here : Contains passed i = subst (λ (l : List ℕ). Contains l i) c.as_slice-3.ensures.value there in
-    let has : HasRescuer (with_bare w bare) (lane_of w i) =
-    subst (λ (v : Wiring). HasRescuer v (lane_of v i)) same rescuer in
-    let are : AreBounds (with_bare w bare) bounds i =
-    AreBounds-on w c.lanes-lanes.ensures.machine.wiring c.args.lanes.now bare c.in_ok-leave_others_out.ensures
-    c.self.inside.on c.self.inside.marks.items bounds passed c.self.invariant of i here has in
-    subst (λ (v : Wiring). AreBounds v c.as_slice-2.result.now i) (sym same)
-    (subst (λ (l : List ℕ). AreBounds (with_bare w bare) l i) (sym c.as_slice-2.ensures.value) are)
-
-pub least_round_settled-requires-clause-one_each : goal.least_round_settled-requires-clause-one_each
-least_round_settled-requires-clause-one_each g c =
-    let w = c.self.inside.core.wiring in
-    let bare = c.leave_others_out.new.bare.items in
-    let same : c.new-waits.result ≡ with_bare w bare = c.new-waits.ensures ∙ ap (with_bare w) c.as_slice.ensures.value
-    in
-    ap (λ (l : List ℕ). length l) c.as_slice-2.ensures.value ∙ c.self.invariant.bound_each
-    ∙ ap (λ (v : Wiring). items v) (sym same)
-
-pub returns-clause-some : goal.returns-clause-some
-returns-clause-some g c =
-    let w = c.self.inside.core.wiring in
-    let bare = c.leave_others_out.new.bare.items in
-    let lanes = c.args.lanes.now in
-    let same : c.new-waits.result ≡ with_bare w bare = c.new-waits.ensures
-    ∙ ap (with_bare w) c.as_slice.ensures.value in
-    let on : (hops : List Hop) → IsLeastRound c.new-waits.result 134266884 hops
-    → IsLeastRoundOn c.args.self.now lanes hops = λ hops is.
-    let least : IsLeastRound (with_bare w bare) 134266884 hops = subst
-    (λ (v : Wiring). IsLeastRound v 134266884 hops) same is in
-    subst (λ (v : Wiring). IsLeastRoundOn v lanes hops) c.self.view_is
-    (IsLeastRoundOn-least w c.lanes-lanes.ensures.machine.wiring lanes bare c.in_ok-leave_others_out.ensures
-    134266884 hops least) in
-    IfOk-weaker c.least_round_settled.result (λ found. IfSome found
-    (λ hops. IsLeastRound c.new-waits.result 134266884 hops.items))
-    (λ found. IfSome found (λ hops. IsLeastRoundOn c.args.self.now lanes hops.items))
-    (λ found some. IfSome-weaker found (λ hops. IsLeastRound c.new-waits.result 134266884 hops.items)
-    (λ hops. IsLeastRoundOn c.args.self.now lanes hops.items) (λ hops is. on hops.items is) some)
-    c.least_round_settled.ensures.some
-
-pub returns-clause-none : goal.returns-clause-none
-returns-clause-none g c =
-    let w = c.self.inside.core.wiring in
-    let bare = c.leave_others_out.new.bare.items in
-    let lanes = c.args.lanes.now in
-    let same : c.new-waits.result ≡ with_bare w bare = c.new-waits.ensures
-    ∙ ap (with_bare w) c.as_slice.ensures.value in
-    let none : ((hops : List Hop) → IsRound c.new-waits.result hops → 134266884 ≤ hops_cost hops) → (hops : List Hop)
-    → ¬ IsRoundOn c.args.self.now lanes hops = λ rounds hops is.
-    none_on w c.lanes-lanes.ensures.machine.wiring lanes bare c.in_ok-leave_others_out.ensures 134266884
-    (omega (arith, c.lanes-lanes.ensures.machine.few_lanes))
-    (subst (λ (v : Wiring). (others : List Hop) → IsRound v others → 134266884 ≤ hops_cost others) same rounds) hops
-    (subst (λ (v : Wiring). IsRoundOn v lanes hops) (sym c.self.view_is) is) in
-    IfOk-weaker c.least_round_settled.result (λ found. IfNone found
-    ((hops : List Hop) → IsRound c.new-waits.result hops → 134266884 ≤ hops_cost hops))
-    (λ found. IfNone found ((hops : List Hop) → ¬ IsRoundOn c.args.self.now lanes hops))
-    (λ found rounds. IfNone-weaker found ((hops : List Hop) → IsRound c.new-waits.result hops
-    → 134266884 ≤ hops_cost hops) ((hops : List Hop) → ¬ IsRoundOn c.args.self.now lanes hops) none rounds)
-    c.least_round_settled.ensures.none

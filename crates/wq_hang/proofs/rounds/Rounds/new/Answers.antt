@@ -16,13 +16,9 @@ invariant_of-result g c =
     ∙ same_bare core (declaration_of c.table.result.now c.groups.result.now) c.workqueues-workqueues.result.now
     c.bare.result.now
     of c.bare.ensures in
-    subst (λ (v : Wiring). AreMade v c.in_ok-on.on c.in_ok-marks.marks.items c.in_ok-bounds.bounds.items) same (record {
+    subst (λ (v : Wiring). AreMade v c.in_ok-on.on c.in_ok-marks.marks.items) same (record {
       items_on = c.in_ok-on.ensures;
       one_each = c.in_ok-marks.ensures.len;
       numbers = c.deref.result.now;
       marked = c.in_ok-marks.ensures.marked;
-      bound_each = c.in_ok-bounds.ensures.len;
-      bounded = λ first item rescuer marked. c.in_ok-bounds.ensures.bounds first item rescuer
-          (subst (λ (l : List Bool). slice_index_or l (lane_of c.new-waits.result first) false ≡ true)
-          (sym c.deref-3.ensures.value) marked);
     })

@@ -16,17 +16,20 @@ follow-requires-clause-target g c =
 pub follow-requires-clause-one_each : goal.follow-requires-clause-one_each
 follow-requires-clause-one_each g c =
     let w = c.args.waits.now in
-    let large = AsLarge-follows w c.args.on.now c.args.item c.args.cost (take c.loop-flush.flush-index (declared_by w c.args.item)) c.args.self.now in
+    let large = AsLarge-follows w c.args.on.now c.args.bounds.now c.args.first c.args.item
+    c.args.cost (take c.loop-flush.flush-index (declared_by w c.args.item)) c.args.self.now in
     ap (λ (r : Reach). length r.costs) c.loop-flush.invariant ∙ large.one_each ∙ c.requires.one_each
 
 pub follow-requires-clause-by_each : goal.follow-requires-clause-by_each
 follow-requires-clause-by_each g c =
     let w = c.args.waits.now in
-    let large = AsLarge-follows w c.args.on.now c.args.item c.args.cost (take c.loop-flush.flush-index (declared_by w c.args.item)) c.args.self.now in
+    let large = AsLarge-follows w c.args.on.now c.args.bounds.now c.args.first c.args.item
+    c.args.cost (take c.loop-flush.flush-index (declared_by w c.args.item)) c.args.self.now in
     ap (λ (r : Reach). length r.by) c.loop-flush.invariant ∙ large.by_each ∙ c.requires.by_each
 
 pub follow-requires-clause-lanes_each : goal.follow-requires-clause-lanes_each
 follow-requires-clause-lanes_each g c =
     let w = c.args.waits.now in
-    let large = AsLarge-follows w c.args.on.now c.args.item c.args.cost (take c.loop-flush.flush-index (declared_by w c.args.item)) c.args.self.now in
+    let large = AsLarge-follows w c.args.on.now c.args.bounds.now c.args.first c.args.item
+    c.args.cost (take c.loop-flush.flush-index (declared_by w c.args.item)) c.args.self.now in
     ap (λ (r : Reach). length r.lane_costs) c.loop-flush.invariant ∙ large.lanes_each ∙ c.requires.lanes_each
