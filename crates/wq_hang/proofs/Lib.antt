@@ -2,6 +2,8 @@ pub mod HopsBack
 pub mod Declared
 pub mod Taken
 pub mod Apart
+pub mod Once
+pub mod OnceMarked
 pub mod Weights
 pub mod StuckLanes
 pub mod StuckRounds

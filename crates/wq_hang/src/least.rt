@@ -29,7 +29,7 @@ use wq_items::ItemId;
 pub(crate) const MOST: u32 = 4097 * (UNSURE + 4);
 
 /// So many searches share their bounds.
-const AT_A_TIME: usize = 128;
+pub(crate) const AT_A_TIME: usize = 128;
 
 /// The round that a search from an item found, the item's own hop first.
 fn round<A: Allocator + Copy>(
@@ -78,7 +78,7 @@ fn better_hop<A: Allocator + Copy>(
 }
 
 /// A round from an item that costs less than the least so far, and what it costs at most, if there is one.
-fn better_round<A: Allocator + Copy>(
+pub(crate) fn better_round<A: Allocator + Copy>(
     alloc: A,
     waits: &Waits<'_, A>,
     on: &Buckets<A>,
