@@ -9,7 +9,12 @@ pub mod StuckLanes
 pub mod StuckRounds
 pub mod LeastWalks
 pub mod WalkRuns
+pub mod CutWalks
 pub mod Shortest
+pub mod LaneCounts
+pub mod StuckWalks
+pub mod RunsFor
+pub mod FewestFor
 pub mod Fewest
 pub mod Sizes
 pub mod Reaching
