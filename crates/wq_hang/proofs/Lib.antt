@@ -19,6 +19,8 @@ pub mod Fewest
 pub mod Sizes
 pub mod Reaching
 pub mod Searching
+pub mod WaysGrown
+pub mod WaysFound
 pub mod Bounding
 pub mod LaneItems
 pub mod RoundsFound
