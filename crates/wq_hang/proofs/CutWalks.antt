@@ -144,6 +144,12 @@ path_parts w i j (x ∷ xs) h ys path =
     let rest = path_parts w x.next j xs h ys path.3 in
     ((path.0, path.1, path.2, rest.0), rest.1)
 
+-- the items of a path to a lane that has a rescuer are on such lanes
+pub path_rescuer : (w : Wiring) (i j : ℕ) (hops : List Hop) → IsPath w i hops j → HasRescuer w (lane_of w j)
+    → HasRescuer w (lane_of w i)
+path_rescuer w i j [] path rescuer = subst (λ (k : ℕ). HasRescuer w (lane_of w k)) (sym path) rescuer
+path_rescuer w i j (h ∷ hops) path rescuer = subst (λ (k : ℕ). HasRescuer w (lane_of w k)) path.0 path.1.rescuer
+
 -- ---- the last hop leads elsewhere
 
 lanes_from-redirected : (w : Wiring) (y : ℕ) (g : Hop) (hops : List Hop)

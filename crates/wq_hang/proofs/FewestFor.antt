@@ -39,7 +39,7 @@ walk_for_hop w x hops holds h there = elim (leads_from w x hops holds) [
 ]
 
 -- as many as the lanes at most
-few_hops : (w : Wiring) (x : ℕ) (hops : List Hop) → IsWiring w → HoldsUp w x hops → Apart (lanes_from w hops)
+pub few_hops : (w : Wiring) (x : ℕ) (hops : List Hop) → IsWiring w → HoldsUp w x hops → Apart (lanes_from w hops)
     → length hops ≤ w.lanes
 few_hops w x hops wiring holds apart = elim (leads_from w x hops holds) [
   | inl none ↦ omega (arith, ap (λ (l : List Hop). length l) none.0)

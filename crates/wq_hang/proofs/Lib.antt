@@ -21,6 +21,9 @@ pub mod Reaching
 pub mod Searching
 pub mod WaysGrown
 pub mod WaysFound
+pub mod EndCosts
+pub mod NoEnds
+pub mod Nearer
 pub mod Bounding
 pub mod LaneItems
 pub mod RoundsFound

@@ -43,7 +43,7 @@ path_first w i j [] path some = absurd (omega arith)
 path_first w i j (g ∷ hops) path some = inl (sym path.0)
 
 -- the lanes to which a path leads are those from which it leads, but for the first and the last
-path_lanes : (w : Wiring) (i j : ℕ) (hops : List Hop) → IsPath w i hops j → lane_of w i ∷ lanes_to w hops ≡ lanes_from w hops ++ (lane_of w j ∷ [])
+pub path_lanes : (w : Wiring) (i j : ℕ) (hops : List Hop) → IsPath w i hops j → lane_of w i ∷ lanes_to w hops ≡ lanes_from w hops ++ (lane_of w j ∷ [])
 path_lanes w i j [] path = ap (λ (x : ℕ). lane_of w x ∷ []) path
 path_lanes w i j (h ∷ hops) path =
     ap (λ (x : ℕ). lane_of w x ∷ lane_of w h.flush.item ∷ lanes_to w hops) (sym path.0)
@@ -58,7 +58,7 @@ lanes_around w i h hops path =
     ∙ path_lanes w h.next i hops path.3
     ∙ ap (λ (x : ℕ). lanes_from w hops ++ (lane_of w x ∷ [])) (sym path.0)
 
-round_lanes : (w : Wiring) (i : ℕ) (hops : List Hop) → IsPath w i hops i → Apart (lanes_from w hops)
+pub round_lanes : (w : Wiring) (i : ℕ) (hops : List Hop) → IsPath w i hops i → Apart (lanes_from w hops)
     → Apart (lanes_to w hops)
 round_lanes w i [] path apart = tt
 round_lanes w i (h ∷ hops) path apart =
@@ -95,7 +95,7 @@ walk_hop w hops beside (inr (g, hop, bare, one, other)) h there =
 
 -- ---- what is queued beside
 
-lane_to_In : (w : Wiring) (hops : List Hop) (h : Hop) → Contains hops h → In (lane_of w h.flush.item) (lanes_to w hops)
+pub lane_to_In : (w : Wiring) (hops : List Hop) (h : Hop) → Contains hops h → In (lane_of w h.flush.item) (lanes_to w hops)
 lane_to_In w [] h (k, lt, at) = omega arith
 lane_to_In w (g ∷ hops) h (zero, lt, at) = inl (ap (λ (x : Hop). lane_of w x.flush.item) (sym at))
 lane_to_In w (g ∷ hops) h (suc k, lt, at) = inr (lane_to_In w hops h (k, omega arith, at))
@@ -148,7 +148,7 @@ items_apart w [] apart = tt
 items_apart w (h ∷ hops) apart = (items_avoid w h.item hops apart.0, items_apart w hops apart.1)
 
 -- an item whose lane none of the hops leaves isn't one of theirs
-lane_apart : (w : Wiring) (hops : List Hop) (i j : ℕ) → Avoids (lane_of w i) (lanes_from w hops) → In j (items_of hops) → lane_of w i ≢ lane_of w j
+pub lane_apart : (w : Wiring) (hops : List Hop) (i j : ℕ) → Avoids (lane_of w i) (lanes_from w hops) → In j (items_of hops) → lane_of w i ≢ lane_of w j
 lane_apart w hops i j avoids there is =
     let found = In_item hops j there in
     not_in (lane_of w i) (lanes_from w hops) avoids (subst (λ (q : ℕ). In q (lanes_from w hops)) (ap (lane_of w) found.2 ∙ sym is) (lane_In w hops found.0 found.1))

@@ -41,7 +41,7 @@ walk_steps-hops (h ∷ hops) =
     omega (arith, rest, length-append (target_beside h) (flat_map target_beside hops))
 
 -- what one hop more adds for an unsure flush
-unsure-more : (u : Bool) (h : Hop) (hops : List Hop)
+pub unsure-more : (u : Bool) (h : Hop) (hops : List Hop)
     → 32768 * length (cond u (h ∷ hops) hops) ≡ (if u then 32768 else 0) + 32768 * length hops
 unsure-more true h hops = omega arith
 unsure-more false h hops = omega arith

@@ -82,7 +82,7 @@ pending_hop w (h ∷ hops) i there =
 
 -- ---- how many they are
 
-length-named : (x : ℕ) (hops : List Hop) → length (named_beside x hops) ≤ 1
+pub length-named : (x : ℕ) (hops : List Hop) → length (named_beside x hops) ≤ 1
 length-named x [] = omega arith
 length-named x (h ∷ hops) = by (h.item == x)
   where
@@ -90,7 +90,7 @@ length-named x (h ∷ hops) = by (h.item == x)
     by true = omega arith
     by false = omega arith
 
-length-pending_beside : (w : Wiring) (h : Hop) → length (pending_beside w h) ≤ 1
+pub length-pending_beside : (w : Wiring) (h : Hop) → length (pending_beside w h) ≤ 1
 length-pending_beside w h = elim (pending_cases w h) [
   | inl none ↦ omega (arith, ap (λ (l : List ℕ). length l) none)
   | inr one ↦ omega (arith, ap (λ (l : List ℕ). length l) one)

@@ -17,6 +17,7 @@ use Rattle.wq_hang.specs.WaysFor.{AreFollowed, AreWaysSoFar, AreWays, IsWay}
 use Rattle.wq_hang.proofs.Declared.{declared-item}
 use Rattle.wq_hang.proofs.Reaching.{queues, work, Later}
 use Rattle.wq_hang.proofs.Searching.{IsNew, replicate-most, none_todo, taken_todo, taken_before, taken_was, work-taken}
+use Rattle.wq_hang.proofs.CutWalks.{path_rescuer}
 use Rattle.wq_hang.proofs.WaysGrown.{GrownFrom, GrownFrom-begin_at, GrownFrom-start_lane, GrownFrom-expand}
 
 module _ (w : Wiring) (starts : List ℕ) (limit : ℕ) where
@@ -293,19 +294,12 @@ module _ (w : Wiring) (starts : List ℕ) (limit : ℕ) where
             omega (arith, direct, ap (slice_index s.costs) (eqb-true h.flush.item h.next test))
         by false false test lane direct = omega arith
 
-    -- the items of a path to a lane that has a rescuer are on such lanes
-    path_rescuer : (i j : ℕ) (hops : List Hop) → IsPath w i hops j → HasRescuer w (lane_of w j)
-        → HasRescuer w (lane_of w i)
-    path_rescuer i j [] path rescuer = subst (λ (k : ℕ). HasRescuer w (lane_of w k)) (sym path) rescuer
-    path_rescuer i j (h ∷ hops) path rescuer =
-        subst (λ (k : ℕ). HasRescuer w (lane_of w k)) path.0 path.1.rescuer
-
     path_enough : (i j : ℕ) (hops : List Hop) → IsPath w i hops j → HasRescuer w (lane_of w j)
         → slice_index s.costs j ≤ slice_index s.costs i + hops_cost hops
     path_enough i j [] path rescuer = omega (arith, ap (slice_index s.costs) path)
     path_enough i j (h ∷ hops) path rescuer =
         let one : slice_index s.costs h.next ≤ slice_index s.costs h.item + hop_cost h =
-        hop_enough h path.1 path.2 (path_rescuer h.next j hops path.3 rescuer) in
+        hop_enough h path.1 path.2 (path_rescuer w h.next j hops path.3 rescuer) in
         let rest : slice_index s.costs j ≤ slice_index s.costs h.next + hops_cost hops =
         path_enough h.next j hops path.3 rescuer in
         omega (arith, one, rest, ap (slice_index s.costs) path.0)
