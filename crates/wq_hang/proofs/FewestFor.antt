@@ -5,6 +5,7 @@ use Rattle.std.specs.Prelude.{Contains, filter, slice_index_or}
 use Rattle.std.specs.List.{All, range_with_len}
 use Rattle.std.proofs.lemmas.Bool.{cases_lt}
 use Rattle.std.proofs.lemmas.List.{length-map}
+use Rattle.std.proofs.lemmas.List.Elements.{Contains-append_left, Contains-append_right}
 use Rattle.wq_items.specs.Table.{max_flushes, places}
 use Rattle.wq_items.specs.Readings.{is_kept, kept_of}
 use Rattle.wq_groups.specs.Assignment.{max_lanes}
@@ -98,19 +99,6 @@ IsSafeFor-lane w i j wiring item same rescuer safe n few steps run stuck =
 
 -- ---- readings
 
-Contains-left : (xs ys : List Hop) (h : Hop) → Contains xs h → Contains (xs ++ ys) h
-Contains-left [] ys h there = absurd (omega (arith, there.1))
-Contains-left (x ∷ xs) ys h (zero, lt, at) = (0, omega arith, at)
-Contains-left (x ∷ xs) ys h (suc k, lt, at) =
-    let later = Contains-left xs ys h (k, omega arith, at) in
-    (suc later.0, omega (arith, later.1), later.2)
-
-Contains-right : (xs ys : List Hop) (h : Hop) → Contains ys h → Contains (xs ++ ys) h
-Contains-right [] ys h there = there
-Contains-right (x ∷ xs) ys h there =
-    let later = Contains-right xs ys h there in
-    (suc later.0, omega (arith, later.1), later.2)
-
 module _ (w : Wiring) (kept : List ℕ) where
   HoldsUp-out : (x : ℕ) (hops : List Hop) → HoldsUp (reading w kept) x hops → HoldsUp w x hops
   HoldsUp-out x hops (inl none) = inl none
@@ -147,10 +135,10 @@ module _ (w : Wiring) (kept : List ℕ) where
         at = meets.at;
         are = meets.are;
         leads = IsPath-in w kept first meets.at meets.way meets.leads
-            (λ h there. in_all h (Contains-left meets.way meets.round h there));
+            (λ h there. in_all h (Contains-append_left meets.way meets.round h there));
         some = meets.some;
         goes_round = IsPath-in w kept meets.at meets.at meets.round meets.goes_round
-            (λ h there. in_all h (Contains-right meets.way meets.round h there));
+            (λ h there. in_all h (Contains-append_right meets.way meets.round h there));
       }))
   HoldsUp-in x hops (inr (first, lane, inr meets)) stay =
       let in_all : (h : Hop) → Contains (meets.way ++ (meets.last ∷ [])) h → is_kept kept h.flush ≡ true = λ h there.
@@ -160,10 +148,10 @@ module _ (w : Wiring) (kept : List ℕ) where
         last = meets.last;
         are = meets.are;
         leads = IsPath-in w kept first meets.last.item meets.way meets.leads
-            (λ h there. in_all h (Contains-left meets.way (meets.last ∷ []) h there));
+            (λ h there. in_all h (Contains-append_left meets.way (meets.last ∷ []) h there));
         to_bare = record {
           hop = IsHop-in w kept meets.last meets.to_bare.hop
-              (in_all meets.last (Contains-right meets.way (meets.last ∷ []) meets.last (0, omega arith, refl)));
+              (in_all meets.last (Contains-append_right meets.way (meets.last ∷ []) meets.last (0, omega arith, refl)));
           bare = meets.to_bare.bare;
           next = meets.to_bare.next;
         };

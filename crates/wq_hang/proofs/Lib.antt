@@ -21,6 +21,7 @@ pub mod Reaching
 pub mod Searching
 pub mod WaysGrown
 pub mod WaysFound
+pub mod Awaited
 pub mod EndCosts
 pub mod NoEnds
 pub mod Nearer

@@ -5,7 +5,7 @@ use Rattle.std.specs.Prelude.{Contains, slice_index, slice_index_or, if◌then�
 use Rattle.std.specs.List.{All}
 use Rattle.std.proofs.lemmas.Bool.{cases_eq, cases_lt, eqb-true}
 use Rattle.std.proofs.lemmas.List.{get_or-replicate, get_or_past, length-replicate, reverse-append}
-use Rattle.std.proofs.lemmas.List.Elements.{All-contains, All-weaker}
+use Rattle.std.proofs.lemmas.List.Elements.{All-contains, All-contains_itself, All-weaker}
 use Rattle.wq_items.specs.declared.target.Target.{Target}
 use Rattle.wq_core.specs.Wiring.{Wiring, IsWiring, HasRescuer, items, lane_of, declared_by}
 use Rattle.wq_core.proofs.Wirings.{lane_of-within}
@@ -117,20 +117,13 @@ module _ (w : Wiring) (starts : List ℕ) (limit : ℕ) where
         ];
       }
 
-  all_of : (P : ℕ → Type 0) (is : List ℕ) → ((i : ℕ) → Contains is i → P i) → All P is
-  all_of P is each k d lt = each (get_or is k d) (k, lt, fixed is k d lt)
-    where
-      fixed : (xs : List ℕ) (i x : ℕ) → i < length xs → get_or xs i (get_or xs i x) ≡ get_or xs i x
-      fixed [] i x lt = absurd (omega arith)
-      fixed (y ∷ xs) zero x lt = refl
-      fixed (y ∷ xs) (suc i) x lt = fixed xs i x (omega arith)
-
   -- what costs as much as the limit is followed at no more
   pub AreWaysSoFar-behind : (s : Reach) → AreBehind starts s → AreWaysSoFar w starts limit s
   AreWaysSoFar-behind s are = record {
     reach = are.begun.reach;
-    begun = all_of (λ i. (slice_index s.costs i ≡ 0) × (slice_index s.lane_costs (lane_of w i) ≤ 1)) starts
-        (λ i there. (are.begun.nothing i there, are.lanes i there));
+    begun = All-weaker (Contains starts)
+        (λ i. (slice_index s.costs i ≡ 0) × (slice_index s.lane_costs (lane_of w i) ≤ 1))
+        (λ i there. (are.begun.nothing i there, are.lanes i there)) starts (All-contains_itself starts);
     followed = λ i below. elim (are.begun.others i below) [
       | inl todo ↦ inl todo
       | inr at_limit ↦ inr (λ t there rescuer. (

@@ -10,6 +10,7 @@ use Rattle.wq_hang.specs.Search.{
   IsTodo,
   Reach,
   hop_cost,
+  hop_to,
   hops_cost,
   lane_step,
   step,
@@ -125,6 +126,13 @@ pub record IsWay (w : Wiring) (starts : List ℕ) (s : Reach) (i : ℕ) (hops : 
 pub record PendingFound : Type 0 where
   pub costs : List ℕ
   pub by : List Hop
+
+-- item i waits by the flush for its target alone, which costs so much, if that is less than before
+abbrev pub wait_alone : ℕ → PendingFound → ℕ → Target → PendingFound
+wait_alone cost p i t =
+    if nat_lt cost (slice_index p.costs t.item)
+    then record { costs = slice_set p.costs t.item cost; by = slice_set p.by t.item (hop_to i t t.item) }
+    else p
 
 -- item i, to which there is a way, waits by this flush for its target alone, which is on a lane with a rescuer
 pub record WaitsAlone (w : Wiring) (limit : ℕ) (s : Reach) (i : ℕ) (t : Target) : Type 0 where

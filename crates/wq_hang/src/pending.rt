@@ -4,13 +4,14 @@
 //! and that is 1 less than if they met at an item that waits. It takes time and memory in the number of items and
 //! flushes.
 
-ghost use Rattle.std.specs.Prelude.{◌≡◌, ◌+◌, ◌<◌, ◌≤◌, length, slice_index, slice_index_or, IfOk, IfSome, IfNone};
+ghost use Rattle.std.specs.Prelude.{◌≡◌, ◌+◌, ◌<◌, ◌≤◌, length, replicate, slice_index, slice_index_or, IfOk, IfSome};
+ghost use Rattle.std.specs.Prelude.{IfNone};
 ghost use Rattle.std.specs.List.{All};
 ghost use Rattle.wq_core.specs.Wiring.{items};
 ghost use Rattle.wq_hang.specs.declared.hop.Hop.{Hop};
 ghost use Rattle.wq_hang.specs.Walk.{max_walk_cost};
 ghost use Rattle.wq_hang.specs.Search.{step};
-ghost use Rattle.wq_hang.specs.WaysFor.{ArePending, AreLatest};
+ghost use Rattle.wq_hang.specs.WaysFor.{ArePending, AreLatest, wait_alone};
 
 use crate::hop::Hop;
 use crate::hop_back::unsure_part;
@@ -45,7 +46,10 @@ pub(crate) fn cost_to_wait(cost: u32, flush: &Target) -> u32
 
 impl<A: Allocator + Copy> Pending<A> {
     /// Nobody waits for an item yet; it costs as much as the limit.
-    fn none(alloc: A, items: usize, limit: u32) -> Result<Self, AllocError> {
+    fn none(alloc: A, items: usize, limit: u32) -> Result<Self, AllocError>
+        ensures costs { IfOk result (λ pending. pending.costs ≡ replicate items limit) }
+        ensures by { IfOk result (λ pending. length pending.by ≡ items) }
+    {
         let none = ItemId::new(0);
         let unset = Hop {
             item: none,
@@ -62,6 +66,7 @@ impl<A: Allocator + Copy> Pending<A> {
     fn reach(&mut self, cost: u32, item: ItemId, flush: &Target)
         requires costs { flush.now.item < length self.old.costs }
         requires by { flush.now.item < length self.old.by }
+        ensures { self.new ≡ wait_alone cost self.old item flush.now }
     {
         let at = usize::from(flush.item.get());
         if cost < self.costs[at] {
@@ -83,7 +88,7 @@ impl<A: Allocator + Copy> Pending<A> {
         limit: u32,
     ) -> Result<Self, AllocError>
         requires starts { All (λ i. i < items waits.now) starts.now }
-        requires low { limit ≤ max_walk_cost }
+        requires low { (0 < limit) × (limit ≤ max_walk_cost) }
         requires one_each { length ways.now.costs ≡ items waits.now }
         ensures { IfOk result (ArePending waits.now starts.now limit ways.now) }
     {
