@@ -149,6 +149,10 @@ pub record ServeAll (w : Wiring) (few bounds : List ℕ) : Type 0 where
   pub len : length bounds ≡ w.lanes
   pub serve : (i : ℕ) → Contains few i → HasRescuer w (lane_of w i) → AreBounds w bounds i
 
+pub ServeAll-made : (w : Wiring) (few bounds : List ℕ) → length bounds ≡ w.lanes
+    → ((i : ℕ) → Contains few i → HasRescuer w (lane_of w i) → AreBounds w bounds i) → ServeAll w few bounds
+ServeAll-made w few bounds len serve = record { len = len; serve = serve }
+
 pub ServeAll-none : (w : Wiring) (few bounds : List ℕ) (n : ℕ) → n ≡ w.lanes → bounds ≡ replicate n 0
     → ServeAll w few bounds
 ServeAll-none w few bounds n lanes is = record {

@@ -6,7 +6,7 @@ use Rattle.std.proofs.lemmas.List.{get_or-take, get_or-drop, length-take, length
 use Rattle.std.proofs.lemmas.List.Elements.{Contains-get_or}
 use Rattle.wq_hang.specs.Search.{AreBounds, IsBetter, IsNoBetter}
 use Rattle.wq_hang.proofs.Taken.{contains_more, contains_all}
-use Rattle.wq_hang.proofs.Bounding.{ServeAll, ServeAll-none}
+use Rattle.wq_hang.proofs.Bounding.{ServeAll, ServeAll-made, ServeAll-none}
 use Rattle.wq_hang.proofs.LeastFound.{IsBest, IsBest-none, IsBest-some, IsBest-kept, IfSome-best, IfNone-best}
 use Rattle.wq_hang.proofs.least.least_round.Goals as goal
 use Rattle.wq_hang.proofs.least.least_round.Goals.{in-Some, in_default, else-not-are_made}
@@ -68,7 +68,9 @@ loop-i-preserved g c =
     let few = take (c.min-to.result - c.loop-from.from) (drop c.loop-from.from c.args.passed.now) in
     let served : ServeAll c.args.waits.now few c.if-not-are_made.bounds.items = elim c.if-not-are_made.branch [
       | then-not-are_made+then-saturating_sub-items+in_ok-bounds-2 w ↦
-          subst (λ b. ServeAll c.args.waits.now few b.items) (sym w.bounds-is) (record { len = w.in_ok-bounds-2.ensures.len; serve = w.in_ok-bounds-2.ensures.bounds })
+          subst (λ b. ServeAll c.args.waits.now few b.items) (sym w.bounds-is)
+          (ServeAll-made c.args.waits.now few w.in_ok-bounds-2.bounds.items w.in_ok-bounds-2.ensures.len
+          w.in_ok-bounds-2.ensures.bounds)
       | else-not-are_made w ↦ subst (λ b. ServeAll c.args.waits.now few b.items) (sym w.bounds-is) c.loop-i.invariant.0
     ] in (
       served,
@@ -80,14 +82,16 @@ loop-i-preserved g c =
                 let here : IsBetter v i least w.in-Some.cost w.in-Some.hops.items =
                 subst (λ (x : ℕ). IsBetter v x least w.in-Some.cost w.in-Some.hops.items) item better in
                 IsBest-some c.loop-i.found c.match-branch-4.found w.in-Some.hops (λ x. x.items) v c.args.limit
-                (take n passed) (take (n + 1) passed) i least w.in-Some.cost c.match-branch-4.least c.loop-i.invariant.1 more
+                (take n passed) (take (n + 1) passed) i least w.in-Some.cost c.match-branch-4.least
+                c.loop-i.invariant.1 more
                 here w.least-is w.found-is
                 )
             | in_default w ↦ (
                 let none : IsNoBetter v c.new-first.result least = rw w.in_default.is at c.in_ok-cost.ensures.none in
                 let here : IsNoBetter v i least = subst (λ (x : ℕ). IsNoBetter v x least) item none in
                 IsBest-kept c.loop-i.found c.match-branch-4.found (λ x. x.items) v c.args.limit (take n passed)
-                (take (n + 1) passed) i least c.match-branch-4.least c.loop-i.invariant.1 more here w.least-is w.found-is
+                (take (n + 1) passed) i least c.match-branch-4.least c.loop-i.invariant.1 more here w.least-is
+                w.found-is
                 )
           ]),
     )
@@ -107,7 +111,9 @@ better_round-requires-clause-bounds g c = λ rescuer.
     let few = take (c.min-to.result - c.loop-from.from) (drop c.loop-from.from c.args.passed.now) in
     let served : ServeAll c.args.waits.now few c.if-not-are_made.bounds.items = elim c.if-not-are_made.branch [
       | then-not-are_made+then-saturating_sub-items+in_ok-bounds-2 w ↦
-          subst (λ b. ServeAll c.args.waits.now few b.items) (sym w.bounds-is) (record { len = w.in_ok-bounds-2.ensures.len; serve = w.in_ok-bounds-2.ensures.bounds })
+          subst (λ b. ServeAll c.args.waits.now few b.items) (sym w.bounds-is)
+          (ServeAll-made c.args.waits.now few w.in_ok-bounds-2.bounds.items w.in_ok-bounds-2.ensures.len
+          w.in_ok-bounds-2.ensures.bounds)
       | else-not-are_made w ↦ subst (λ b. ServeAll c.args.waits.now few b.items) (sym w.bounds-is) c.loop-i.invariant.0
     ] in
     let there : Contains few c.new-first.result = subst (Contains few) (sym c.new-first.ensures)
@@ -120,7 +126,9 @@ better_round-requires-clause-one_each g c =
     let few = take (c.min-to.result - c.loop-from.from) (drop c.loop-from.from c.args.passed.now) in
     let served : ServeAll c.args.waits.now few c.if-not-are_made.bounds.items = elim c.if-not-are_made.branch [
       | then-not-are_made+then-saturating_sub-items+in_ok-bounds-2 w ↦
-          subst (λ b. ServeAll c.args.waits.now few b.items) (sym w.bounds-is) (record { len = w.in_ok-bounds-2.ensures.len; serve = w.in_ok-bounds-2.ensures.bounds })
+          subst (λ b. ServeAll c.args.waits.now few b.items) (sym w.bounds-is)
+          (ServeAll-made c.args.waits.now few w.in_ok-bounds-2.bounds.items w.in_ok-bounds-2.ensures.len
+          w.in_ok-bounds-2.ensures.bounds)
       | else-not-are_made w ↦ subst (λ b. ServeAll c.args.waits.now few b.items) (sym w.bounds-is) c.loop-i.invariant.0
     ] in
     ap (λ (l : List ℕ). length l) c.deref.ensures.value ∙ served.len
