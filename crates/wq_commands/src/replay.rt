@@ -1,7 +1,7 @@
 //! The command `replay`: from the bytes of a declaration, an assignment and a run to how the run ends.
 //!
 //! The declaration is read first, then the assignment and then the run, all before any is judged. The answer is built
-//! in full before the first byte is written. It takes the time of reading the texts, of judging them and making the
+//! in full before the first byte is written. A call takes the time of reading the texts, of judging them and making the
 //! steps, and of writing the answer.
 
 ghost use Rattle.std.specs.Prelude.{◌≡◌, ◌≢◌, ◌≤◌, ◌+◌, ◌⊎◌, ℕ, List, Err, IfOk};

@@ -1,4 +1,4 @@
-//! What is printed once all threads have ended. It takes time in the number of seats, items and rows.
+//! What is printed once all threads have ended. A call takes time linear in the number of seats, items and rows.
 
 use crate::loads::client::Client;
 use crate::loads::load::{CallerTask, Load};

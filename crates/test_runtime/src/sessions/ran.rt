@@ -1,4 +1,5 @@
-//! What is printed once all rescuers, helpers and callers have ended. It takes time in the length of what is printed.
+//! What is printed once all rescuers, helpers and callers have ended. A call takes time linear in the length of what is
+//! printed.
 
 use crate::testbed::{Bed, fault, put_closed, put_context, put_done};
 use std::alloc::{AllocError, Global};
