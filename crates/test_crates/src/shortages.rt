@@ -40,7 +40,7 @@ const STUCK: &[Made] = &[
     Wait(1, 3),
 ];
 
-/// Has the machine of two lanes run until no lane can move, and asserts that this takes no memory.
+/// Runs the machine of two lanes until no lane can move, and asserts that this takes no memory.
 fn get_stuck(rt: &impl Abort, heap: &Heap, core: &mut Core<&Heap>) {
     let refused = heap.has_refused();
     for made in STUCK {

@@ -108,7 +108,7 @@ fn put_seats<N: Naming>(
     Ok(())
 }
 
-/// Prints what a closed runtime hands back: of a stress each row too. Returns the status.
+/// Prints what a closed runtime hands back, with each row after a stress. Returns the status.
 fn put_closed<N: Naming>(
     out: &mut String,
     table: &ItemTable<'_, Global>,

@@ -127,7 +127,7 @@ fn put_unrun<N: Naming, B: Body + Drop, C: Caller + Drop>(
     Ok(1)
 }
 
-/// Closes a runtime, and adds what is handed back. Returns the status.
+/// Closes a runtime, and adds what it hands back. Returns the status.
 fn close<N: Naming>(
     out: &mut String,
     table: &ItemTable<'_, Global>,
