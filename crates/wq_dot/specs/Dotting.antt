@@ -163,7 +163,7 @@ abbrev pub hanging_looks : Declared → List Hop → List WaitArc → List Flush
 hanging_looks s hops arcs = red_looks_of (flush_count s.table.waits) hops arcs
 
 -- workqueues with these names are drawn: the flushes on a circle are red, and so are those that lead to a workqueue
--- without a rescuer, and if there are any, this is what hangs; the flushes of `waits`, which are those of a shortest
+-- without a rescuer, and if there are any, this is what hangs; the flushes of `hops`, which are the waits of a shortest
 -- run that ends stuck, are bold red
 pub record DrawsCircles (s : Declared) (comments : List (List ℕ)) (ws : Workqueues) (called : List (List ℕ))
     (hanging : List ℕ) (hops : List Hop) (out : List ℕ) : Type 0 where
