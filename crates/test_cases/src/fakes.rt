@@ -1,5 +1,5 @@
-//! Readers and writers that misbehave, which no clause of `std` describes. Each call
-//! takes time in the number of bytes that it moves.
+//! Readers and writers that misbehave, which no clause of `std` describes. Each call takes time linear in the number of
+//! bytes that it moves.
 
 ghost use Rattle.std.specs.Prelude.{◌≤◌, IfOk};
 

@@ -1,8 +1,8 @@
 //! Books: an ask of another book, and what a book says of its rows and its lanes.
 //!
-//! What each call answers in which state, and the judgement of a history, are tested
-//! in tests/runtime/book. The rules are those of "Books" in docs/RUNTIME.md, from
-//! which each row was worked out by hand. The tests take time in the number of calls.
+//! What each call answers in which state, and the judgement of a history, are tested in tests/runtime/book. The rules
+//! are those of "Books" in docs/RUNTIME.md, from which each row was worked out by hand. The tests take time linear in
+//! the number of calls.
 
 use crate::declared::{core_in, helped_core_in};
 use linked_list_allocator::LocalHeap;

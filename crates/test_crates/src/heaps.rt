@@ -1,6 +1,6 @@
 //! Commands with heaps that are too small, at each size up to one that is large enough.
 //!
-//! It takes time in the number of sizes and cases.
+//! The tests take time linear in the number of sizes and cases.
 
 use linked_list_allocator::LocalHeap;
 use std::alloc::{AllocError, Global};

@@ -2,7 +2,7 @@
 //!
 //! The rules are those of "The machine" in docs/DEFINITIONS.md, from which each number and each refusal was worked out
 //! by hand. Which steps are lawful and which numbers they give is tested in tests/cli/rows and tests/runtime/book, too.
-//! The tests take time in the number of steps.
+//! The tests take time linear in the number of steps.
 
 use crate::declared::{core_in, helped_core_in};
 use std::alloc::{Allocator, Global};

@@ -1,6 +1,6 @@
 //! Rows whose bytes were worked out by hand from "Histories" in docs/FORMAT.md.
 //!
-//! More rows, and bytes that hold none, are in tests/runtime/book. The test takes time in the number of rows.
+//! More rows, and bytes that hold none, are in tests/runtime/book. The test takes time linear in the number of rows.
 
 ghost use Rattle.std.specs.Prelude.{◌≡◌};
 

@@ -1,5 +1,5 @@
-//! Commands over devices that move a byte a call, or a few, and with each call of a
-//! device failing in turn. It takes the time of all runs.
+//! Commands over devices that move a byte a call, or a few, and with each call of a device failing in turn. This takes
+//! as long as all the runs together.
 
 use crate::asked::Wanted;
 use crate::devices::{

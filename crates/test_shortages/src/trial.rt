@@ -1,6 +1,6 @@
 //! What is run with each of its requests for memory refused in turn, and the line that is printed of it.
 //!
-//! Each request is refused twice: alone, and with all after it. It takes the time of all runs.
+//! Each request is refused twice: alone, and with all after it. This takes as long as all the runs together.
 
 use std::alloc::Global;
 use std::io;

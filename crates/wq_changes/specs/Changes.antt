@@ -29,7 +29,7 @@ changes_of groups old new =
     map (λ q. change.Given q) (filter (is_given groups old new) (range_with_len 0 old.assignment.lanes))
     ++ map (λ g. change.Moved g) (filter (has_moved old new) (range_with_len 0 groups))
 
--- a change of one of this many groups, or of a lane
+-- a change of a group below this number, or of a lane
 abbrev pub IsOf : ℕ → Change → Type 0
 IsOf groups (change.Moved g) = g < groups
 IsOf groups (change.Given q) = ⊤

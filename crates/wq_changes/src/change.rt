@@ -1,7 +1,6 @@
 //! Changes of workqueues: which there are.
 //!
-//! It takes time in the number of groups and lanes; for a lane without a rescuer that has one now, in the number of
-//! groups.
+//! A call takes O(groups + lanes) time, and O(groups) more for each lane that is given a rescuer.
 
 ghost use Rattle.std.specs.Prelude.{◌≡◌, ◌<◌, ◌≤◌, ◌++◌, IfOk, OnOk, filter, length, map};
 ghost use Rattle.std.specs.List.{list_any, range_with_len};

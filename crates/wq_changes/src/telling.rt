@@ -1,8 +1,8 @@
 //! What is said of changes: for each in turn what is changed, and for the first ones how the workqueues hang without
 //! it.
 //!
-//! The form is that of "Changes" in docs/FORMAT.md. It takes the time of a search for a shortest run for each of the
-//! first changes.
+//! The form is that of "Changes" in docs/FORMAT.md. A call takes the time of a search for a shortest run for each of
+//! the first changes.
 
 ghost use Rattle.std.specs.Prelude.{◌≡◌, ◌≤◌, [], ◌∷◌, IfOk, length, map, option_map, unwrap_or};
 ghost use Rattle.std.specs.List.{All};

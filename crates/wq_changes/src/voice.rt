@@ -1,7 +1,7 @@
-//! What is said beside the answer of `repair`: the diagnosis of the text that is refused; which NAME is that of no
-//! item; or what is changed, or why no change helps.
+//! What is said beside the answer of `repair`: the diagnosis of the text that is refused; which NAME is no item's; or
+//! what is changed, or why no change helps.
 //!
-//! It takes the time and the memory of the diagnosis, or of what is said of the answer.
+//! A call takes the time and the memory of the diagnosis, or of what is said of the answer.
 
 ghost use Rattle.std.specs.Prelude.{ℕ, IfOk, List, Some, map, option_map};
 ghost use Rattle.wq_diagnosis.specs.Refused.{Diagnoses};

@@ -1,7 +1,8 @@
 //! The command `check`: from the bytes of a declaration and a certificate to the bytes of the checker's answer.
 //!
 //! The declaration is read first and the certificate next, both before either is judged. The answer is built in full
-//! before the first byte is written. It takes the time of reading the texts, of judging them and of writing the answer.
+//! before the first byte is written. A call takes the time of reading the texts, of judging them and of writing the
+//! answer.
 
 ghost use Rattle.std.specs.Prelude.{◌≡◌, ◌≢◌, ◌≤◌, ◌+◌, ◌⊎◌, ℕ, List, Err, IfOk};
 ghost use Rattle.wq_meter.specs.Meter.{count_after, LosesPrefix, WritesPrefix, WritesWhole};

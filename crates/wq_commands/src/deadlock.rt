@@ -1,7 +1,8 @@
 //! The command `deadlock`: from the bytes of a declaration and an assignment to the bytes of the verdict on it.
 //!
 //! The declaration is read first and the assignment next, both before either is judged. The answer is built in full
-//! before the first byte is written. It takes the time of reading the texts, of the verdict and of writing the answer.
+//! before the first byte is written. A call takes the time of reading the texts, of the verdict and of writing the
+//! answer.
 
 ghost use Rattle.std.specs.Prelude.{◌≡◌, ◌≢◌, ◌≤◌, ◌+◌, ◌⊎◌, ℕ, List, Err, IfOk};
 ghost use Rattle.wq_meter.specs.Meter.{count_after, LosesPrefix, WritesPrefix, WritesWhole};

@@ -1,7 +1,7 @@
 //! The four passes over a declaration text, one after the other. The pass over the lines and the one over the items are
 //! made at once, if neither finds a fault.
 //!
-//! The passes take time in the length of the text, and memory in the number of items and flushes.
+//! The passes take time linear in the length of the text, and memory linear in the number of items and flushes.
 
 ghost use Rattle.std.specs.Prelude.{◌≡◌, Ok, Err, None, Result, IfOk, IfErr};
 ghost use Rattle.wq_text.specs.Lines.{lines_of};

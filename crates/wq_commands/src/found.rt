@@ -1,6 +1,6 @@
 //! What a command finds: the first text behind the declaration that is refused, or what the command looked for.
 //!
-//! It takes constant time.
+//! Each call takes constant time.
 
 ghost use Rattle.std.specs.Prelude.{◌≡◌, IfOk};
 ghost use Rattle.wq_commands.specs.Answer.{PrintsRefusal};

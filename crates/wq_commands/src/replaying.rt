@@ -1,6 +1,6 @@
 //! The answer to a declaration, an assignment and a run, built in full in memory.
 //!
-//! It takes the time and the memory of reading the three texts and of making the steps.
+//! A call takes the time and the memory of reading the three texts and of making the steps.
 
 ghost use Rattle.std.specs.Prelude.{◌≡◌, ◌∷◌, [], ◌<◌, IfOk, length, codes, decimal, option_map};
 ghost use Rattle.wq_core.specs.Workqueues.{wiring_of};

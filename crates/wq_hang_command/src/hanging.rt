@@ -1,6 +1,6 @@
 //! The answer to a declaration and an assignment, built in full in memory.
 //!
-//! The rule is that of "The command `hang`" in docs/FORMAT.md. It takes the time and the memory of reading the
+//! The rule is that of "The command `hang`" in docs/FORMAT.md. A call takes the time and the memory of reading the
 //! assignment and of the search for the shortest run.
 
 ghost use Rattle.std.specs.Prelude.{◌≡◌, length, IfOk};

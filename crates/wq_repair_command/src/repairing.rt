@@ -1,8 +1,8 @@
 //! What can be done about the workqueues in the text of an assignment, and what is printed of it, built in full in
 //! memory.
 //!
-//! The rule is that of "The command `repair`" in docs/FORMAT.md. It takes the time and the memory of reading the text,
-//! of the search for a repair and of printing it.
+//! The rule is that of "The command `repair`" in docs/FORMAT.md. A call takes the time and the memory of reading the
+//! text, of the search for a repair and of printing it.
 
 ghost use Rattle.std.specs.Prelude.{◌≡◌, ◌<◌, ℕ, List, IfOk, None, length, map};
 ghost use Rattle.std.specs.List.{All};

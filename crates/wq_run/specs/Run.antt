@@ -1,4 +1,4 @@
--- A run of `run`: a text is taken from a reader, and answered.
+-- What `run` reads: a text is taken from a reader, and answered.
 use Rattle.std.specs.Prelude.{ℕ, ◌+◌, List, [], Option, Result, take}
 use Rattle.wq_meter.specs.Meter.{Meter}
 use Rattle.wq_meter.specs.Input.{GivesText}

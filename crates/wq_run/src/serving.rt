@@ -1,8 +1,8 @@
 //! Running a plan on a runtime of it: its crew runs, the runtime is closed, and what happened is reported.
 //!
-//! The crew is that of `wq_script`: a body for each rescuer and each helper, which makes
-//! the declared flushes, and two callers. It takes the time of all executions and of
-//! writing the text, and time and memory in the number of bodies times that of items.
+//! The crew is that of `wq_script`: a body for each rescuer and each helper, which makes the declared flushes, and two
+//! callers. A call takes the time of all executions and of writing the text, and O(bodies * items) time and memory
+//! besides.
 
 ghost use Rattle.std.specs.Prelude.{◌≡◌, ◌≤◌, ℕ, List, length, map, take, drop, IfOk, IfErr, is_ok, IsTrue, true};
 ghost use Rattle.std.specs.List.{All};

@@ -39,7 +39,7 @@ to_all_words s ws names h =
     else waits_for_all (item_words s h.item) (home_words s ws names h.item) (home_words s ws names h.flush.item)
     (item_words s h.next)
 
--- an item waits for one that waits itself
+-- an item waits for an item that waits, too
 abbrev pub to_next_words : Declared → Workqueues → List (List ℕ) → Hop → List ℕ
 to_next_words s ws names h =
     if h.next == h.item then waits_for_itself (item_words s h.item) (home_words s ws names h.item)
@@ -71,7 +71,7 @@ group_to_all_words s h =
     if h.next == h.item then group_waits_for_all_of_its_own (item_words s h.item)
     else group_waits_for_all (item_words s h.item) (item_words s h.flush.item) (item_words s h.next)
 
--- an item waits for one that waits itself
+-- an item waits for an item that waits, too
 abbrev pub group_to_next_words : Declared → Hop → List ℕ
 group_to_next_words s h =
     if h.next == h.item then group_waits_for_itself (item_words s h.item)

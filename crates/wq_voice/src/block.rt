@@ -2,7 +2,7 @@
 //! there is to say, and the line with its marks.
 //!
 //! The form is that of "Diagnoses" in docs/FORMAT.md. A line is sought in the time of reading the text, and a block
-//! takes time and memory in its length.
+//! takes time and memory linear in its length.
 
 ghost use Rattle.std.specs.Prelude.{◌≡◌, ◌∷◌, IfOk, map};
 ghost use Rattle.wq_diagnosis.specs.Diagnosis.{shown_lines};

@@ -1,7 +1,7 @@
 //! The note beside a plan whose chain follows unsure flushes: how many workqueues are enough without them.
 //!
-//! The words are those of "What isn't sure" in docs/FORMAT.md. A call takes time in the number of items and flushes,
-//! the time and the memory of the words, and, if the chain follows an unsure flush, the time of another plan.
+//! The words are those of "What isn't sure" in docs/FORMAT.md. A call takes time linear in the number of items and
+//! flushes, the time and the memory of the words, and, if the chain follows an unsure flush, the time of another plan.
 
 ghost use Rattle.std.specs.Prelude.{◌≡◌, ◌==◌, ◌&&◌, ◌++◌, ◌∷◌, ◌<◌, [], ℕ, not, length, filter_map, find, flat_map};
 ghost use Rattle.std.specs.Prelude.{IfOk, OnOk};

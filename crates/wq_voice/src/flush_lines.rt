@@ -1,7 +1,7 @@
 //! Which line of a declaration declares each of its flushes.
 //!
 //! A reason may have thousands of waits, so the lines are gone through once. That takes the time of reading the text,
-//! and memory in the number of flushes. A flush is then found in the time of reading its line.
+//! and memory linear in the number of flushes. A flush is then found in the time of reading its line.
 
 use crate::block::Spot;
 use std::alloc::{AllocError, Allocator};

@@ -1,8 +1,8 @@
 //! The note beside `safe`: which items are on workqueues without a rescuer.
 //!
 //! Nothing guarantees that such items run while memory is short, and `safe` says nothing about them. The form is that
-//! of "Diagnoses" in docs/FORMAT.md. A call takes time in the number of items, and the time and the memory of the
-//! words.
+//! of "Diagnoses" in docs/FORMAT.md. A call takes time linear in the number of items, and the time and the memory of
+//! the words.
 
 ghost use Rattle.std.specs.Prelude.{◌≡◌, ◌++◌, ◌<◌, IfOk, OnOk, codes, flat_map, length, map, option_map};
 ghost use Rattle.std.specs.List.{All};

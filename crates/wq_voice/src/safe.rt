@@ -1,7 +1,7 @@
 //! What is said beside `safe` of workqueues.
 //!
-//! A call takes the time and the memory of reading the names of the workqueues, and of the words; and time in the
-//! number of items.
+//! A call takes the time and the memory of reading the names of the workqueues, and of the words; and time linear in
+//! the number of items.
 
 ghost use Rattle.std.specs.Prelude.{◌≡◌, IfOk, Ok, option_map};
 ghost use Rattle.wq_cert.specs.Texts.{workqueues_of_text};

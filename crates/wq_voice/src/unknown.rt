@@ -1,7 +1,7 @@
-//! What is said of a NAME that is that of no item.
+//! What is said of a NAME that is no item's.
 //!
-//! It takes the time of finding the names; and for the first that isn't found, of searching the text of the declaration
-//! for one that is like it.
+//! A call takes the time of finding the names; and for the first that isn't found, of searching the text of the
+//! declaration for one that is like it.
 
 ghost use Rattle.std.specs.Prelude.{◌≡◌, ◌++◌, ℕ, Some, IfOk, OnOk, IfSome, map, option_map};
 ghost use Rattle.wq_items.specs.Table.{item_named};

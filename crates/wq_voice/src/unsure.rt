@@ -1,8 +1,8 @@
 //! The notes on unsure flushes: whether they matter, and which don't.
 //!
-//! The words are those of "What isn't sure" in docs/FORMAT.md. A call takes time in the number of items and flushes,
-//! the time and the memory of the words, and, if flushes may make no difference, the time of finding all flushes on
-//! circles.
+//! The words are those of "What isn't sure" in docs/FORMAT.md. A call takes time linear in the number of items and
+//! flushes, the time and the memory of the words, and, if flushes may make no difference, the time of finding all
+//! flushes on circles.
 
 ghost use Rattle.std.specs.Prelude.{◌≡◌, ◌∷◌, ◌++◌, [], ◌<◌, ◌≤◌, ◌&&◌, ◌||◌, ℕ, false, not, length, map, filter};
 ghost use Rattle.std.specs.Prelude.{flat_map, decimal, slice_index_or, IfOk, option_map};

@@ -99,7 +99,7 @@ fn to_all_words<A: Allocator + Copy>(
     messages::waits_for_all(alloc, &item, &workqueue, &other, &next)
 }
 
-/// That an item waits for one that waits itself.
+/// That an item waits for an item that waits, too.
 fn to_next_words<A: Allocator + Copy>(
     alloc: A,
     assigned: &Assigned<'_, '_, A>,

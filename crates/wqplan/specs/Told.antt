@@ -59,8 +59,8 @@ names_of_files (Three first second third) =
 
 -- ---- what is said
 
--- of texts this is found and answered, and of what was found this is said, or of the refusal of the declaration in the
--- file of this name
+-- what is found in texts and answered to them, and what is said of what was found, or of the refusal of the declaration
+-- in the file of this name
 abbrev pub IsSaidOf : {F : Type 0} → Text → (Declared → Given → F → End → List ℕ → Type 0)
     → (Declared → Given → F → Option (List ℕ) → Type 0) → Given → End → List ℕ → Option (List ℕ) → Type 0
 IsSaidOf {F} first Answers Says texts end out said = (found : Result F Refusal)

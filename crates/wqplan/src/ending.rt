@@ -54,7 +54,7 @@ fn unwritten<R: Eprint + AllocGlobal>(rt: &R, why: Unwritten) -> u8
     }
 }
 
-/// The status of a command that ran. If standard output couldn't be written, this is the reason.
+/// The status of a command that ran. The reason is given if standard output couldn't be written.
 pub(crate) fn answered<R: Eprint + AllocGlobal>(
     rt: &R,
     outcome: Result<End, CommandFault>,

@@ -1,4 +1,4 @@
-//! The answer to a declaration and an assignment: they are judged, and then a load is run. It takes the time of both.
+//! The answer to a declaration and an assignment: they are judged, and then a load is run. This takes the time of both.
 
 use crate::loads::load::Load;
 use crate::loads::running::run;

@@ -1,4 +1,4 @@
-//! The calls of a runtime that a text asks for, line by line. Reading a line takes time in its length.
+//! The calls of a runtime that a text asks for, line by line. Reading a line takes time linear in its length.
 
 use crate::testbed::{helper_of, item_of, lane_of};
 use std::alloc::Global;

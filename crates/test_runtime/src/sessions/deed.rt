@@ -134,7 +134,7 @@ impl Plot {
         Ok(())
     }
 
-    /// Adds a deed. It returns false if nobody has begun.
+    /// Adds a deed. Returns false if no doer has begun.
     fn add(&mut self, deed: Deed) -> Result<bool, AllocError> {
         match self.begun().last_mut() {
             Some(deeds) => {

@@ -1,5 +1,5 @@
-//! A text that says line by line what is to be done. Reading one takes time in its
-//! length, besides that of what is done.
+//! A text that says line by line what is to be done. Reading one takes time linear in its length, besides that of what
+//! is done.
 
 use crate::testbed::{MAX_CERTIFICATE, MAX_CERTIFICATE_LINE};
 use std::alloc::{AllocError, Global};

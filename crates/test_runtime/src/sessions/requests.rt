@@ -1,4 +1,4 @@
-//! What is asked: a task, and the text that says what is to be done in it. It takes the time of the task.
+//! What is asked: a task, and the text that says what is to be done in it. This takes the time of the task.
 
 ghost use Rattle.std.specs.Prelude.{◌≡◌};
 ghost use Rattle.wq_core.specs.Wiring.{wiring, with_helpers};

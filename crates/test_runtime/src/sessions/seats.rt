@@ -93,7 +93,7 @@ impl<N: Naming> Seats<N> {
         }
     }
 
-    /// Makes this many more seats. It returns false if the runtime doesn't make all of them.
+    /// Makes this many more seats. Returns false if the runtime doesn't make all of them.
     pub(crate) fn add<R: Wait>(
         &mut self,
         rt: &R,

@@ -1,8 +1,8 @@
 //! The calls of a text, made on one runtime in one thread, with its seats, except the calls that sleep until another
 //! call wakes them.
 //!
-//! A session takes the time of the calls. A call that would wait for another thread never ends, unless it is one of
-//! those that sleep.
+//! A session takes the time of the calls. A call that would wait for another thread never ends, unless it is one of the
+//! sleeping calls.
 
 use crate::sessions::asking::{RuntimeCall, read_call};
 use crate::sessions::seats::Seats;
@@ -173,8 +173,8 @@ impl<N: Naming + Send + Sync, R: Threads + Wait + Clock + Sync> Session<'_, N, R
         out.push('\n')
     }
 
-    /// Hears of a call, and makes it. It returns false if the words have the form of none, or if the runtime
-    /// can't be closed, since calls sleep.
+    /// Hears of a call, and makes it. Returns false if the words have the form of no call, or if the runtime can't be
+    /// closed because calls sleep.
     fn hear_call(
         &mut self,
         table: &ItemTable<'_, Global>,

@@ -1,4 +1,4 @@
-//! Files. Reading one takes time in the number of its bytes.
+//! Files. Reading one takes time linear in the number of its bytes.
 
 use crate::testbed::command_line::Setting;
 use std::fs;
