@@ -25,6 +25,7 @@ pub mod Awaited
 pub mod EndCosts
 pub mod NoEnds
 pub mod Nearer
+pub mod EndsFound
 pub mod Bounding
 pub mod LaneItems
 pub mod RoundsFound

@@ -194,6 +194,19 @@ module _ (on : List (List ℕ)) (f : Field) (field : IsField on f) (wiring : IsW
     near_enough : best ≤ from + 4 → best ≤ from + more
     near_enough few = in_front (λ low unlike one. omega (arith, few, one, is.leads.costs, is.costs))
 
+    -- none is better by more than 1
+    less_enough : best ≤ (from + more) + 1
+    less_enough = elim (cases_lt from max_walk_cost) [
+      | inr far ↦ omega (arith, far, most)
+      | inl low ↦ elim begins_itself [
+        | inl same ↦ omega (arith, itself_enough same low)
+        | inr before ↦ (
+            let near = near_lane is.last t y t_below y_below lane rescuer low in
+            omega (arith, near.0, before.1, from_first, hops_few, is.leads.costs, is.costs)
+            )
+      ]
+    ]
+
     -- a round that begins no farther away than where somebody waits for t is as good
     first_enough : d y ≤ from → best ≤ from + more
     first_enough near = in_front (λ low unlike one.
@@ -300,6 +313,11 @@ module _ (on : List (List ℕ)) (f : Field) (field : IsField on f) (wiring : IsW
   -- a wait costs 3, and one before it 1
   pub NoneAlone-near : best ≤ from_t + 4 → NoneAlone f best t
   NoneAlone-near few hops more is = near_enough on f field wiring best most none_from t hops more is few
+
+  -- none is better by more than 1 than rounds from items
+  pub NoneAlone-less : (now : ℕ) → now < best → NoneAlone f now t
+  NoneAlone-less now less hops more is =
+      omega (arith, less, less_enough on f field wiring best most none_from t hops more is)
 
   pub NoneAlone-bound : (bounds : List ℕ) → AreBounds f.wiring bounds t
       → best ≤ (from_t + 1) + slice_index bounds (lane_of f.wiring t) → NoneAlone f best t

@@ -10,7 +10,7 @@ ghost use Rattle.std.specs.Prelude.{IfNone};
 ghost use Rattle.std.specs.List.{All};
 ghost use Rattle.wq_core.specs.Wiring.{HasRescuer, items, lane_of};
 ghost use Rattle.wq_hang.specs.declared.hop.Hop.{Hop};
-ghost use Rattle.wq_hang.specs.Walk.{AreFirstAlike, BeginsUnsure, IsRound, max_walk_cost};
+ghost use Rattle.wq_hang.specs.Walk.{AreFirstAlike, BeginsUnsure, IsPath, IsRound, max_walk_cost};
 ghost use Rattle.wq_hang.specs.Search.{AreItemsOn, ArePassed, IsReach, IsBetter, IsNoBetter, IsLeastRound, hops_cost};
 ghost use Rattle.wq_hang.specs.Search.{AreBounds, least_hop};
 
@@ -43,6 +43,7 @@ fn round<A: Allocator + Copy>(
     requires first { first < items waits.now }
     requires less { slice_index search.now.costs first < limit }
     ensures round { IfOk result (λ hops. IsRound waits.now hops.items) }
+    ensures path { IfOk result (λ hops. IsPath waits.now first hops.items first) }
     ensures cost { IfOk result (λ hops. hops_cost hops.items ≤ slice_index search.now.costs first) }
 {
     let _items = waits.items();

@@ -331,7 +331,8 @@ impl<A: Allocator + Copy> Field<'_, '_, A> {
         cheapest_first(alloc, keys)
     }
 
-    /// Looks for rounds from where somebody waits for one of these few items alone.
+    /// Looks for a round from where somebody waits for one of these few items alone. None is better by more than 1 than
+    /// those from its items, so the first one that is found will do.
     fn look_from_alone(
         &self,
         alloc: A,
@@ -357,13 +358,14 @@ impl<A: Allocator + Copy> Field<'_, '_, A> {
                 if let Some((more, hops)) = self.round_alone(alloc, search, item, limit)? {
                     best.cost = cost + more;
                     best.end = Some(End::Alone(item, hops));
+                    return Ok(());
                 }
             }
         }
         Ok(())
     }
 
-    /// Looks for rounds from where somebody waits for one of these items alone, a few at a time.
+    /// Looks for a round from where somebody waits for one of these items alone, from a few at a time.
     fn look_from_pending(
         &self,
         alloc: A,
@@ -378,8 +380,9 @@ impl<A: Allocator + Copy> Field<'_, '_, A> {
         ensures less { OnOk result (best.new.cost ≤ best.old.cost) }
         ensures none { OnOk result ((t : ℕ) → Contains near.now t → NoneAlone self.now best.new.cost t) }
     {
+        let before = best.cost;
         let mut from = 0;
-        while from < near.len() {
+        while from < near.len() && best.cost == before {
             let to = near.len().min(from + AT_A_TIME);
             self.look_from_alone(alloc, search, &near[from..to], best)?;
             from = to;
