@@ -40,19 +40,16 @@ pending_lane w hops i there =
 -- so they are apart if the lanes are
 pending_apart : (w : Wiring) (hops : List Hop) → Apart (lanes_to w hops) → Apart (flat_map (pending_beside w) hops)
 pending_apart w [] apart = tt
-pending_apart w (h ∷ hops) apart = by (pending_cases w h)
-  where
-    rest : Apart (flat_map (pending_beside w) hops)
-    rest = pending_apart w hops apart.1
-
-    by : (pending_beside w h ≡ []) ⊎ (pending_beside w h ≡ h.flush.item ∷ [])
-        → Apart (pending_beside w h ++ flat_map (pending_beside w) hops)
-    by (inl none) = subst (λ (l : List ℕ). Apart (l ++ flat_map (pending_beside w) hops)) (sym none) rest
-    by (inr one) = subst (λ (l : List ℕ). Apart (l ++ flat_map (pending_beside w) hops)) (sym one) (
-      Avoids-from h.flush.item (flat_map (pending_beside w) hops) (λ there.
-          not_in (lane_of w h.flush.item) (lanes_to w hops) apart.0 (pending_lane w hops h.flush.item there)),
-      rest,
-    )
+pending_apart w (h ∷ hops) apart =
+    let rest : Apart (flat_map (pending_beside w) hops) = pending_apart w hops apart.1 in
+    elim (pending_cases w h) [
+      | inl none ↦ subst (λ (l : List ℕ). Apart (l ++ flat_map (pending_beside w) hops)) (sym none) rest
+      | inr one ↦ subst (λ (l : List ℕ). Apart (l ++ flat_map (pending_beside w) hops)) (sym one) (
+        Avoids-from h.flush.item (flat_map (pending_beside w) hops) (λ there.
+            not_in (lane_of w h.flush.item) (lanes_to w hops) apart.0 (pending_lane w hops h.flush.item there)),
+        rest,
+      )
+    ]
 
 -- and x, too
 front_apart : (w : Wiring) (x first end : ℕ) (all hops : List Hop) → IsPath w first all end → 0 < length all

@@ -527,17 +527,19 @@ module _ (w : Wiring) (wiring : IsWiring w) (s : State) (sound : IsSoundState w 
         absurd (omega (arith, few, enough, length-lanes_from w hops))
     go_on (suc fuel) q hops enough leads on busy =
         let hop = hop_from w s sound no_step q on busy in
-        by hop.0 hop.1 (cases_In q (lanes_from w hops)) (cases_rescuer w (lane_of w hop.0.flush.item))
+        let h : Hop = hop.0 in
+        by h hop.1 (cases_In q (lanes_from w hops)) (cases_rescuer w (lane_of w h.flush.item)) (λ new to.
+        go_on fuel (lane_of w h.flush.item) (hops ++ (h ∷ []))
+        (omega (arith, enough, length-append hops (h ∷ [])))
+        (one_more (lane_of w x) q hops leads on busy new h hop.1 to) to hop.1.busy)
       where
         by : (h : Hop) → IsHopFrom w s sound no_step q h → In q (lanes_from w hops) ⊎ Avoids q (lanes_from w hops)
-            → HasRescuer w (lane_of w h.flush.item) ⊎ (¬ HasRescuer w (lane_of w h.flush.item)) → Found x
-        by h is (inl again) to = found_round x q left rescuer own_first hops leads again
-        by h is (inr new) (inr bare) =
+            → HasRescuer w (lane_of w h.flush.item) ⊎ (¬ HasRescuer w (lane_of w h.flush.item))
+            → (Avoids q (lanes_from w hops) → HasRescuer w (lane_of w h.flush.item) → Found x) → Found x
+        by h is (inl again) to rest = found_round x q left rescuer own_first hops leads again
+        by h is (inr new) (inr bare) rest =
             found_bare x q left rescuer own_first hops leads on busy new h is bare
-        by h is (inr new) (inl to) =
-            go_on fuel (lane_of w h.flush.item) (hops ++ (h ∷ []))
-            (omega (arith, enough, length-append hops (h ∷ [])))
-            (one_more (lane_of w x) q hops leads on busy new h is to) to is.busy
+        by h is (inr new) (inl to) rest = rest new to
 
   pub found_for : (x : ℕ) → HasUnfinishedOf s x → Found x
   found_for x left = by (cases_rescuer w (lane_of w x))

@@ -385,50 +385,53 @@ module _ (w : Wiring) (starts : List ℕ) (limit : ℕ) (s : Reach) (reach : IsR
 -- ---- to each item that costs less than the limit there is a way
 
 module _ (w : Wiring) (starts : List ℕ) (limit : ℕ) (s : Reach) (reach : IsReachFrom w starts limit s) (d : Hop) where
+  way_begins : (i : ℕ) → BeginsAt w starts i (slice_index s.costs i) → (hops : List Hop) × IsWay w starts s i hops
+  way_begins i begins = (
+    [],
+    record {
+      cost = slice_index s.costs i;
+      way = record {
+        first = i;
+        before = slice_index s.costs i;
+        begins = begins;
+        path = refl;
+        costs = omega arith;
+      };
+      least = omega arith;
+    },
+  )
+
+  one_more : (i : ℕ) (h : Hop) → IsReachedFrom w s i h → (hops : List Hop) × IsWay w starts s h.item hops
+      → (hops : List Hop) × IsWay w starts s i hops
+  one_more i h is (hops, way) = (
+    hops ++ (h ∷ []),
+    record {
+      cost = way.cost + hop_cost h;
+      way = record {
+        first = way.way.first;
+        before = way.way.before;
+        begins = way.way.begins;
+        path = IsPath-append w way.way.first h.item i hops (h ∷ []) way.way.path (refl, is.hop, is.on, is.next);
+        costs = omega (arith, hops_cost-append hops (h ∷ []), way.way.costs);
+      };
+      least = omega (arith, way.least, is.from);
+    },
+  )
+
   way_within : (most i : ℕ) → slice_index s.costs i ≤ most → i < items w → slice_index s.costs i < limit
       → (hops : List Hop) × IsWay w starts s i hops
-  way_within most i few below low = by most few (reach.reached i d below low)
-    where
-      one_more : (h : Hop) → IsReachedFrom w s i h → (hops : List Hop) × IsWay w starts s h.item hops
-          → (hops : List Hop) × IsWay w starts s i hops
-      one_more h is (hops, way) = (
-        hops ++ (h ∷ []),
-        record {
-          cost = way.cost + hop_cost h;
-          way = record {
-            first = way.way.first;
-            before = way.way.before;
-            begins = way.way.begins;
-            path = IsPath-append w way.way.first h.item i hops (h ∷ []) way.way.path
-                (refl, is.hop, is.on, is.next);
-            costs = omega (arith, hops_cost-append hops (h ∷ []), way.way.costs);
-          };
-          least = omega (arith, way.least, is.from);
-        },
-      )
-
-      by : (n : ℕ) → slice_index s.costs i ≤ n
-          → BeginsAt w starts i (slice_index s.costs i) ⊎ IsReachedFrom w s i (slice_index_or s.by i d)
-          → (hops : List Hop) × IsWay w starts s i hops
-      by n le (inl begins) = (
-        [],
-        record {
-          cost = slice_index s.costs i;
-          way = record {
-            first = i;
-            before = slice_index s.costs i;
-            begins = begins;
-            path = refl;
-            costs = omega arith;
-          };
-          least = omega arith;
-        },
-      )
-      by zero le (inr is) = absurd (omega (arith, le, is.behind))
-      by (suc n) le (inr is) =
-          let h : Hop = slice_index_or s.by i d in
-          one_more h is (way_within n h.item (omega (arith, le, is.from)) (declared-item w h.item h.flush is.hop.declared)
-          (omega (arith, low, is.from)))
+  way_within zero i few below low = elim (reach.reached i d below low) [
+    | inl begins ↦ way_begins i begins
+    | inr is ↦ absurd (omega (arith, few, is.behind))
+  ]
+  way_within (suc n) i few below low = elim (reach.reached i d below low) [
+    | inl begins ↦ way_begins i begins
+    | inr is ↦ (
+        let h : Hop = slice_index_or s.by i d in
+        one_more i h is (way_within n h.item (omega (arith, few, is.from))
+        (declared-item w h.item h.flush is.hop.declared) (omega (arith, low, is.from)))
+        )
+  ]
 
   pub way_exists : (i : ℕ) → i < items w → slice_index s.costs i < limit → (hops : List Hop) × IsWay w starts s i hops
   way_exists i below low = way_within (slice_index s.costs i) i (omega arith) below low
