@@ -2,7 +2,10 @@
 use Rattle.std.proofs.Common.{◌≡◌, ℕ, ◌+◌, ◌<◌, ◌≤◌, ◌⊎◌, inl, inr, false, List, [], ◌∷◌, ◌++◌, length, Some, None, Option}
 use Rattle.std.proofs.Common.{refl, sym, ap, subst, ◌∙◌, arith}
 use Rattle.std.specs.Prelude.{Contains, slice_index}
+use Rattle.std.specs.List.{All}
 use Rattle.std.proofs.lemmas.Bool.{cases_lt}
+use Rattle.std.proofs.lemmas.List.Elements.{All-nil, All-cons, All-append, All-contains, All-contains_itself}
+use Rattle.std.proofs.lemmas.List.Elements.{All-weaker, Contains-append_left, Contains-push}
 use Rattle.wq_items.specs.declared.target.Target.{Target}
 use Rattle.wq_core.specs.Wiring.{Wiring, HasRescuer, items, lane_of}
 use Rattle.wq_hang.specs.declared.hop.Hop.{Hop}
@@ -89,3 +92,58 @@ NoneFrom-far f limit best near i less are each below = elim (cases_lt (slice_ind
   | inl low ↦ each (are.all i below low)
   | inr far ↦ λ hops some path. omega (arith, less, far)
 ]
+
+-- ---- the nearest first
+
+-- of the items below n those that cost less than the limit
+pub record AreNearBelow (limit : ℕ) (costs : List ℕ) (n : ℕ) (near : List ℕ) : Type 0 where
+  pub within : All (λ i. (i < n) × (slice_index costs i < limit)) near
+  pub all : (i : ℕ) → i < n → slice_index costs i < limit → Contains near i
+
+pub AreNearBelow-none : (limit : ℕ) (costs : List ℕ) → AreNearBelow limit costs 0 []
+AreNearBelow-none limit costs = record {
+  within = All-nil (λ i. (i < 0) × (slice_index costs i < limit));
+  all = λ i below. absurd (omega (arith, below));
+}
+
+pub AreNearBelow-more : (limit : ℕ) (costs : List ℕ) (n : ℕ) (near : List ℕ) → AreNearBelow limit costs n near
+    → slice_index costs n < limit → AreNearBelow limit costs (n + 1) (near ++ (n ∷ []))
+AreNearBelow-more limit costs n near are low = record {
+  within = All-append (λ i. (i < n + 1) × (slice_index costs i < limit)) near (n ∷ [])
+      (All-weaker (λ i. (i < n) × (slice_index costs i < limit)) (λ i. (i < n + 1) × (slice_index costs i < limit))
+      (λ i is. (omega (arith, is.0), is.1)) near are.within)
+      (All-cons (λ i. (i < n + 1) × (slice_index costs i < limit)) n [] (omega arith, low)
+      (All-nil (λ i. (i < n + 1) × (slice_index costs i < limit))));
+  all = λ i below i_low. elim (cases_lt i n) [
+    | inl before ↦ Contains-append_left near (n ∷ []) i (are.all i before i_low)
+    | inr last ↦ (
+        let same : n ≡ i = omega (arith, last, below) in
+        subst (λ (k : ℕ). Contains (near ++ (n ∷ [])) k) same (Contains-push near n)
+        )
+  ];
+}
+
+pub AreNearBelow-same : (limit : ℕ) (costs : List ℕ) (n : ℕ) (near : List ℕ) → AreNearBelow limit costs n near
+    → limit ≤ slice_index costs n → AreNearBelow limit costs (n + 1) near
+AreNearBelow-same limit costs n near are far = record {
+  within = All-weaker (λ i. (i < n) × (slice_index costs i < limit)) (λ i. (i < n + 1) × (slice_index costs i < limit))
+      (λ i is. (omega (arith, is.0), is.1)) near are.within;
+  all = λ i below low. elim (cases_lt i n) [
+    | inl before ↦ are.all i before low
+    | inr last ↦ (
+        let same : i ≡ n = omega (arith, last, below) in
+        absurd (omega (arith, far, low, ap (λ (k : ℕ). slice_index costs k) same))
+        )
+  ];
+}
+
+-- in another order
+pub AreNear-ordered : (limit : ℕ) (costs near list : List ℕ) → AreNearBelow limit costs (length costs) near
+    → ((i : ℕ) → Contains near i → Contains list i) → ((i : ℕ) → Contains list i → Contains near i)
+    → AreNear limit costs list
+AreNear-ordered limit costs near list are all no_others = record {
+  within = All-weaker (Contains list) (λ i. (i < length costs) × (slice_index costs i < limit))
+      (λ i there. All-contains (λ (k : ℕ). (k < length costs) × (slice_index costs k < limit)) near i are.within
+      (no_others i there)) list (All-contains_itself list);
+  all = λ i below low. all i (are.all i below low);
+}

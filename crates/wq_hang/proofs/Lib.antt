@@ -26,6 +26,7 @@ pub mod EndCosts
 pub mod NoEnds
 pub mod Nearer
 pub mod EndsFound
+pub mod LastHops
 pub mod Bounding
 pub mod LaneItems
 pub mod RoundsFound

@@ -82,6 +82,7 @@ pub(crate) fn search_ways<A: Allocator + Copy>(
     requires low { (1 < limit) × (limit ≤ max_walk_cost) }
     ensures { OnOk result (AreWays waits.now starts.now limit search.new) }
 {
+    let _items = waits.items();
     begin(waits, on, search, starts, limit)?;
     while let Some(item) = search.take() {
         expand(waits, on, search, item, limit)?;
