@@ -5,7 +5,8 @@ use Rattle.std.specs.Prelude.{Contains, filter, slice_index_or}
 use Rattle.std.specs.List.{All, range_with_len}
 use Rattle.std.proofs.lemmas.Bool.{cases_lt}
 use Rattle.std.proofs.lemmas.List.{length-map}
-use Rattle.std.proofs.lemmas.List.Elements.{Contains-append_left, Contains-append_right}
+use Rattle.std.proofs.lemmas.List.Elements.{All-contains_itself, All-weaker, Contains-append_left}
+use Rattle.std.proofs.lemmas.List.Elements.{Contains-append_right}
 use Rattle.wq_items.specs.Table.{max_flushes, places}
 use Rattle.wq_items.specs.Readings.{is_kept, kept_of}
 use Rattle.wq_groups.specs.Assignment.{max_lanes}
@@ -22,6 +23,7 @@ use Rattle.wq_hang.specs.ShortestFor.{EndsStuckFor, IsFewestFor}
 use Rattle.wq_hang.specs.Walk.{IsHop, ArePlacesApart, unsure_hops, needs, unsure_cost, walk_steps, run_of_walk}
 use Rattle.wq_hang.specs.WalkFor.{HoldsUp, IsWalkFor, IsLeastWalkFor, pending_for, cost_for}
 use Rattle.wq_hang.proofs.Apart.{Apart, In, Apart-AllPairs, Apart-within, Apart-few}
+use Rattle.wq_hang.proofs.Declared.{declared-item, declared-target}
 use Rattle.wq_hang.proofs.LeastWalks.{lanes_from, lanes_from-same, length-lanes_from, lanes_from-below}
 use Rattle.wq_hang.proofs.Shortest.{path_hop, items_apart, length-run_of_walk}
 use Rattle.wq_hang.proofs.Fewest.{unsure_at, unsure_at-from, unsure_at-has, Apart-unsure, kept-In, In-kept}
@@ -38,6 +40,20 @@ walk_for_hop w x hops holds h there = elim (leads_from w x hops holds) [
   | inl none ↦ absurd (omega (arith, there.1, ap (λ (l : List Hop). length l) none.0))
   | inr leads ↦ (path_hop w leads.first leads.end hops leads.path h there).0
 ]
+
+-- which are of items, and lead to items
+pub walk_for_items : (w : Wiring) (x : ℕ) (hops : List Hop) → HoldsUp w x hops → All (λ (h : Hop). h.item < items w) hops
+walk_for_items w x hops holds =
+    All-weaker (Contains hops) (λ (h : Hop). h.item < items w)
+    (λ h there. declared-item w h.item h.flush (walk_for_hop w x hops holds h there).declared) hops
+    (All-contains_itself hops)
+
+pub walk_for_targets : (w : Wiring) (x : ℕ) (hops : List Hop) → IsWiring w → HoldsUp w x hops
+    → All (λ (h : Hop). h.flush.item < items w) hops
+walk_for_targets w x hops wiring holds =
+    All-weaker (Contains hops) (λ (h : Hop). h.flush.item < items w)
+    (λ h there. declared-target w h.item h.flush wiring (walk_for_hop w x hops holds h there).declared) hops
+    (All-contains_itself hops)
 
 -- as many as the lanes at most
 pub few_hops : (w : Wiring) (x : ℕ) (hops : List Hop) → IsWiring w → HoldsUp w x hops → Apart (lanes_from w hops)
