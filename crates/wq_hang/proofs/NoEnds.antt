@@ -291,279 +291,280 @@ module _ (on : List (List ℕ)) (f : Field) (field : IsField on f) (cost : ℕ) 
         length-append (pending_beside w h) [],
       )
 
-  round_least : MeetsRound w first hops → cost ≤ cost_for w x hops
-  round_least meets = by (common front back)
-    where
-      path : IsPath w first hops meets.at
-      path = subst (λ (l : List Hop). IsPath w first l meets.at) (sym meets.are)
-          (IsPath-append w first meets.at meets.at meets.way meets.round meets.leads meets.goes_round)
+  module _ (meets : MeetsRound w first hops) where
+    path : IsPath w first hops meets.at
+    path = subst (λ (l : List Hop). IsPath w first l meets.at) (sym meets.are)
+        (IsPath-append w first meets.at meets.at meets.way meets.round meets.leads meets.goes_round)
 
-      some : 0 < length hops
-      some = omega (
-        arith,
-        meets.some,
-        ap (λ (l : List Hop). length l) meets.are,
-        length-append meets.way meets.round,
-      )
+    some : 0 < length hops
+    some = omega (
+      arith,
+      meets.some,
+      ap (λ (l : List Hop). length l) meets.are,
+      length-append meets.way meets.round,
+    )
 
-      named : List ℕ
-      named = named_beside x hops
+    abbrev named : List ℕ
+    named = named_beside x hops
 
-      front : List ℕ
-      front = named ++ flat_map (pending_beside w) meets.way
+    abbrev front : List ℕ
+    front = named ++ flat_map (pending_beside w) meets.way
 
-      back : List ℕ
-      back = flat_map (pending_beside w) meets.round
+    abbrev back : List ℕ
+    back = flat_map (pending_beside w) meets.round
 
-      rescuer : HasRescuer w (lane_of w meets.at)
-      rescuer = at_round meets.round meets.some meets.goes_round
-        where
-          at_round : (round : List Hop) → 0 < length round → IsPath w meets.at round meets.at
-              → HasRescuer w (lane_of w meets.at)
-          at_round [] none round_path = absurd (omega (arith, none))
-          at_round (g ∷ gs) one round_path =
-              subst (λ (k : ℕ). HasRescuer w (lane_of w k)) round_path.0 round_path.1.rescuer
+    rescuer : HasRescuer w (lane_of w meets.at)
+    rescuer = at_round meets.round meets.some meets.goes_round
+      where
+        at_round : (round : List Hop) → 0 < length round → IsPath w meets.at round meets.at
+            → HasRescuer w (lane_of w meets.at)
+        at_round [] none round_path = absurd (omega (arith, none))
+        at_round (g ∷ gs) one round_path =
+            subst (λ (k : ℕ). HasRescuer w (lane_of w k)) round_path.0 round_path.1.rescuer
 
-      lanes : Apart (lanes_from w meets.way ++ lanes_from w meets.round)
-      lanes = subst Apart (ap (lanes_from w) meets.are ∙ lanes_from-append w meets.way meets.round) apart
+    lanes : Apart (lanes_from w meets.way ++ lanes_from w meets.round)
+    lanes = subst Apart (ap (lanes_from w) meets.are ∙ lanes_from-append w meets.way meets.round) apart
 
-      at_left : In (lane_of w meets.at) (lanes_from w meets.round)
-      at_left = first_left meets.round meets.some meets.goes_round
-        where
-          first_left : (round : List Hop) → 0 < length round → IsPath w meets.at round meets.at
-              → In (lane_of w meets.at) (lanes_from w round)
-          first_left [] none round_path = absurd (omega (arith, none))
-          first_left (g ∷ gs) one round_path = inl (ap (lane_of w) (sym round_path.0))
+    at_left : In (lane_of w meets.at) (lanes_from w meets.round)
+    at_left = first_left meets.round meets.some meets.goes_round
+      where
+        first_left : (round : List Hop) → 0 < length round → IsPath w meets.at round meets.at
+            → In (lane_of w meets.at) (lanes_from w round)
+        first_left [] none round_path = absurd (omega (arith, none))
+        first_left (g ∷ gs) one round_path = inl (ap (lane_of w) (sym round_path.0))
 
-      -- the lanes to which the round leads are those that it leaves
-      back_lane : (i : ℕ) → In i back → In (lane_of w i) (lanes_from w meets.round)
-      back_lane i there =
-          let to : In (lane_of w i) (lane_of w meets.at ∷ lanes_to w meets.round) =
-          inr (pending_lane w meets.round i there) in
-          elim (In-append (lane_of w i) (lanes_from w meets.round) (lane_of w meets.at ∷ [])
-          (subst (λ (l : List ℕ). In (lane_of w i) l)
-          (path_lanes w meets.at meets.at meets.round meets.goes_round) to)) [
-            | inl left ↦ left
-            | inr last ↦ elim last [
-              | inl same ↦ subst (λ (q : ℕ). In q (lanes_from w meets.round)) (sym same) at_left
-              | inr none ↦ absurd none
-            ]
+    -- the lanes to which the round leads are those that it leaves
+    back_lane : (i : ℕ) → In i back → In (lane_of w i) (lanes_from w meets.round)
+    back_lane i there =
+        let to : In (lane_of w i) (lane_of w meets.at ∷ lanes_to w meets.round) =
+        inr (pending_lane w meets.round i there) in
+        elim (In-append (lane_of w i) (lanes_from w meets.round) (lane_of w meets.at ∷ [])
+        (subst (λ (l : List ℕ). In (lane_of w i) l)
+        (path_lanes w meets.at meets.at meets.round meets.goes_round) to)) [
+          | inl left ↦ left
+          | inr last ↦ elim last [
+            | inl same ↦ subst (λ (q : ℕ). In q (lanes_from w meets.round)) (sym same) at_left
+            | inr none ↦ absurd none
           ]
+        ]
 
-      back_apart : Apart back
-      back_apart = pending_apart w meets.round (round_lanes w meets.at meets.round meets.goes_round
-          (Apart-right (lanes_from w meets.way) (lanes_from w meets.round) lanes))
+    back_apart : Apart back
+    back_apart = pending_apart w meets.round (round_lanes w meets.at meets.round meets.goes_round
+        (Apart-right (lanes_from w meets.way) (lanes_from w meets.round) lanes))
 
-      in_all_front : (i : ℕ) → In i (flat_map (pending_beside w) meets.way)
-          → In i (named ++ flat_map (pending_beside w) hops)
-      in_all_front i there = In-append_right i named (flat_map (pending_beside w) hops)
-          (subst (λ (l : List Hop). In i (flat_map (pending_beside w) l)) (sym meets.are)
-          (In-flat_left (pending_beside w) i meets.way meets.round there))
+    in_all_front : (i : ℕ) → In i (flat_map (pending_beside w) meets.way)
+        → In i (named ++ flat_map (pending_beside w) hops)
+    in_all_front i there = In-append_right i named (flat_map (pending_beside w) hops)
+        (subst (λ (l : List Hop). In i (flat_map (pending_beside w) l)) (sym meets.are)
+        (In-flat_left (pending_beside w) i meets.way meets.round there))
 
-      in_all_back : (i : ℕ) → In i back → In i (named ++ flat_map (pending_beside w) hops)
-      in_all_back i there = In-append_right i named (flat_map (pending_beside w) hops)
-          (subst (λ (l : List Hop). In i (flat_map (pending_beside w) l)) (sym meets.are)
-          (In-flat_right (pending_beside w) i meets.way meets.round there))
+    in_all_back : (i : ℕ) → In i back → In i (named ++ flat_map (pending_beside w) hops)
+    in_all_back i there = In-append_right i named (flat_map (pending_beside w) hops)
+        (subst (λ (l : List Hop). In i (flat_map (pending_beside w) l)) (sym meets.are)
+        (In-flat_right (pending_beside w) i meets.way meets.round there))
 
-      in_all_named : (i : ℕ) → In i named → In i (named ++ flat_map (pending_beside w) hops)
-      in_all_named i there = In-append_left i named (flat_map (pending_beside w) hops) there
+    in_all_named : (i : ℕ) → In i named → In i (named ++ flat_map (pending_beside w) hops)
+    in_all_named i there = In-append_left i named (flat_map (pending_beside w) hops) there
 
-      -- nothing is pending for the way and for the round
-      front_too : Apart front
-      front_too = front_apart w x first meets.at hops meets.way path some lane
-          (subst Apart (sym (path_lanes w first meets.at meets.way meets.leads))
-          (Apart-append (lanes_from w meets.way) (lane_of w meets.at ∷ [])
-          (Apart-left (lanes_from w meets.way) (lanes_from w meets.round) lanes) (tt, tt) (λ q there. (
-            (λ same. Apart-across (lanes_from w meets.way) (lanes_from w meets.round) q lanes there
-                (subst (λ (r : ℕ). In r (lanes_from w meets.round)) (sym same) at_left)),
-            tt,
-          ))))
+    -- nothing is pending for the way and for the round
+    front_too : Apart front
+    front_too = front_apart w x first meets.at hops meets.way path some lane
+        (subst Apart (sym (path_lanes w first meets.at meets.way meets.leads))
+        (Apart-append (lanes_from w meets.way) (lane_of w meets.at ∷ [])
+        (Apart-left (lanes_from w meets.way) (lanes_from w meets.round) lanes) (tt, tt) (λ q there. (
+          (λ same. Apart-across (lanes_from w meets.way) (lanes_from w meets.round) q lanes there
+              (subst (λ (r : ℕ). In r (lanes_from w meets.round)) (sym same) at_left)),
+          tt,
+        ))))
 
-      apart_least : ((i : ℕ) → In i front → Avoids i back) → cost ≤ cost_for w x hops
-      apart_least none =
-          omega (
-            arith,
-            cost_for-least w x hops (front ++ back) (Apart-append front back front_too back_apart none)
-                (λ i there. elim (In-append i front back there) [
-                  | inl one ↦ elim (In-append i named (flat_map (pending_beside w) meets.way) one) [
-                    | inl is_named_one ↦ in_all_named i is_named_one
-                    | inr on_way ↦ in_all_front i on_way
-                  ]
-                  | inr other ↦ in_all_back i other
-                ]),
-            comes_for meets.at meets.way some meets.at path meets.leads rescuer,
-            none_from meets.at meets.round meets.some meets.goes_round,
-            length-append front back,
-            length-append named (flat_map (pending_beside w) meets.way),
-            ap (λ (l : List Hop). length (unsure_hops l)) meets.are,
-            ap (λ (l : List Hop). length l) meets.are,
-            unsure-append meets.way meets.round,
-            length-append meets.way meets.round,
-            full_cost-path w first meets.at meets.way meets.leads rescuer,
-            full_cost-path w meets.at meets.at meets.round meets.goes_round rescuer,
-          )
-
-      -- x is pending for both
-      named_least : (t : ℕ) → t ≡ x → cost ≤ slice_index f.pending.costs t + hops_cost meets.round
-          → cost ≤ cost_for w x hops
-      named_least t same alone =
-          let nothing : slice_index f.pending.costs x ≡ 0 =
-          All-contains (λ (i : ℕ). slice_index f.pending.costs i ≡ 0) f.starts x field.pending.begun is_named in
-          omega (
-            arith,
-            alone,
-            nothing,
-            ap (slice_index f.pending.costs) same,
-            cost_for-least w x hops back back_apart in_all_back,
-            ap (λ (l : List Hop). length (unsure_hops l)) meets.are,
-            ap (λ (l : List Hop). length l) meets.are,
-            unsure-append meets.way meets.round,
-            length-append meets.way meets.round,
-            full_cost-path w meets.at meets.at meets.round meets.goes_round rescuer,
-          )
-
-      -- the target of a hop on the way is
-      module _ (t : ℕ) (g : Hop) (there : Contains meets.way g) (pending : In t (pending_beside w g)) where
-        parts : IsAmong meets.way g
-        parts = among meets.way g there
-
-        at_hop : IsPath w first parts.before g.item × IsPath w g.item (g ∷ parts.after) meets.at
-        at_hop = path_parts w first meets.at parts.before g parts.after
-            (subst (λ (l : List Hop). IsPath w first l meets.at) parts.parts meets.leads)
-
-        hop : IsHop w g
-        hop = at_hop.1.1
-
-        to : HasRescuer w (lane_of w g.flush.item)
-        to = subst (HasRescuer w) at_hop.1.2 (path_rescuer w g.next meets.at parts.after at_hop.1.3 rescuer)
-
-        target : (g.flush.whole ≡ false) × (t ≡ g.flush.item) × (g.flush.item ≢ g.next)
-        target = target_is g t (subst (λ (l : List ℕ). In t l) (pending_rescued w g to) pending)
-
-        early : List ℕ
-        early = named ++ flat_map (pending_beside w) parts.before
-
-        way_lanes : lanes_from w meets.way
-            ≡ lanes_from w parts.before ++ (lane_of w g.item ∷ lanes_from w parts.after)
-        way_lanes = ap (lanes_from w) parts.parts ∙ lanes_from-append w parts.before (g ∷ parts.after)
-
-        way_apart : Apart (lanes_from w parts.before ++ (lane_of w g.item ∷ lanes_from w parts.after))
-        way_apart = subst Apart way_lanes (Apart-left (lanes_from w meets.way) (lanes_from w meets.round) lanes)
-
-        early_lanes : Apart (lane_of w first ∷ lanes_to w parts.before)
-        early_lanes = subst Apart (sym (path_lanes w first g.item parts.before at_hop.0))
-            (Apart-append (lanes_from w parts.before) (lane_of w g.item ∷ [])
-            (Apart-left (lanes_from w parts.before) (lane_of w g.item ∷ lanes_from w parts.after) way_apart) (tt, tt)
-            (λ q in_before. (
-              (λ same. Apart-across (lanes_from w parts.before) (lane_of w g.item ∷ lanes_from w parts.after) q
-                  way_apart in_before (inl same)),
-              tt,
-            )))
-
-        early_lane : (q : ℕ) → In q (lane_of w first ∷ lanes_to w parts.before) → In q (lanes_from w meets.way)
-        early_lane q in_early =
-            subst (λ (l : List ℕ). In q l) (sym way_lanes)
-            (elim (In-append q (lanes_from w parts.before) (lane_of w g.item ∷ [])
-            (subst (λ (l : List ℕ). In q l) (path_lanes w first g.item parts.before at_hop.0) in_early)) [
-              | inl left ↦ In-append_left q (lanes_from w parts.before)
-                  (lane_of w g.item ∷ lanes_from w parts.after) left
-              | inr last ↦ elim last [
-                | inl same ↦ In-append_right q (lanes_from w parts.before)
-                    (lane_of w g.item ∷ lanes_from w parts.after) (inl same)
-                | inr none ↦ absurd none
-              ]
-            ])
-
-        early_avoids : (i : ℕ) → In i early → Avoids i back
-        early_avoids i in_early = Avoids-from i back (λ in_back.
-            Apart-across (lanes_from w meets.way) (lanes_from w meets.round) (lane_of w i) lanes
-            (early_lane (lane_of w i) (lane_early in_early)) (back_lane i in_back))
-          where
-            lane_early : In i early → In (lane_of w i) (lane_of w first ∷ lanes_to w parts.before)
-            lane_early one = elim (In-append i named (flat_map (pending_beside w) parts.before) one) [
-              | inl is_named_one ↦ (
-                  let it = named_is w x first meets.at hops path some i is_named_one in
-                  inl (ap (lane_of w) it.0 ∙ sym lane)
-                  )
-              | inr on_way ↦ inr (pending_lane w parts.before i on_way)
-            ]
-
-        enough : (32768 * length (unsure_hops hops) + 3 * length hops) + length (early ++ back) ≤ cost_for w x hops
-        enough = cost_for-least w x hops (early ++ back)
-            (Apart-append early back
-            (front_apart w x first meets.at hops parts.before path some lane early_lanes) back_apart early_avoids)
-            (λ i in_ys. elim (In-append i early back in_ys) [
-              | inl one ↦ elim (In-append i named (flat_map (pending_beside w) parts.before) one) [
-                | inl is_named_one ↦ in_all_named i is_named_one
-                | inr on_way ↦ in_all_front i
-                    (subst (λ (l : List Hop). In i (flat_map (pending_beside w) l)) (sym parts.parts)
-                    (In-flat_left (pending_beside w) i parts.before (g ∷ parts.after) on_way))
-              ]
-              | inr other ↦ in_all_back i other
-            ])
-
-        -- the way as far as the hop, the hop and the round cost no more than the walk
-        all_least : ((length named + hops_cost parts.before) + step g.flush) + hops_cost meets.round
-            ≤ cost_for w x hops
-        all_least = omega (
+    apart_least : ((i : ℕ) → In i front → Avoids i back) → cost ≤ cost_for w x hops
+    apart_least none =
+        omega (
           arith,
-          enough,
-          length-append early back,
-          length-append named (flat_map (pending_beside w) parts.before),
+          cost_for-least w x hops (front ++ back) (Apart-append front back front_too back_apart none)
+              (λ i there. elim (In-append i front back there) [
+                | inl one ↦ elim (In-append i named (flat_map (pending_beside w) meets.way) one) [
+                  | inl is_named_one ↦ in_all_named i is_named_one
+                  | inr on_way ↦ in_all_front i on_way
+                ]
+                | inr other ↦ in_all_back i other
+              ]),
+          comes_for meets.at meets.way some meets.at path meets.leads rescuer,
+          none_from meets.at meets.round meets.some meets.goes_round,
+          length-append front back,
+          length-append named (flat_map (pending_beside w) meets.way),
           ap (λ (l : List Hop). length (unsure_hops l)) meets.are,
           ap (λ (l : List Hop). length l) meets.are,
           unsure-append meets.way meets.round,
           length-append meets.way meets.round,
-          ap (λ (l : List Hop). length (unsure_hops l)) parts.parts,
-          ap (λ (l : List Hop). length l) parts.parts,
-          unsure-append parts.before (g ∷ parts.after),
-          length-append parts.before (g ∷ parts.after),
-          unsure-more g.flush.unsure g (unsure_hops parts.after),
-          unsure-more g.flush.unsure g [],
-          full_cost-path w first g.item parts.before at_hop.0 hop.rescuer,
+          full_cost-path w first meets.at meets.way meets.leads rescuer,
           full_cost-path w meets.at meets.at meets.round meets.goes_round rescuer,
         )
 
-        come : slice_index f.ways.costs g.item ≤ length named + hops_cost parts.before
-        come = comes_for g.item parts.before some meets.at path at_hop.0 hop.rescuer
+    -- x is pending for both
+    named_least : (t : ℕ) → t ≡ x → cost ≤ slice_index f.pending.costs t + hops_cost meets.round
+        → cost ≤ cost_for w x hops
+    named_least t same alone =
+        let nothing : slice_index f.pending.costs x ≡ 0 =
+        All-contains (λ (i : ℕ). slice_index f.pending.costs i ≡ 0) f.starts x field.pending.begun is_named in
+        omega (
+          arith,
+          alone,
+          nothing,
+          ap (slice_index f.pending.costs) same,
+          cost_for-least w x hops back back_apart in_all_back,
+          ap (λ (l : List Hop). length (unsure_hops l)) meets.are,
+          ap (λ (l : List Hop). length l) meets.are,
+          unsure-append meets.way meets.round,
+          length-append meets.way meets.round,
+          full_cost-path w meets.at meets.at meets.round meets.goes_round rescuer,
+        )
 
-        target_least : cost ≤ slice_index f.pending.costs t + hops_cost meets.round → cost ≤ cost_for w x hops
-        target_least alone = elim (cases_lt (slice_index f.ways.costs g.item) max_walk_cost) [
-          | inr far ↦ omega (arith, far, most, come, all_least)
-          | inl near ↦ (
-              let waits : WaitsAlone w max_walk_cost f.ways g.item g.flush = record {
-                item = declared-item w g.item g.flush hop.declared;
-                reached = near;
-                declared = hop.declared;
-                alone = target.0;
-                rescuer = to;
-              } in
-              omega (
-                arith,
-                alone,
-                come,
-                all_least,
-                field.pending.least g.item g.flush waits,
-                ap (slice_index f.pending.costs) target.1,
-              )
+    -- the target of a hop on the way is
+    module _ (t : ℕ) (g : Hop) (there : Contains meets.way g) (pending : In t (pending_beside w g)) where
+      parts : IsAmong meets.way g
+      parts = among meets.way g there
+
+      at_hop : IsPath w first parts.before g.item × IsPath w g.item (g ∷ parts.after) meets.at
+      at_hop = path_parts w first meets.at parts.before g parts.after
+          (subst (λ (l : List Hop). IsPath w first l meets.at) parts.parts meets.leads)
+
+      hop : IsHop w g
+      hop = at_hop.1.1
+
+      to : HasRescuer w (lane_of w g.flush.item)
+      to = subst (HasRescuer w) at_hop.1.2 (path_rescuer w g.next meets.at parts.after at_hop.1.3 rescuer)
+
+      target : (g.flush.whole ≡ false) × (t ≡ g.flush.item) × (g.flush.item ≢ g.next)
+      target = target_is g t (subst (λ (l : List ℕ). In t l) (pending_rescued w g to) pending)
+
+      abbrev early : List ℕ
+      early = named ++ flat_map (pending_beside w) parts.before
+
+      way_lanes : lanes_from w meets.way
+          ≡ lanes_from w parts.before ++ (lane_of w g.item ∷ lanes_from w parts.after)
+      way_lanes = ap (lanes_from w) parts.parts ∙ lanes_from-append w parts.before (g ∷ parts.after)
+
+      way_apart : Apart (lanes_from w parts.before ++ (lane_of w g.item ∷ lanes_from w parts.after))
+      way_apart = subst Apart way_lanes (Apart-left (lanes_from w meets.way) (lanes_from w meets.round) lanes)
+
+      early_lanes : Apart (lane_of w first ∷ lanes_to w parts.before)
+      early_lanes = subst Apart (sym (path_lanes w first g.item parts.before at_hop.0))
+          (Apart-append (lanes_from w parts.before) (lane_of w g.item ∷ [])
+          (Apart-left (lanes_from w parts.before) (lane_of w g.item ∷ lanes_from w parts.after) way_apart) (tt, tt)
+          (λ q in_before. (
+            (λ same. Apart-across (lanes_from w parts.before) (lane_of w g.item ∷ lanes_from w parts.after) q
+                way_apart in_before (inl same)),
+            tt,
+          )))
+
+      early_lane : (q : ℕ) → In q (lane_of w first ∷ lanes_to w parts.before) → In q (lanes_from w meets.way)
+      early_lane q in_early =
+          subst (λ (l : List ℕ). In q l) (sym way_lanes)
+          (elim (In-append q (lanes_from w parts.before) (lane_of w g.item ∷ [])
+          (subst (λ (l : List ℕ). In q l) (path_lanes w first g.item parts.before at_hop.0) in_early)) [
+            | inl left ↦ In-append_left q (lanes_from w parts.before)
+                (lane_of w g.item ∷ lanes_from w parts.after) left
+            | inr last ↦ elim last [
+              | inl same ↦ In-append_right q (lanes_from w parts.before)
+                  (lane_of w g.item ∷ lanes_from w parts.after) (inl same)
+              | inr none ↦ absurd none
+            ]
+          ])
+
+      early_avoids : (i : ℕ) → In i early → Avoids i back
+      early_avoids i in_early = Avoids-from i back (λ in_back.
+          Apart-across (lanes_from w meets.way) (lanes_from w meets.round) (lane_of w i) lanes
+          (early_lane (lane_of w i) (lane_early in_early)) (back_lane i in_back))
+        where
+          lane_early : In i early → In (lane_of w i) (lane_of w first ∷ lanes_to w parts.before)
+          lane_early one = elim (In-append i named (flat_map (pending_beside w) parts.before) one) [
+            | inl is_named_one ↦ (
+                let it = named_is w x first meets.at hops path some i is_named_one in
+                inl (ap (lane_of w) it.0 ∙ sym lane)
+                )
+            | inr on_way ↦ inr (pending_lane w parts.before i on_way)
+          ]
+
+      enough : (32768 * length (unsure_hops hops) + 3 * length hops) + length (early ++ back) ≤ cost_for w x hops
+      enough = cost_for-least w x hops (early ++ back)
+          (Apart-append early back
+          (front_apart w x first meets.at hops parts.before path some lane early_lanes) back_apart early_avoids)
+          (λ i in_ys. elim (In-append i early back in_ys) [
+            | inl one ↦ elim (In-append i named (flat_map (pending_beside w) parts.before) one) [
+              | inl is_named_one ↦ in_all_named i is_named_one
+              | inr on_way ↦ in_all_front i
+                  (subst (λ (l : List Hop). In i (flat_map (pending_beside w) l)) (sym parts.parts)
+                  (In-flat_left (pending_beside w) i parts.before (g ∷ parts.after) on_way))
+            ]
+            | inr other ↦ in_all_back i other
+          ])
+
+      -- the way as far as the hop, the hop and the round cost no more than the walk
+      all_least : ((length named + hops_cost parts.before) + step g.flush) + hops_cost meets.round
+          ≤ cost_for w x hops
+      all_least = omega (
+        arith,
+        enough,
+        length-append early back,
+        length-append named (flat_map (pending_beside w) parts.before),
+        ap (λ (l : List Hop). length (unsure_hops l)) meets.are,
+        ap (λ (l : List Hop). length l) meets.are,
+        unsure-append meets.way meets.round,
+        length-append meets.way meets.round,
+        ap (λ (l : List Hop). length (unsure_hops l)) parts.parts,
+        ap (λ (l : List Hop). length l) parts.parts,
+        unsure-append parts.before (g ∷ parts.after),
+        length-append parts.before (g ∷ parts.after),
+        unsure-more g.flush.unsure g (unsure_hops parts.after),
+        unsure-more g.flush.unsure g [],
+        full_cost-path w first g.item parts.before at_hop.0 hop.rescuer,
+        full_cost-path w meets.at meets.at meets.round meets.goes_round rescuer,
+      )
+
+      come : slice_index f.ways.costs g.item ≤ length named + hops_cost parts.before
+      come = comes_for g.item parts.before some meets.at path at_hop.0 hop.rescuer
+
+      target_least : cost ≤ slice_index f.pending.costs t + hops_cost meets.round → cost ≤ cost_for w x hops
+      target_least alone = elim (cases_lt (slice_index f.ways.costs g.item) max_walk_cost) [
+        | inr far ↦ omega (arith, far, most, come, all_least)
+        | inl near ↦ (
+            let waits : WaitsAlone w max_walk_cost f.ways g.item g.flush = record {
+              item = declared-item w g.item g.flush hop.declared;
+              reached = near;
+              declared = hop.declared;
+              alone = target.0;
+              rescuer = to;
+            } in
+            omega (
+              arith,
+              alone,
+              come,
+              all_least,
+              field.pending.least g.item g.flush waits,
+              ap (slice_index f.pending.costs) target.1,
+            )
+            )
+      ]
+
+    round_cases : ((i : ℕ) × In i front × In i back) ⊎ ((i : ℕ) → In i front → Avoids i back)
+        → cost ≤ cost_for w x hops
+    round_cases (inr none) = apart_least none
+    round_cases (inl (t, in_front, in_back)) =
+        let h = pending_hop w meets.round t in_back in
+        let round = round_alone w meets.at meets.round meets.goes_round rescuer h.0 h.1 t h.2 in
+        let alone : cost ≤ slice_index f.pending.costs t + hops_cost meets.round =
+        none_alone t round.0 (hops_cost meets.round) round.1 in
+        elim (In-append t named (flat_map (pending_beside w) meets.way) in_front) [
+          | inl is_named_one ↦ named_least t (named_is w x first meets.at hops path some t is_named_one).0 alone
+          | inr on_way ↦ (
+              let g = pending_hop w meets.way t on_way in
+              target_least t g.0 g.1 g.2 alone
               )
         ]
 
-      by : ((i : ℕ) × In i front × In i back) ⊎ ((i : ℕ) → In i front → Avoids i back)
-          → cost ≤ cost_for w x hops
-      by (inr none) = apart_least none
-      by (inl (t, in_front, in_back)) =
-          let h = pending_hop w meets.round t in_back in
-          let round = round_alone w meets.at meets.round meets.goes_round rescuer h.0 h.1 t h.2 in
-          let alone : cost ≤ slice_index f.pending.costs t + hops_cost meets.round =
-          none_alone t round.0 (hops_cost meets.round) round.1 in
-          elim (In-append t named (flat_map (pending_beside w) meets.way) in_front) [
-            | inl is_named_one ↦ named_least t (named_is w x first meets.at hops path some t is_named_one).0 alone
-            | inr on_way ↦ (
-                let g = pending_hop w meets.way t on_way in
-                target_least t g.0 g.1 g.2 alone
-                )
-          ]
+    round_least : cost ≤ cost_for w x hops
+    round_least = round_cases (common front back)
 
 -- what no end costs less than, no walk does
 module _ (on : List (List ℕ)) (f : Field) (field : IsField on f) (cost : ℕ) (most : cost ≤ max_walk_cost)
