@@ -130,7 +130,7 @@ unsure-alike w (g ∷ gs) (h ∷ hs) alike =
     by false rest = rest
 
 -- what is pending for a hop depends on its flush's words and on what comes next
-pending_with : Wiring → Bool → ℕ → ℕ → List ℕ
+abbrev pending_with : Wiring → Bool → ℕ → ℕ → List ℕ
 pending_with w whole item next =
     if slice_index_or w.bare (lane_of w item) false then item ∷ []
     else (if whole || (item == next) then [] else item ∷ [])

@@ -195,7 +195,8 @@ module _ (w : Wiring) (wiring : IsWiring w) (s : State) (sound : IsSoundState w 
           here j in_js =
               let at = each j in_js in
               elim (beside j at.0).kind [
-                | inl is_left ↦ subst (λ (p : ℕ). IsLeftOn (lane_at s p) j × (j ≢ item_on s p)) at.1 is_left.1
+                | inl is_left ↦ subst (λ (p : ℕ). IsLeftOn (lane_at s p) j × (j ≢ item_on s p)) at.1
+                    (is_left.1, is_left.2)
                 | inr bare ↦ absurd (bare.0 (subst (λ (p : ℕ). HasRescuer w p) (sym at.1) rescuer))
               ]
       fits q there js js_apart each (inr bare) =
