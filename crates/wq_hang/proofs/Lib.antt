@@ -27,6 +27,7 @@ pub mod NoEnds
 pub mod Nearer
 pub mod EndsFound
 pub mod LastHops
+pub mod BestFound
 pub mod SettledFor
 pub mod Bounding
 pub mod LaneItems
