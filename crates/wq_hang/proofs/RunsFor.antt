@@ -219,7 +219,7 @@ HoldUp-none w x item bare = record {
 
 HoldUp-for : (w : Wiring) (named : List ℕ) (x : ℕ) (hops : List Hop) → IsWiring w → IsWalkFor w named x hops
     → Apart (lanes_from w hops) → HoldUp w hops (pending_for w x hops)
-HoldUp-for w named x hops wiring walk apart = elim (leads_from w x hops walk.holds_up) [
+HoldUp-for w names x hops wiring walk apart = elim (leads_from w x hops walk.holds_up) [
   | inl none ↦ subst (λ (l : List Hop). HoldUp w l (pending_for w x l)) (sym none.0)
       (HoldUp-none w x walk.item none.1)
   | inr leads ↦ HoldUp-leads w wiring x walk.item hops apart leads
@@ -228,21 +228,21 @@ HoldUp-for w named x hops wiring walk apart = elim (leads_from w x hops walk.hol
 pub walk_for_hangs : (w : Wiring) (named : List ℕ) (x : ℕ) (hops : List Hop) → IsWiring w → IsWalkFor w named x hops
     → Apart (lanes_from w hops) → (n : ℕ)
     → EndsStuckFor w named n (run_of_walk w hops (pending_for w x hops))
-walk_for_hangs w named x hops wiring walk apart n =
+walk_for_hangs w names x hops wiring walk apart n =
     let v : Wiring = with_helpers w n in
     let beside : List ℕ = pending_for w x hops in
     let helped : HoldUp v hops beside =
-    HoldUp-helped w n hops beside (HoldUp-for w named x hops wiring walk apart) in
+    HoldUp-helped w n hops beside (HoldUp-for w names x hops wiring walk apart) in
     let sound : IsWiring v = IsWiring-with_helpers w n wiring in
     (
       IsRun-walk v hops beside sound helped,
-      IsStuckFor-walk v hops beside sound helped named x walk.is_named (queued-named w x hops),
+      IsStuckFor-walk v hops beside sound helped names x walk.is_named (queued-named w x hops),
     )
 
 -- none of its steps needs a worker
 pub walk_for_alone : (w : Wiring) (named : List ℕ) (x : ℕ) (hops : List Hop) → IsWalkFor w named x hops
     → All (λ (step : Step). ¬ NeedsWorker w step) (run_of_walk w hops (pending_for w x hops))
-walk_for_alone w named x hops walk =
+walk_for_alone w names x hops walk =
     All-append (λ (step : Step). ¬ NeedsWorker w step) (map Queue (queued hops (pending_for w x hops)))
     (flat_map (moves_of w) hops)
     (alone-queued w (queued hops (pending_for w x hops)))

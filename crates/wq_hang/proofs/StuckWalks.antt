@@ -123,21 +123,24 @@ length-pending w x hops =
 -- ---- a stuck state
 
 -- 3 for each lane that has a rescuer
+abbrev three_unless : Bool → ℕ
+three_unless bare = cond bare 0 3
+
 abbrev waits_on : Wiring → ℕ → ℕ
-waits_on w q = cond (slice_index_or w.bare q false) 0 3
+waits_on w q = three_unless (slice_index_or w.bare q false)
 
 total-rescued : (w : Wiring) (qs : List ℕ) → ((q : ℕ) → In q qs → HasRescuer w q)
     → total (waits_on w) qs ≡ 3 * length qs
 total-rescued w [] each = refl
 total-rescued w (q ∷ qs) each =
-    let here : waits_on w q ≡ 3 = ap (λ (b : Bool). cond b 0 3) (each q (inl refl)) in
+    let here : waits_on w q ≡ 3 = ap three_unless (each q (inl refl)) in
     let rest : total (waits_on w) qs ≡ 3 * length qs = total-rescued w qs (λ p there. each p (inr there)) in
     omega (arith, here, rest)
 
 is_bare : (w : Wiring) (q : ℕ) → (¬ HasRescuer w q) → waits_on w q ≡ 0
 is_bare w q bare = by (slice_index_or w.bare q false) refl
   where
-    by : (b : Bool) → slice_index_or w.bare q false ≡ b → cond b 0 3 ≡ 0
+    by : (b : Bool) → slice_index_or w.bare q false ≡ b → three_unless b ≡ 0
     by true is = refl
     by false is = absurd (bare is)
 
@@ -175,9 +178,9 @@ module _ (w : Wiring) (wiring : IsWiring w) (s : State) (sound : IsSoundState w 
 
   weighs_enough : (t : ℕ) (qs is : List ℕ) → Apart qs → ((q : ℕ) → In q qs → IsBusy (lane_at s q)) → Apart is
       → ((i : ℕ) → In i is → IsBeside t qs i) → total (waits_on w) qs + length is ≤ weight s.lanes
-  weighs_enough t qs is apart busy once beside =
+  weighs_enough t qs is apart busy is_apart beside =
       let on : total (waits_on w) qs + length is ≤ weight_on s.lanes qs =
-      counted w s (waits_on w) qs is once (λ i there. (beside i there).on)
+      counted w s (waits_on w) qs is is_apart (λ i there. (beside i there).on)
       (λ q there js js_apart each. fits q there js js_apart each (cases_rescuer w q)) in
       let all : weight_on s.lanes qs ≤ weight s.lanes = weight_on-apart s.lanes qs apart in
       omega (arith, on, all)
@@ -185,7 +188,7 @@ module _ (w : Wiring) (wiring : IsWiring w) (s : State) (sound : IsSoundState w 
       fits : (q : ℕ) → In q qs → (js : List ℕ) → Apart js → ((j : ℕ) → In j js → In j is × (lane_of w j ≡ q))
           → HasRescuer w q ⊎ (¬ HasRescuer w q) → waits_on w q + length js ≤ lane_weight (lane_at s q)
       fits q there js js_apart each (inl rescuer) =
-          let three : waits_on w q ≡ 3 = ap (λ (b : Bool). cond b 0 3) rescuer in
+          let three : waits_on w q ≡ 3 = ap three_unless rescuer in
           let le : 3 + length js ≤ lane_weight (lane_at s q) =
           others-weight q rescuer (busy q there) js js_apart (λ j in_js. (here j in_js).0)
           (λ j in_js. (here j in_js).1) in

@@ -110,8 +110,8 @@ pub(crate) fn way_to<A: Allocator + Copy>(
     let mut at = item;
     while ways.cost(at) > 1 {
         let hop = ways.hop_to(at);
-        hops.push(hop)?;
         at = hop.item;
+        hops.push(hop)?;
     }
     hops.reverse();
     Ok(hops)
