@@ -95,10 +95,10 @@ fn cheapest_first<A: Allocator + Copy>(
     alloc: A,
     mut keys: Vec<(u32, u32), A>,
 ) -> Result<Vec<u32, A>, AllocError>
-    ensures all { IfOk result (λ list. (i : ℕ) → Contains (map (λ key. key.1) keys.entry.items) i →
+    ensures all { IfOk result (λ list. (i : ℕ) → Contains (map (λ key. key.1) keys.items) i →
         Contains list.items i) }
     ensures no_others { IfOk result (λ list. (i : ℕ) → Contains list.items i →
-        Contains (map (λ key. key.1) keys.entry.items) i) }
+        Contains (map (λ key. key.1) keys.items) i) }
 {
     keys.sort_unstable_by_key(|key| *key);
     let mut list = Vec::with_capacity(alloc, keys.len())?;
@@ -434,8 +434,8 @@ impl<A: Allocator + Copy> Field<'_, '_, A> {
         item: ItemId,
         hops: Vec<Hop, A>,
     ) -> Result<Option<WalkFor<A>>, AllocError>
-        requires { (cost : ℕ) × EndsAlone self.now cost item hops.entry.items × (cost ≤ max_walk_cost) }
-        ensures { (cost : ℕ) → EndsAlone self.now cost item hops.entry.items → cost ≤ max_walk_cost →
+        requires { (cost : ℕ) × EndsAlone self.now cost item hops.items × (cost ≤ max_walk_cost) }
+        ensures { (cost : ℕ) → EndsAlone self.now cost item hops.items → cost ≤ max_walk_cost →
             IfOk result (λ found. MatchOption found ⊥ (λ walk. IsWalkAt self.now cost walk.named walk.hops.items)) }
     {
         let Some(mut hop) = self.pending.hop_to(item) else {
@@ -444,16 +444,17 @@ impl<A: Allocator + Copy> Field<'_, '_, A> {
         if let Some(first) = hops.first() {
             hop.next = first.item;
         }
+        let waiting = hop.item;
         let mut all = Vec::new(alloc);
         all.push(hop)?;
         all.extend_from_slice(hops.as_slice())?;
-        self.with_way(alloc, hop.item, all.as_slice())
+        self.with_way(alloc, waiting, all.as_slice())
     }
 
     /// The walk with this end.
     fn walk_to(&self, alloc: A, end: End<A>) -> Result<Option<WalkFor<A>>, AllocError>
-        requires { (cost : ℕ) × IsBest self.now cost (Some end.entry) }
-        ensures { (cost : ℕ) → IsBest self.now cost (Some end.entry) →
+        requires { (cost : ℕ) × IsBest self.now cost (Some end) }
+        ensures { (cost : ℕ) → IsBest self.now cost (Some end) →
             IfOk result (λ found. MatchOption found ⊥ (λ walk. IsWalkAt self.now cost walk.named walk.hops.items)) }
     {
         match end {

@@ -229,8 +229,6 @@ impl<A: Allocator + Copy> Search<A> {
         flush: &Target,
     ) -> Result<(), AllocError>
         requires on { AreItemsOn waits.now on.now }
-        requires bounds { length bounds.now ≡ waits.now.lanes }
-        requires first { first < items waits.now }
         requires one_each { length self.old.costs ≡ items waits.now }
         requires by_each { length self.old.by ≡ items waits.now }
         requires lanes_each { length self.old.lane_costs ≡ waits.now.lanes }
