@@ -29,7 +29,7 @@ full_cost w hops =
 
 length-flat_append : {X : Type 0} (f : X → List ℕ) (xs ys : List X)
     → length (flat_map f (xs ++ ys)) ≡ length (flat_map f xs) + length (flat_map f ys)
-length-flat_append f [] ys = refl
+length-flat_append f [] ys = omega arith
 length-flat_append f (x ∷ xs) ys =
     let rest : length (flat_map f (xs ++ ys)) ≡ length (flat_map f xs) + length (flat_map f ys) =
     length-flat_append f xs ys in
@@ -196,14 +196,14 @@ pub first_alone : (w : Wiring) (t cost : ℕ) (h : Hop) (hops : List Hop) (is : 
     → h.item ≡ is.leads.first
 first_alone w t cost h hops is = by is.way is.are is.leads.path
   where
+    first_item : List Hop → ℕ
+    first_item [] = 0
+    first_item (g ∷ gs) = g.item
+
     by : (way : List Hop) → h ∷ hops ≡ way ++ (is.last ∷ []) → IsPath w is.leads.first way is.last.item
         → h.item ≡ is.leads.first
     by [] same path = ap (λ (l : List Hop). first_item l) same ∙ sym path
     by (g ∷ gs) same path = ap (λ (l : List Hop). first_item l) same ∙ path.0
-
-    first_item : List Hop → ℕ
-    first_item [] = 0
-    first_item (g ∷ gs) = g.item
 
 module _ (w : Wiring) (t cost : ℕ) (hops : List Hop) (is : IsRoundAlone w t hops cost) where
   abbrev first : ℕ
