@@ -23,12 +23,13 @@ ghost use Rattle.wq_repair.specs.Repair.{IsAnswer, IsNeededCircle};
 use crate::answer::Answer;
 use crate::assigned::{graph_of_groups, judge_others, with_workqueues, workqueues_of};
 use crate::checking::{RANKS, Settled, is_settled};
-use crate::named::{named_groups, named_lanes};
+use crate::listing::is_marked;
+use crate::named::named;
 use crate::needed::needed_groups;
 use crate::placing::place;
 use crate::plain::settle;
 use crate::scope::{Scope, all_but, but_not, scope_of, tried_groups};
-use crate::start::start;
+use crate::start::start_of;
 use crate::wider::better_repair;
 use std::alloc::{AllocError, Allocator};
 use wq_choice::{Chooser, LargestSets};
@@ -67,14 +68,6 @@ fn graph_of_needed<A: Allocator + Copy>(
     graph_of_groups(alloc, assigned)?.without(alloc, out.as_slice())
 }
 
-/// Whether a group is chosen.
-fn is_chosen(chosen: &[bool], group: usize) -> bool {
-    match chosen.get(group) {
-        Some(is_chosen) => *is_chosen,
-        None => false,
-    }
-}
-
 /// Whether a group stays: if it can't move, or may stay and is chosen.
 fn does_stay(is_fixed: bool, is_tried: bool, is_chosen: bool) -> bool
     ensures kept { is_fixed ≡ true → result ≡ true }
@@ -90,13 +83,12 @@ fn with_chosen<A: Allocator + Copy>(
     tried: &[bool],
     chosen: &[bool],
 ) -> Result<Vec<bool, A>, AllocError>
-    requires { length tried.now ≡ length fixed.now }
     ensures one_each { IfOk result (λ stays. length stays.items ≡ length fixed.now) }
     ensures within { IfOk result (λ stays. IsWithin fixed.now tried.now stays.items) }
 {
     let mut stays = Vec::with_capacity(alloc, fixed.len())?;
     for (group, is_fixed) in fixed.iter().enumerate() {
-        stays.push(does_stay(*is_fixed, tried[group], is_chosen(chosen, group)))?;
+        stays.push(does_stay(*is_fixed, is_marked(tried, group), is_marked(chosen, group)))?;
     }
     Ok(stays)
 }
@@ -225,23 +217,11 @@ fn repair_without_circle<A: Allocator + Copy, C: Chooser<A>>(
     requires no_circle { ¬ Circle (NeededWaits (declared_waits assigned.now.declared) assigned.now.workqueues) }
     ensures { IfOk result (IsAnswer (declared_waits assigned.now.declared) assigned.now.workqueues names.now) }
 {
-    let workqueues = workqueues_of(assigned);
+    let _few = workqueues_of(assigned);
     let needed = needed_groups(alloc, assigned, names)?;
-    let named = named_groups(alloc, assigned, names)?;
-    let lanes = named_lanes(alloc, workqueues, named.as_slice())?;
-    let scope = scope_of(
-        alloc,
-        workqueues,
-        named.as_slice(),
-        lanes.as_slice(),
-        needed,
-    )?;
-    let begin = start(
-        alloc,
-        workqueues,
-        scope.movable.as_slice(),
-        scope.given.as_slice(),
-    )?;
+    let named = named(alloc, assigned, names)?;
+    let scope = scope_of(alloc, assigned, &named, needed)?;
+    let begin = start_of(alloc, assigned, &scope)?;
     match judge_others(alloc, assigned, &begin)? {
         Judged::Deadlock(steps) => Ok(Answer::TooFewNames(begin, steps)),
         Judged::Safe => {
