@@ -89,7 +89,7 @@ pub(crate) fn named_lanes<A: Allocator + Copy>(
 }
 
 /// Which groups may move if only those of these items may, and which lanes may be given a rescuer then.
-pub(crate) fn named<A: Allocator + Copy>(
+pub(crate) fn named_by<A: Allocator + Copy>(
     alloc: A,
     assigned: &Assigned<'_, '_, A>,
     names: &[ItemId],

@@ -14,7 +14,7 @@ ghost use Rattle.wq_repair.specs.Marks.{IsMarked, Marks};
 ghost use Rattle.wq_repair.specs.Together.{Lists};
 
 use crate::assigned::{graph_of_groups, workqueues_of};
-use crate::named::{Named, named};
+use crate::named::{Named, named_by};
 use std::alloc::{AllocError, Allocator};
 use std::marker::Model;
 use wq_buckets::Buckets;
@@ -171,7 +171,7 @@ pub(crate) fn needed_groups<A: Allocator + Copy>(
     let groups = assigned.groups().len();
     let graph = graph_of_groups(alloc, assigned)?;
     let on = groups_on_lanes(alloc, workqueues.assignment(), groups)?;
-    let named = named(alloc, assigned, names)?;
+    let named = named_by(alloc, assigned, names)?;
     let mut found = on_rescuers(alloc, workqueues, groups)?;
     let mut done = 0;
     while done < found.list.len() {

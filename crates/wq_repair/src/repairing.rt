@@ -24,7 +24,7 @@ use crate::answer::Answer;
 use crate::assigned::{graph_of_groups, judge_others, with_workqueues, workqueues_of};
 use crate::checking::{RANKS, Settled, is_settled};
 use crate::listing::is_marked;
-use crate::named::named;
+use crate::named::named_by;
 use crate::needed::needed_groups;
 use crate::placing::place;
 use crate::plain::settle;
@@ -219,7 +219,7 @@ fn repair_without_circle<A: Allocator + Copy, C: Chooser<A>>(
 {
     let _few = workqueues_of(assigned);
     let needed = needed_groups(alloc, assigned, names)?;
-    let named = named(alloc, assigned, names)?;
+    let named = named_by(alloc, assigned, names)?;
     let scope = scope_of(alloc, assigned, &named, needed)?;
     let begin = start_of(alloc, assigned, &scope)?;
     match judge_others(alloc, assigned, &begin)? {

@@ -19,7 +19,7 @@ ghost use Rattle.wq_repair.specs.Steps.{KeepsNeeded};
 
 use crate::assigned::{graph_of_groups, others_are_safe, workqueues_of};
 use crate::listing::{either, is_marked};
-use crate::named::{Named, named, named_lanes};
+use crate::named::{Named, named_by, named_lanes};
 use crate::repairing::repaired;
 use crate::scope::{Scope, scope_of};
 use crate::start::start_of;
@@ -193,7 +193,7 @@ fn wider_scope<A: Allocator + Copy>(
         (IsScope (declared_waits assigned.now.declared) assigned.now.workqueues names.now)) }
 {
     let old = workqueues_of(assigned);
-    let named = named(alloc, assigned, names)?;
+    let named = named_by(alloc, assigned, names)?;
     let graph = graph_of_groups(alloc, assigned)?;
     let bare = bare_of(alloc, old, &named)?;
     let shared = shared_lanes(alloc, &graph, old.assignment(), bare, needed)?;

@@ -4,7 +4,7 @@ use Rattle.wq_core.specs.Workqueues.{Workqueues}
 use Rattle.wq_repair.specs.Marks.{Marks}
 use Rattle.wq_repair.specs.Steps.{HoldsMarked}
 use Rattle.wq_repair.proofs.NeededGroups.{Marks-named_lanes}
-use Rattle.wq_repair.proofs.named.named.Goals as goal
+use Rattle.wq_repair.proofs.named.named_by.Goals as goal
 
 pub returns : goal.returns
 returns g c =
