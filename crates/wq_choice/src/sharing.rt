@@ -27,8 +27,8 @@ fn lead_to(arcs: &[WaitArc], needed: &[bool]) -> bool {
     })
 }
 
-/// Of the lanes that may be given a rescuer (`lanes`), those on which two or more groups need one (`needed`) and another
-/// doesn't, and whose groups all wait only for groups that need one.
+/// Of the lanes that may be given a rescuer, those on which two or more groups need one (`needed`) and another doesn't,
+/// and whose groups all wait only for groups that need one.
 pub fn shared_lanes<A: Allocator + Copy>(
     alloc: A,
     graph: &WaitGraph<A>,

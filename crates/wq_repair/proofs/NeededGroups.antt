@@ -73,7 +73,9 @@ module _ (d : Declaration) (old : Workqueues) (names : List ℕ) (declaration : 
     pub listed-below : (k : ℕ) → k < length f.list → slice_index f.list k < d.groups
     listed-below k lt = omega (arith, IsMarked-below f.marks (slice_index f.list k) (listed-marked k lt), is.one_each)
 
-    pub IsFollowed-next : (next : FoundGroups) → done < length f.list → HasGrown f next (BringsAlongBy (group_graph d) old n (slice_index f.list done)) → IsFollowed d old names next (done + 1)
+    pub IsFollowed-next : (next : FoundGroups) → done < length f.list
+        → HasGrown f next (BringsAlongBy (group_graph d) old n (slice_index f.list done))
+        → IsFollowed d old names next (done + 1)
     IsFollowed-next next lt grown = record {
       one_each = grown.one_each ∙ is.one_each;
       lists = grown.lists is.lists;

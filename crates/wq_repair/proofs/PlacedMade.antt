@@ -97,7 +97,8 @@ module _ (old : Workqueues) (given stays leaves leave bare named movable : List 
 
   ranked-stay : (g h : ℕ) → h < length leaves → IsMarked stays g → IsMarked leaves h → slice_index lane_of g ≡ slice_index lane_of h → slice_index ranks g ≡ slice_index ranks h
   ranked-stay g h h_is g_stays h_leaves equal = elim (comes h h_is h_leaves) [
-    | inl holds ↦ can.same g holds.group g_stays holds.marked (sym (stays_on g g_stays) ∙ equal ∙ sym holds.on) ∙ holds.ranked
+    | inl holds ↦
+        can.same g holds.group g_stays holds.marked (sym (stays_on g g_stays) ∙ equal ∙ sym holds.on) ∙ holds.ranked
     | inr came ↦ absurd (not_taken came.number g (stays_below g g_stays) (sym came.on ∙ sym equal ∙ stays_on g g_stays))
   ]
 
@@ -117,7 +118,8 @@ module _ (old : Workqueues) (given stays leaves leave bare named movable : List 
 
   ranked-any : (g h : ℕ) → g < length leaves → h < length leaves → IsMarked stays g ⊎ IsMarked leaves g → IsMarked stays h ⊎ IsMarked leaves h
       → slice_index lane_of g ≡ slice_index lane_of h → slice_index ranks g ≡ slice_index ranks h
-  ranked-any g h g_is h_is (inl g_stays) (inl h_stays) equal = can.same g h g_stays h_stays (sym (stays_on g g_stays) ∙ equal ∙ stays_on h h_stays)
+  ranked-any g h g_is h_is (inl g_stays) (inl h_stays) equal =
+      can.same g h g_stays h_stays (sym (stays_on g g_stays) ∙ equal ∙ stays_on h h_stays)
   ranked-any g h g_is h_is (inl g_stays) (inr h_leaves) equal = ranked-stay g h h_is g_stays h_leaves equal
   ranked-any g h g_is h_is (inr g_leaves) (inl h_stays) equal = sym (ranked-stay h g g_is h_stays g_leaves (sym equal))
   ranked-any g h g_is h_is (inr g_leaves) (inr h_leaves) equal = ranked-leave g h g_is h_is g_leaves h_leaves equal

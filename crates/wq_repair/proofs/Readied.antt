@@ -85,10 +85,13 @@ module _ (d : Declaration) (old : Workqueues) (names : List ℕ) (s : Scope) (st
   movable_needed g is marked = ((ready.scope.are_movable.exactly g is).0 marked).1
 
   movable_named : (g : ℕ) → g < d.groups → IsMarked s.movable g → IsNamed d names g
-  movable_named g is marked = (ready.scope.are_named.groups.exactly g is).0 ((ready.scope.are_movable.exactly g is).0 marked).0
+  movable_named g is marked =
+      (ready.scope.are_named.groups.exactly g is).0 ((ready.scope.are_movable.exactly g is).0 marked).0
 
   given_needed : (g : ℕ) → g < d.groups → IsMarked s.given (lane_in old g) → IsMarked s.needed g
-  given_needed g is marked = ((ready.scope.are_given.exactly (lane_in old g) (lane_below g is)).0 marked).all g (omega (arith, is, ready.scope.one_each)) refl
+  given_needed g is marked =
+      ((ready.scope.are_given.exactly (lane_in old g) (lane_below g is)).0 marked).all g
+      (omega (arith, is, ready.scope.one_each)) refl
 
   -- nobody else is on a lane with a rescuer in the start
   pub start_needed : (g : ℕ) → g < d.groups → IsRescued start (lane_in start g) → IsMarked s.needed g
@@ -364,13 +367,15 @@ module _ (d : Declaration) (old : Workqueues) (names : List ℕ) (s : Scope) (st
         pub IsMinimal-placed : AreHosted old s.movable leaves new → IsMinimal d old names s.needed new
         IsMinimal-placed are_hosted = record {
           compared = IsToBeCompared-placed d old new names ready.scope.named.lanes s.needed s.given settled.stays leaves
-              settled.ranks ready.scope.assignment ready.scope.are_named.lanes ready.scope.one_each ready.scope.are_given leaving-placed placed;
-          changes = AreChangesNeeded-placed d old new names ready.scope.named.lanes s.needed s.given settled.stays leaves
-              settled.ranks ready.scope.assignment ready.scope.are_named.lanes ready.scope.one_each ready.scope.are_given leaving-placed placed;
+              settled.ranks ready.scope.assignment ready.scope.are_named.lanes ready.scope.one_each
+              ready.scope.are_given leaving-placed placed;
+          changes = AreChangesNeeded-placed d old new names ready.scope.named.lanes s.needed s.given settled.stays
+              leaves settled.ranks ready.scope.assignment ready.scope.are_named.lanes ready.scope.one_each
+              ready.scope.are_given leaving-placed placed;
           number = λ (q : ℕ). rank_on s.needed new.assignment.lane_of_group settled.ranks q d.groups;
           falls = FallsAlongWaits-placed d old new names ready.scope.named.lanes s.needed s.given settled.stays leaves
-              settled.ranks ready.scope.assignment ready.scope.are_named.lanes ready.scope.one_each ready.scope.are_given leaving-placed placed
-              declaration
+              settled.ranks ready.scope.assignment ready.scope.are_named.lanes ready.scope.one_each
+              ready.scope.are_given leaving-placed placed declaration
               (λ (q : ℕ). rank_on s.needed new.assignment.lane_of_group settled.ranks q d.groups) ranked;
           few = omega (arith, placed.few, are_leaving.one_each);
           bare = placed.bare;

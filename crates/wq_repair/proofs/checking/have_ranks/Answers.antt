@@ -20,8 +20,9 @@ loop-group-preserved g c =
       ];
       same = λ k lt. elim (cases_eq k i) [
         | inl last ↦
-            ap (λ (x : ℕ). slice_index ranks (slice_index at x)) last ∙ ap (slice_index ranks) (sym c.number_at-2.ensures)
-            ∙ sym c.number_at-3.ensures ∙ c.if-number_at.false ∙ c.number_at.ensures ∙ ap (slice_index ranks) (sym last)
+            ap (λ (x : ℕ). slice_index ranks (slice_index at x)) last
+            ∙ ap (slice_index ranks) (sym c.number_at-2.ensures) ∙ sym c.number_at-3.ensures
+            ∙ c.if-number_at.false ∙ c.number_at.ensures ∙ ap (slice_index ranks) (sym last)
         | inr other ↦ c.loop-group.invariant.same k (omega (arith, lt, other))
       ];
       fall = λ k h lt arc. elim (cases_eq k i) [

@@ -53,7 +53,8 @@ try_group-requires-clause-assigned g c =
 
 pub try_group-requires-clause-needed : goal.try_group-requires-clause-needed
 try_group-requires-clause-needed g c =
-    ap length (c.as_slice.ensures.value ∙ ap (λ (x : Scope). x.needed) c.scope.view_is) ∙ c.requires.ready.1.scope.one_each
+    ap length (c.as_slice.ensures.value ∙ ap (λ (x : Scope). x.needed) c.scope.view_is)
+    ∙ c.requires.ready.1.scope.one_each
 
 pub try_group-requires-clause-group : goal.try_group-requires-clause-group
 try_group-requires-clause-group g c = omega (arith, c.loop-group-test.true, c.requires.tried)

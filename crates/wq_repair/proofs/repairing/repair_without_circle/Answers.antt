@@ -12,12 +12,13 @@ pub scope_of-requires-clause-named : goal.scope_of-requires-clause-named
 scope_of-requires-clause-named g c = (c.args.names.now, c.in_ok-named.ensures)
 
 pub start_of-requires : goal.start_of-requires
-start_of-requires g c = (
-  c.args.names.now,
-  c.in_ok-scope.ensures.scope c.args.names.now c.in_ok-named.ensures
-      (CoversRescued-needed (declared_waits c.args.assigned.now.declared) c.args.assigned.now.workqueues c.args.names.now
-      c.in_ok-needed.needed.items c.in_ok-needed.ensures),
-)
+start_of-requires g c =
+    let names = c.args.names.now in (
+      names,
+      c.in_ok-scope.ensures.scope names c.in_ok-named.ensures
+          (CoversRescued-needed (declared_waits c.args.assigned.now.declared) c.args.assigned.now.workqueues names
+          c.in_ok-needed.needed.items c.in_ok-needed.ensures),
+    )
 
 pub judge_others-requires : goal.judge_others-requires
 judge_others-requires g c =

@@ -13,13 +13,15 @@ use Rattle.wq_repair.proofs.RepairedBy.{stays_long-by, ranks_long-by, CanBePlace
 use Rattle.wq_repair.proofs.repairing.repaired_from.Goals as goal
 
 pub tried_groups-requires-clause-movable : goal.tried_groups-requires-clause-movable
-tried_groups-requires-clause-movable g c = c.requires.1.scope.are_movable.one_each ∙ sym c.requires.1.scope.assignment.one_each
+tried_groups-requires-clause-movable g c =
+    c.requires.1.scope.are_movable.one_each ∙ sym c.requires.1.scope.assignment.one_each
 
 pub tried_groups-requires-clause-given : goal.tried_groups-requires-clause-given
 tried_groups-requires-clause-given g c = c.requires.1.scope.are_given.one_each
 
 pub tried_groups-requires-clause-few : goal.tried_groups-requires-clause-few
-tried_groups-requires-clause-few g c = omega (arith, c.requires.1.scope.are_movable.one_each, c.workqueues_of-few.ensures.few)
+tried_groups-requires-clause-few g c =
+    omega (arith, c.requires.1.scope.are_movable.one_each, c.workqueues_of-few.ensures.few)
 
 pub settled-requires-clause-ready : goal.settled-requires-clause-ready
 settled-requires-clause-ready g c = c.requires

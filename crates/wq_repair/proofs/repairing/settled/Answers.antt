@@ -17,7 +17,8 @@ settle-requires-clause-fixed g c =
     let are_fixed : Marks (IsButNot s.needed s.movable) d.groups fixed =
     Marks-but_not s.needed s.movable c.as_slice-2.result.now c.as_slice-3.result.now fixed d.groups
     (c.as_slice-2.ensures.value ∙ ap (λ (x : Scope). x.needed) c.scope.view_is)
-    (c.as_slice-3.ensures.value ∙ ap (λ (x : Scope). x.movable) c.scope.view_is) ready.scope.one_each c.in_ok-fixed.ensures in
+    (c.as_slice-3.ensures.value ∙ ap (λ (x : Scope). x.movable) c.scope.view_is) ready.scope.one_each
+    c.in_ok-fixed.ensures in
     subst (Marks (IsButNot s.needed s.movable) d.groups) (sym c.as_slice-else-branch.ensures.value) are_fixed
 
 pub settle-requires-clause-tried : goal.settle-requires-clause-tried
@@ -32,7 +33,8 @@ returns-then-branch g c =
     let are_fixed : Marks (IsButNot s.needed s.movable) d.groups fixed =
     Marks-but_not s.needed s.movable c.as_slice-2.result.now c.as_slice-3.result.now fixed d.groups
     (c.as_slice-2.ensures.value ∙ ap (λ (x : Scope). x.needed) c.scope.view_is)
-    (c.as_slice-3.ensures.value ∙ ap (λ (x : Scope). x.movable) c.scope.view_is) ready.scope.one_each c.in_ok-fixed.ensures in
+    (c.as_slice-3.ensures.value ∙ ap (λ (x : Scope). x.movable) c.scope.view_is) ready.scope.one_each
+    c.in_ok-fixed.ensures in
     let of : IsGraphOfNeeded d s.needed c.in_ok-graph.graph =
     graph-by c.workqueues_of-few.ensures.declaration ready.scope.one_each c.scope.view_is c.as_slice.ensures.value
     c.in_ok-graph.ensures in
@@ -67,7 +69,8 @@ returns g c =
     let are_fixed : Marks (IsButNot s.needed s.movable) d.groups fixed =
     Marks-but_not s.needed s.movable c.as_slice-2.result.now c.as_slice-3.result.now fixed d.groups
     (c.as_slice-2.ensures.value ∙ ap (λ (x : Scope). x.needed) c.scope.view_is)
-    (c.as_slice-3.ensures.value ∙ ap (λ (x : Scope). x.movable) c.scope.view_is) ready.scope.one_each c.in_ok-fixed.ensures in
+    (c.as_slice-3.ensures.value ∙ ap (λ (x : Scope). x.movable) c.scope.view_is) ready.scope.one_each
+    c.in_ok-fixed.ensures in
     let of : IsGraphOfNeeded d s.needed c.in_ok-graph.graph =
     graph-by c.workqueues_of-few.ensures.declaration ready.scope.one_each c.scope.view_is c.as_slice.ensures.value
     c.in_ok-graph.ensures in

@@ -23,8 +23,8 @@ returns-then-not-is_bare g c =
     let grown : HasGrown c.args.self.now c.add_awaited.new.self (HasArc graph i) =
     subst (λ (arcs : List WaitArc). HasGrown c.args.self.now c.add_awaited.new.self (λ (h : ℕ).
     Any (λ (a : WaitArc). a.head ≡ h) arcs)) c.arcs.ensures c.in_ok-add_awaited.ensures in
-    HasGrown-as c.args.self.now c.add_awaited.new.self (HasArc graph i) (BringsAlongBy graph ws c.args.named.now i) grown
-    (λ h arc. inl arc)
+    HasGrown-as c.args.self.now c.add_awaited.new.self (HasArc graph i) (BringsAlongBy graph ws c.args.named.now i)
+    grown (λ h arc. inl arc)
     (λ h by. elim by [
       | inl arc ↦ arc
       | inr beside ↦ absurd (false≢true (sym c.if-not-is_bare.true ∙ c.is_bare.ensures
@@ -42,8 +42,8 @@ returns-then-not-has_lane g c =
     let grown : HasGrown c.args.self.now c.add_awaited.new.self (HasArc graph i) =
     subst (λ (arcs : List WaitArc). HasGrown c.args.self.now c.add_awaited.new.self (λ (h : ℕ).
     Any (λ (a : WaitArc). a.head ≡ h) arcs)) c.arcs.ensures c.in_ok-add_awaited.ensures in
-    HasGrown-as c.args.self.now c.add_awaited.new.self (HasArc graph i) (BringsAlongBy graph ws c.args.named.now i) grown
-    (λ h arc. inl arc)
+    HasGrown-as c.args.self.now c.add_awaited.new.self (HasArc graph i) (BringsAlongBy graph ws c.args.named.now i)
+    grown (λ h arc. inl arc)
     (λ h by. elim by [
       | inl arc ↦ arc
       | inr beside ↦ absurd (false≢true (sym c.if-not-has_lane.true ∙ c.has_lane.ensures
