@@ -20,11 +20,9 @@ use Rattle.wq_levels.proofs.OneCircle.{HasCircle-walked}
 use Rattle.wq_core.specs.declared.step.Step.{Step}
 use Rattle.wq_core.specs.Workqueues.{Workqueues, wiring_of}
 use Rattle.wq_core.specs.Deadlock.{IsSafe, Deadlocks}
-use Rattle.wq_core.proofs.KnotRuns.{Deadlocks-knot}
 use Rattle.wq_core.proofs.LaneCircles.{Circle-map}
 use Rattle.wq_deadlock.specs.Judging.{bare_waits, rescued_graph, AreFirst, IsHang}
-use Rattle.wq_deadlock.proofs.BareLanes.{IsWiring-workqueues, IsKnot-first}
-use Rattle.wq_repair.specs.Changes.{IsRescued, IsNamed, IsNamedLane, lane_in}
+use Rattle.wq_repair.specs.Changes.{IsRescued, IsNamed, lane_in}
 use Rattle.wq_repair.specs.Needed.{BringsAlong, NeedsRescuer, NeedsRescuerOf}
 use Rattle.wq_repair.specs.Marks.{IsMarked, Marks}
 use Rattle.wq_repair.specs.Joined.{NeededWaits, IsStart}

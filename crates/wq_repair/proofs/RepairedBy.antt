@@ -1,11 +1,11 @@
 -- All steps of a repair together, where lists are known by other names.
-use Rattle.std.proofs.Common.{◌≡◌, ℕ, ◌<◌, ◌≤◌, Bool, List, length, not, sym, ap, subst, ◌∙◌, arith}
+use Rattle.std.proofs.Common.{◌≡◌, ℕ, ◌<◌, Bool, List, length, not, sym, ap, subst, ◌∙◌, arith}
 use Rattle.std.specs.Prelude.{map}
 use Rattle.wq_groups.specs.Declaration.{Declaration, IsDeclaration}
 use Rattle.wq_graph.specs.declared.arc.WaitArc.{WaitArc}
 use Rattle.wq_graph.specs.Graph.{group_graph, without}
 use Rattle.wq_core.specs.Workqueues.{Workqueues}
-use Rattle.wq_repair.specs.Marks.{IsMarked, Marks}
+use Rattle.wq_repair.specs.Marks.{Marks}
 use Rattle.wq_repair.specs.Steps.{ArePlacedBy}
 use Rattle.wq_repair.specs.Placing.{AreHosted, CanBePlaced}
 use Rattle.wq_repair.specs.Settled.{Settled}

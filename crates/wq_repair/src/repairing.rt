@@ -15,6 +15,7 @@ ghost use Rattle.wq_core.specs.Deadlock.{Deadlocks};
 ghost use Rattle.wq_items.specs.Chain.{Circle};
 ghost use Rattle.wq_graph.specs.Graph.{group_graph, without};
 ghost use Rattle.wq_repair.specs.Marks.{Marks};
+ghost use Rattle.wq_repair.specs.Needed.{NeedsRescuer};
 ghost use Rattle.wq_repair.specs.Ready.{IsReady, IsMinimal, IsSettledIn, IsTried};
 ghost use Rattle.wq_repair.specs.Settled.{IsWithin};
 ghost use Rattle.wq_repair.specs.Joined.{NeededWaits};
@@ -185,6 +186,19 @@ pub(crate) fn repaired<A: Allocator + Copy, C: Chooser<A>>(
     repaired_from(alloc, chooser, old, &begin, scope)
 }
 
+/// For each group whether it needs a rescuer, whatever may move.
+fn always_needed<A: Allocator + Copy>(
+    alloc: A,
+    assigned: &Assigned<'_, '_, A>,
+) -> Result<Vec<bool, A>, AllocError>
+    ensures { IfOk result (λ needed.
+        Marks (NeedsRescuer (declared_waits assigned.now.declared) assigned.now.workqueues)
+        assigned.now.declared.partition.groups needed.items) }
+{
+    let all = all_items(alloc, assigned.table())?;
+    needed_groups(alloc, assigned, all.as_slice())
+}
+
 /// The circle in which groups wait that need a rescuer whatever may move, if there is one.
 fn needed_circle<A: Allocator + Copy>(
     alloc: A,
@@ -196,8 +210,8 @@ fn needed_circle<A: Allocator + Copy>(
     ensures none { IfOk result (λ circle. IfNone circle
         (¬ Circle (NeededWaits (declared_waits assigned.now.declared) assigned.now.workqueues))) }
 {
-    let all = all_items(alloc, assigned.table())?;
-    let always = needed_groups(alloc, assigned, all.as_slice())?;
+    let _declared = workqueues_of(assigned);
+    let always = always_needed(alloc, assigned)?;
     let graph = graph_of_needed(alloc, assigned, always.as_slice())?;
     match rank(alloc, &graph)? {
         Ranked::Ranks(_) => Ok(None),

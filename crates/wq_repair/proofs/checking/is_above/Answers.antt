@@ -1,4 +1,4 @@
-use Rattle.std.proofs.Common.{◌≡◌, ℕ, ◌+◌, ◌<◌, ◌≤◌, inl, inr, sym, ap, subst, arith}
+use Rattle.std.proofs.Common.{ℕ, ◌<◌, inl, inr, sym, subst, arith}
 use Rattle.std.specs.Prelude.{slice_index}
 use Rattle.wq_graph.specs.declared.arc.WaitArc.{WaitArc}
 use Rattle.wq_repair.proofs.NeededFound.{HeadBelow-last}

@@ -1,11 +1,6 @@
-use Rattle.std.proofs.Common.{◌≡◌, ℕ, ◌<◌, Bool, List, length, sym, ap, subst, ◌∙◌, arith}
-use Rattle.std.specs.Prelude.{slice_index}
-use Rattle.std.specs.List.{All}
-use Rattle.std.proofs.lemmas.List.{get_or_default}
+use Rattle.std.proofs.Common.{subst, arith}
 use Rattle.std.proofs.lemmas.Result.{IfOk-weaker}
-use Rattle.wq_repair.specs.Marks.{IsMarked}
 use Rattle.wq_repair.specs.Settled.{AreInVain}
-use Rattle.wq_repair.proofs.Homes.{vertices-within}
 use Rattle.wq_repair.proofs.Settling.{IsSettled-checked}
 use Rattle.wq_repair.proofs.checking.is_right.Goals as goal
 

@@ -1,11 +1,10 @@
-use Rattle.std.proofs.Common.{◌≡◌, ℕ, ◌+◌, ◌<◌, ◌≤◌, ◌++◌, Bool, List, length, sym, ap, subst, ◌∙◌, arith}
+use Rattle.std.proofs.Common.{◌≡◌, ℕ, ◌+◌, ◌≤◌, ◌++◌, Bool, List, length, sym, ap, subst, ◌∙◌, arith}
 use Rattle.std.proofs.lemmas.Bool.{false≢true}
 use Rattle.wq_groups.specs.Assignment.{Assignment}
 use Rattle.wq_groups.specs.DeclaredGroups.{declared_waits}
 use Rattle.wq_core.specs.Workqueues.{Workqueues}
-use Rattle.wq_repair.specs.Marks.{IsMarked}
 use Rattle.wq_repair.specs.Ready.{Scope, IsTrial}
-use Rattle.wq_repair.specs.Settled.{Settled, IsSettled}
+use Rattle.wq_repair.specs.Settled.{IsSettled}
 use Rattle.wq_repair.proofs.Readied.{IsSettled-start}
 use Rattle.wq_repair.proofs.Settling.{IsSettled-skip}
 use Rattle.wq_repair.proofs.plain.settle.Goals as goal

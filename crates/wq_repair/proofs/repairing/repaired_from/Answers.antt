@@ -1,13 +1,9 @@
-use Rattle.std.proofs.Common.{◌≡◌, ◌<◌, ◌≤◌, ◌⊎◌, ℕ, Bool, List, length, sym, ap, subst, ◌∙◌, arith}
-use Rattle.std.specs.Prelude.{slice_index}
+use Rattle.std.proofs.Common.{length, sym, ap, ◌∙◌, arith}
 use Rattle.std.proofs.lemmas.Result.{IfOk-weaker}
 use Rattle.wq_groups.specs.DeclaredGroups.{declared_waits}
-use Rattle.wq_repair.specs.Changes.{IsRescued, lane_in}
-use Rattle.wq_repair.specs.Marks.{IsMarked, Marks}
+use Rattle.wq_repair.specs.Marks.{Marks}
 use Rattle.wq_repair.specs.Settled.{Settled}
-use Rattle.wq_repair.specs.Steps.{ArePlacedBy}
-use Rattle.wq_repair.specs.Placing.{AreHosted}
-use Rattle.wq_repair.specs.Ready.{Scope, IsTried, IsButNot, IsSettledIn, IsMinimal, IsReady}
+use Rattle.wq_repair.specs.Ready.{Scope, IsButNot}
 use Rattle.wq_repair.proofs.RepairedBy.{Marks-but_not, IsTried-as, can-as, placed-as, hosted-as}
 use Rattle.wq_repair.proofs.RepairedBy.{stays_long-by, ranks_long-by, CanBePlaced-by, IsMinimal-by}
 use Rattle.wq_repair.proofs.repairing.repaired_from.Goals as goal

@@ -1,10 +1,10 @@
-use Rattle.std.proofs.Common.{◌≡◌, ◌<◌, ℕ, Bool, List, length, sym, ap, subst, ◌∙◌, arith}
+use Rattle.std.proofs.Common.{ℕ, Bool, List, length, sym, ap, subst, ◌∙◌}
 use Rattle.std.proofs.lemmas.Result.{IfOk-weaker}
 use Rattle.wq_groups.specs.DeclaredGroups.{declared_waits}
 use Rattle.wq_groups.specs.Assignment.{Assignment}
 use Rattle.wq_repair.specs.Marks.{Marks}
-use Rattle.wq_repair.specs.Settled.{Settled, IsSettled, IsWithin}
-use Rattle.wq_repair.specs.Ready.{Scope, IsButNot, IsGraphOfNeeded, IsTried}
+use Rattle.wq_repair.specs.Settled.{IsSettled, IsWithin}
+use Rattle.wq_repair.specs.Ready.{Scope, IsButNot, IsGraphOfNeeded}
 use Rattle.wq_repair.proofs.RepairedBy.{Marks-but_not, graph-by, IsTrial-ready}
 use Rattle.wq_repair.proofs.repairing.settled.Goals as goal
 

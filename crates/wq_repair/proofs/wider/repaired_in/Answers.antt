@@ -3,7 +3,7 @@ use Rattle.wq_groups.specs.DeclaredGroups.{declared_waits}
 use Rattle.wq_deadlock.specs.Judging.{AreSafe}
 use Rattle.wq_repair.specs.Changes.{IsRescued, lane_in}
 use Rattle.wq_repair.specs.Marks.{IsMarked}
-use Rattle.wq_repair.specs.Ready.{Scope, IsReady}
+use Rattle.wq_repair.specs.Ready.{Scope}
 use Rattle.wq_repair.proofs.wider.repaired_in.Goals as goal
 
 pub repaired-requires : goal.repaired-requires

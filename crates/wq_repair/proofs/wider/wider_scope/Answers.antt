@@ -1,4 +1,4 @@
-use Rattle.std.proofs.Common.{◌<◌, ℕ, inl, length, sym, ap, ◌∙◌, arith}
+use Rattle.std.proofs.Common.{inl, arith}
 use Rattle.wq_groups.specs.DeclaredGroups.{declared_waits}
 use Rattle.wq_repair.proofs.Answered.{CoversRescued-needed}
 use Rattle.wq_repair.proofs.wider.wider_scope.Goals as goal
