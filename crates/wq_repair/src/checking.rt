@@ -5,14 +5,14 @@
 //! rank, and each group that could stay and doesn't reaches the home of its lane, or is reached by it (`near`): with it
 //! at the home that is a circle.
 
-ghost use Rattle.std.specs.Prelude.{◌≡◌, ◌<◌, ◌≤◌, ℕ, Bool, List, length, slice_index, IfOk, IfSome, IsTrue};
+ghost use Rattle.std.specs.Prelude.{◌≡◌, ◌<◌, ◌≤◌, ℕ, length, slice_index, IfOk, IfSome, IsTrue};
 ghost use Rattle.std.specs.List.{Any};
 ghost use Rattle.wq_groups.specs.Assignment.{group_lane};
 ghost use Rattle.wq_repair.specs.Marks.{IsMarked};
 ghost use Rattle.wq_repair.specs.Near.{IsAsked};
 ghost use Rattle.wq_repair.specs.Settled.{IsHomeOf, AreHomes, AreVertices, HaveRanks, AreInVain, IsSettled, IsWithin};
 
-use crate::listing::{is_marked, number_at};
+use crate::listing::{either, is_marked, number_at};
 use crate::near::near_homes;
 use crate::scope::but_not;
 use std::alloc::{AllocError, Allocator};
@@ -171,6 +171,18 @@ fn are_among(some: &[bool], all: &[bool]) -> bool
     true
 }
 
+/// Whether all that can't move stay, and of the others only some that may.
+fn are_within(fixed: &[bool], tried: &[bool], stays: &[bool]) -> bool
+    ensures { IsTrue result → IsWithin fixed.now tried.now stays.now }
+{
+    for (group, does_stay) in stays.iter().enumerate() {
+        if *does_stay && !either(is_marked(fixed, group), is_marked(tried, group)) {
+            return false;
+        }
+    }
+    are_among(fixed, stays)
+}
+
 /// Whether each of these groups reaches the home of its lane, or is reached by it.
 fn are_in_vain<A: Allocator + Copy>(
     alloc: A,
@@ -194,6 +206,7 @@ fn is_right<A: Allocator + Copy>(
     alloc: A,
     graph: &WaitGraph<A>,
     assignment: &Assignment<A>,
+    fixed: &[bool],
     tried: &[bool],
     stays: &[bool],
     ranks: &[u16],
@@ -205,12 +218,15 @@ fn is_right<A: Allocator + Copy>(
     requires stays { length stays.now ≡ length graph.now }
     requires homes { AreHomes assignment.now stays.now homes.now }
     requires vertices { AreVertices assignment.now stays.now homes.now vertices.now }
-    ensures { IfOk result (λ is. IsTrue is → (fixed : List Bool) → IsWithin fixed tried.now stays.now →
-        IsSettled graph.now assignment.now fixed tried.now (length graph.now)
+    ensures { IfOk result (λ is. IsTrue is →
+        IsSettled graph.now assignment.now fixed.now tried.now (length graph.now)
         (record { stays = stays.now; ranks = ranks.now })) }
 {
     // There are at most 4,096 groups.
     let _groups = graph.vertices();
+    if !are_within(fixed, tried, stays) {
+        return Ok(false);
+    }
     if !have_ranks(graph, vertices, ranks) {
         return Ok(false);
     }
@@ -226,17 +242,19 @@ fn is_right<A: Allocator + Copy>(
     )
 }
 
-/// Whether a choice is right: no group that may stay (`tried`) and doesn't could, and ranks fall along all waits.
+/// Whether a choice is right: all that can't move (`fixed`) stay, and of the others only some that may (`tried`); no
+/// group that may stay and doesn't could; and ranks fall along all waits.
 pub(crate) fn is_settled<A: Allocator + Copy>(
     alloc: A,
     graph: &WaitGraph<A>,
     assignment: &Assignment<A>,
+    fixed: &[bool],
     tried: &[bool],
     stays: &[bool],
     ranks: &[u16],
 ) -> Result<bool, AllocError>
-    ensures { IfOk result (λ is. IsTrue is → (fixed : List Bool) → IsWithin fixed tried.now stays.now →
-        IsSettled graph.now assignment.now fixed tried.now (length graph.now)
+    ensures { IfOk result (λ is. IsTrue is →
+        IsSettled graph.now assignment.now fixed.now tried.now (length graph.now)
         (record { stays = stays.now; ranks = ranks.now })) }
 {
     let groups = usize::from(graph.vertices());
@@ -249,6 +267,7 @@ pub(crate) fn is_settled<A: Allocator + Copy>(
         alloc,
         graph,
         assignment,
+        fixed,
         tried,
         stays,
         ranks,

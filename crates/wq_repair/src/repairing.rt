@@ -17,14 +17,12 @@ ghost use Rattle.wq_graph.specs.Graph.{group_graph, without};
 ghost use Rattle.wq_repair.specs.Marks.{Marks};
 ghost use Rattle.wq_repair.specs.Needed.{NeedsRescuer};
 ghost use Rattle.wq_repair.specs.Ready.{IsReady, IsMinimal, IsSettledIn, IsTried};
-ghost use Rattle.wq_repair.specs.Settled.{IsWithin};
 ghost use Rattle.wq_repair.specs.Joined.{NeededWaits};
 ghost use Rattle.wq_repair.specs.Repair.{IsAnswer, IsNeededCircle};
 
 use crate::answer::Answer;
 use crate::assigned::{graph_of_groups, judge_others, with_workqueues, workqueues_of};
 use crate::checking::{RANKS, Settled, is_settled};
-use crate::listing::is_marked;
 use crate::named::named_by;
 use crate::needed::needed_groups;
 use crate::placing::place;
@@ -69,31 +67,6 @@ fn graph_of_needed<A: Allocator + Copy>(
     graph_of_groups(alloc, assigned)?.without(alloc, out.as_slice())
 }
 
-/// Whether a group stays: if it can't move, or may stay and is chosen.
-fn does_stay(is_fixed: bool, is_tried: bool, is_chosen: bool) -> bool
-    ensures kept { is_fixed ≡ true → result ≡ true }
-    ensures only { result ≡ true → (is_fixed ≡ true) ⊎ (is_tried ≡ true) }
-{
-    is_fixed || is_tried && is_chosen
-}
-
-/// The groups that stay: those that can't move, and of those that may stay the chosen ones.
-fn with_chosen<A: Allocator + Copy>(
-    alloc: A,
-    fixed: &[bool],
-    tried: &[bool],
-    chosen: &[bool],
-) -> Result<Vec<bool, A>, AllocError>
-    ensures one_each { IfOk result (λ stays. length stays.items ≡ length fixed.now) }
-    ensures within { IfOk result (λ stays. IsWithin fixed.now tried.now stays.items) }
-{
-    let mut stays = Vec::with_capacity(alloc, fixed.len())?;
-    for (group, is_fixed) in fixed.iter().enumerate() {
-        stays.push(does_stay(*is_fixed, is_marked(tried, group), is_marked(chosen, group)))?;
-    }
-    Ok(stays)
-}
-
 /// Which groups stay on their lanes, and a rank for each group: by the chooser if it is right, and else by trying one
 /// after the other.
 fn settled<A: Allocator + Copy, C: Chooser<A>>(
@@ -121,17 +94,19 @@ fn settled<A: Allocator + Copy, C: Chooser<A>>(
         scope.movable.as_slice(),
         tried,
     )?;
-    let stays = with_chosen(alloc, fixed.as_slice(), tried, choice.stays.as_slice())?;
-    let ranks = choice.ranks;
     if is_settled(
         alloc,
         &graph,
         assignment,
+        fixed.as_slice(),
         tried,
-        stays.as_slice(),
-        ranks.as_slice(),
+        choice.stays.as_slice(),
+        choice.ranks.as_slice(),
     )? {
-        Ok(Settled { stays, ranks })
+        Ok(Settled {
+            stays: choice.stays,
+            ranks: choice.ranks,
+        })
     } else {
         settle(alloc, start, old, scope, fixed.as_slice(), tried)
     }

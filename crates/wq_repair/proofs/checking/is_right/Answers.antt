@@ -7,10 +7,11 @@ use Rattle.wq_repair.proofs.checking.is_right.Goals as goal
 pub returns : goal.returns
 returns g c =
     let vain = c.in_ok-vain.vain.items in
-    IfOk-weaker c.are_in_vain.result _ _ (λ is sound yes fixed within.
-    IsSettled-checked c.args.graph.now c.args.assignment.now fixed c.args.tried.now
+    IfOk-weaker c.are_in_vain.result _ _ (λ is sound yes.
+    IsSettled-checked c.args.graph.now c.args.assignment.now c.args.fixed.now c.args.tried.now
     vain (record { stays = c.args.stays.now; ranks = c.args.ranks.now })
-    c.args.homes.now c.args.vertices.now c.vertices-groups.ensures.graph c.requires.stays within c.requires.tried
+    c.args.homes.now c.args.vertices.now c.vertices-groups.ensures.graph c.requires.stays
+    (c.are_within.ensures c.if-not-are_within.false) c.requires.tried
     c.requires.homes c.requires.vertices
     (c.have_ranks.ensures c.if-not-have_ranks.false)
     (λ v lt marked out. (c.in_ok-vain.ensures.exactly v (omega (arith, lt, c.requires.tried))).1 (marked, out))

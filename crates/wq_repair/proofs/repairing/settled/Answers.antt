@@ -40,24 +40,24 @@ returns-then-branch g c =
     c.in_ok-graph.ensures in
     let graph = c.in_ok-graph.graph in
     let tried = c.args.tried.now in
-    let within : IsWithin fixed tried c.as_slice-8.result.now =
-    subst (IsWithin fixed tried) (sym c.as_slice-8.ensures.value)
-    (subst (λ (xs : List Bool). IsWithin xs tried c.in_ok-stays.stays.items) c.as_slice-6.ensures.value
-    c.in_ok-stays.ensures.within) in
-    let settled = c.in_ok-is_settled.ensures c.if-branch.true fixed within in
+    let n = length graph in
+    let is = subst (λ (a : Assignment). IsSettled graph a c.as_slice-6.result.now tried n
+    (record { stays = c.as_slice-7.result.now; ranks = c.as_slice-8.result.now }))
+    c.assignment-assignment.ensures (c.in_ok-is_settled.ensures c.if-branch.true) in
+    let old = c.args.old.now.assignment in
     record {
       graph = graph;
       fixed = fixed;
       of = of;
       are_fixed = are_fixed;
       is =
-          subst (λ (xs : List Bool). IsSettled graph c.args.old.now.assignment fixed tried (length graph)
-          (record { stays = xs; ranks = c.in_ok-choice.choice.ranks.items })) c.as_slice-8.ensures.value
-          (subst (λ (rs : List ℕ). IsSettled graph c.args.old.now.assignment fixed tried (length graph)
-          (record { stays = c.as_slice-8.result.now; ranks = rs })) c.as_slice-9.ensures.value
-          (subst (λ (a : Assignment). IsSettled graph a fixed tried (length graph)
-          (record { stays = c.as_slice-8.result.now; ranks = c.as_slice-9.result.now }))
-          c.assignment-assignment.ensures settled));
+          subst (λ (rs : List ℕ). IsSettled graph old fixed tried n
+          (record { stays = c.in_ok-choice.choice.stays.items; ranks = rs })) c.as_slice-8.ensures.value
+          (subst (λ (xs : List Bool). IsSettled graph old fixed tried n
+          (record { stays = xs; ranks = c.as_slice-8.result.now })) c.as_slice-7.ensures.value
+          (subst (λ (xs : List Bool). IsSettled graph old xs tried n
+          (record { stays = c.as_slice-7.result.now; ranks = c.as_slice-8.result.now })) c.as_slice-6.ensures.value
+          is));
     }
 
 pub returns : goal.returns
