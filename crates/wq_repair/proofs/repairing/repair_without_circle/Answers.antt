@@ -1,6 +1,7 @@
-use Rattle.std.proofs.Common.{◌≤◌, ℕ, sym, subst, ◌∙◌, arith}
+use Rattle.std.proofs.Common.{◌≤◌, ℕ, sym, ap, subst, ◌∙◌, arith}
 use Rattle.std.specs.Prelude.{max}
 use Rattle.wq_groups.specs.DeclaredGroups.{declared_waits}
+use Rattle.wq_core.specs.Workqueues.{Workqueues}
 use Rattle.wq_deadlock.specs.Judging.{AreSafe, IsHang}
 use Rattle.wq_repair.specs.Needed.{NeedsRescuerOf}
 use Rattle.wq_repair.specs.Marks.{Marks}
@@ -41,7 +42,14 @@ returns-in-Deadlock g c =
     let are_needed : Marks (NeedsRescuerOf d ws names) d.groups s.needed =
     subst (Marks (NeedsRescuerOf d ws names) d.groups) (sym c.in_ok-scope.ensures.needed) c.in_ok-needed.ensures in
     let few : begin.assignment.lanes ≤ 4096 =
-    omega (arith, by.few, scope.are_movable.one_each, known.few, known.assignment.few, known.is) in
+    omega (
+      arith,
+      by.few,
+      scope.are_movable.one_each,
+      known.few,
+      known.assignment.few,
+      ap (λ (x : Workqueues). x.assignment.lanes) known.is,
+    ) in
     let most : begin.assignment.lanes ≤ max ws.assignment.lanes d.groups =
     subst (λ (n : ℕ). begin.assignment.lanes ≤ max ws.assignment.lanes n) scope.are_movable.one_each by.few in
     let hang : IsHang d begin c.in-Deadlock.steps.items = rw (c.in-Deadlock.is) at c.in_ok-steps.ensures in

@@ -3,7 +3,7 @@ use Rattle.std.proofs.lemmas.Result.{IfOk-weaker}
 use Rattle.wq_groups.specs.DeclaredGroups.{declared_waits}
 use Rattle.wq_groups.specs.Assignment.{Assignment}
 use Rattle.wq_repair.specs.Marks.{Marks}
-use Rattle.wq_repair.specs.Settled.{IsSettled, IsWithin}
+use Rattle.wq_repair.specs.Settled.{IsSettled}
 use Rattle.wq_repair.specs.Ready.{Scope, IsButNot, IsGraphOfNeeded}
 use Rattle.wq_repair.proofs.RepairedBy.{Marks-but_not, graph-by, IsTrial-ready}
 use Rattle.wq_repair.proofs.repairing.settled.Goals as goal
