@@ -5,7 +5,7 @@
 //! rank, and each group that could stay and doesn't reaches the home of its lane, or is reached by it (`near`): with it
 //! at the home that is a circle.
 
-ghost use Rattle.std.specs.Prelude.{◌≡◌, ◌<◌, ◌≤◌, ℕ, length, slice_index, IfOk, IfSome, IsTrue};
+ghost use Rattle.std.specs.Prelude.{◌≡◌, ◌<◌, ◌≤◌, ℕ, length, slice_index, IfOk, IsTrue, Some};
 ghost use Rattle.std.specs.List.{Any};
 ghost use Rattle.wq_groups.specs.Assignment.{group_lane};
 ghost use Rattle.wq_repair.specs.Marks.{IsMarked};
@@ -13,7 +13,7 @@ ghost use Rattle.wq_repair.specs.Near.{IsAsked};
 ghost use Rattle.wq_repair.specs.Settled.{IsHomeOf, AreHomes, AreVertices, HaveRanks, AreInVain, IsSettled, IsWithin};
 
 use crate::listing::{either, is_marked, number_at};
-use crate::near::near_homes;
+use crate::near::{home_of, near_homes};
 use crate::scope::but_not;
 use std::alloc::{AllocError, Allocator};
 use std::marker::Model;
@@ -119,22 +119,21 @@ fn have_ranks<A: Allocator + Copy>(graph: &WaitGraph<A>, vertices: &[u16], ranks
     true
 }
 
-/// The home of the lane of a group, if there is one.
-fn home_at<A: Allocator>(
+/// The home of the lane of a group, if there is one and the group is marked.
+fn home_asked<A: Allocator>(
     assignment: &Assignment<A>,
     homes: &[Option<u16>],
+    marks: &[bool],
     group: u16,
 ) -> Option<u16>
-    ensures { IfSome result (IsHomeOf homes.now (group_lane assignment.now group)) }
+    ensures { (v : ℕ) → result ≡ Some v → IsHomeOf homes.now (group_lane assignment.now group) v }
 {
-    if assignment.groups() <= usize::from(group) {
+    let place = usize::from(group);
+    if !is_marked(marks, place) || assignment.groups() <= place {
         return None;
     }
     let lane = assignment.lane(GroupId::new(group)).get();
-    match homes.get(usize::from(lane)) {
-        Some(home) => *home,
-        None => None,
-    }
+    home_of(homes, usize::from(lane))
 }
 
 /// For each of so many groups the home of its lane, if it has one and is marked.
@@ -150,11 +149,7 @@ fn homes_asked<A: Allocator + Copy>(
 {
     let mut asked = Vec::with_capacity(alloc, usize::from(groups))?;
     for group in 0..groups {
-        if is_marked(marks, usize::from(group)) {
-            asked.push(home_at(assignment, homes, group))?;
-        } else {
-            asked.push(None)?;
-        }
+        asked.push(home_asked(assignment, homes, marks, group))?;
     }
     Ok(asked)
 }

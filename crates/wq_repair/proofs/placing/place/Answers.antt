@@ -22,7 +22,19 @@ pub ranks_that_leave-requires-clause-below : goal.ranks_that_leave-requires-clau
 ranks_that_leave-requires-clause-below g c = c.requires.can.below
 
 pub lanes_of_groups-requires-clause-below : goal.lanes_of_groups-requires-clause-below
-lanes_of_groups-requires-clause-below g c = ?
+lanes_of_groups-requires-clause-below g c =
+    let after = c.take_lanes-taken.new.of_rank in
+    let whole : c.as_slice-4.result.now ≡ after =
+    c.as_slice-4.ensures.value ∙ take_at after (drop (length after) c.in_ok-of_rank.of_rank.items)
+    c.in_ok-of_rank.of_rank.len (c.take_lanes-taken.auto.of_rank ∙ c.as_mut_slice.ensures.len) in
+    λ h lt. omega (
+      arith,
+      c.requires.can.below h lt,
+      ap length whole,
+      c.take_lanes-taken.ensures.one_each,
+      ap length c.as_mut_slice.ensures.value,
+      c.in_ok-of_rank.ensures.one_each,
+    )
 
 pub lanes_of_groups-requires-clause-some : goal.lanes_of_groups-requires-clause-some
 lanes_of_groups-requires-clause-some g c =
