@@ -7,10 +7,11 @@
 
 ghost use Rattle.std.specs.Prelude.{◌≡◌, ◌≢◌, ◌-◌, ◌<◌, ◌≤◌, ℕ, List, length, Some, slice_get, IfOk, IfErr, AllPairs};
 ghost use Rattle.std.specs.Int.Bits.{bit_and};
-ghost use Rattle.wq_items.specs.Hashing.{AreHashed, AreLinked, names_of, keys_of};
+ghost use Rattle.wq_items.specs.Hashing.{AreFound, hash_of, names_of};
+ghost use Rattle.wq_items.specs.declared.hashing.Seeded.{Seeded};
 ghost use Rattle.wq_items.specs.Table.{item_named};
 
-use crate::hashing::{Name, Seeded};
+use crate::hashing::{Name, Seeded, are_same};
 use std::alloc::{AllocError, Allocator};
 use std::marker::Model;
 
@@ -68,7 +69,7 @@ pub(crate) fn find_placed(
     while end > 0 {
         let place = usize::from(end - 1);
         let placed = &names[place];
-        if placed.name == *wanted {
+        if placed.name.hash == wanted.hash && are_same(placed.name.bytes, wanted.bytes) {
             return Some(place);
         }
         end = placed.before;

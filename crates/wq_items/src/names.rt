@@ -19,7 +19,6 @@ pub(crate) struct Names<'a, A: Allocator> {
     /// For each key, one more than the last place; empty as long as there is no name.
     lasts: Vec<u16, A>,
     hasher: Seeded,
-    alloc: A,
 }
 
 impl<'a, A: Allocator> Model for Names<'a, A> {
@@ -42,7 +41,6 @@ impl<'a, A: Allocator + Copy> Names<'a, A> {
             names: Vec::new(alloc),
             lasts: Vec::new(alloc),
             hasher: Seeded::new(seed),
-            alloc,
         }
     }
 
@@ -96,7 +94,7 @@ impl<'a, A: Allocator + Copy> Names<'a, A> {
         let len = self.names.len();
         if len == self.names.capacity() {
             if len == 0 {
-                self.lasts = vec![in self.alloc; 0u16; KEYS]?;
+                self.lasts.resize(KEYS, 0u16)?;
             }
             self.names.reserve(len.saturating_mul(7)).ok();
         }
