@@ -2,6 +2,7 @@
 #![tactic(auto)]
 
 use std::alloc::Global;
+use std::rt::Env;
 use std::{env, fs, io};
 use std::process::ExitCode;
 use wq_circles::CirclesCommand;
