@@ -12,7 +12,6 @@ ghost use Rattle.wq_items.specs.declared.hashing.Seeded.{Seeded};
 ghost use Rattle.wq_items.specs.Table.{item_named};
 
 use crate::hashing::{Name, Seeded, are_same};
-use crate::short::{is_short, is_tiny};
 use std::alloc::{AllocError, Allocator};
 use std::marker::Model;
 
@@ -78,37 +77,6 @@ pub(crate) fn find_placed(
     None
 }
 
-/// The place of a longer name. Kept out of line, so that looking up a short name is small.
-#[inline(never)]
-fn find_longer(
-    names: &[Placed<'_>],
-    lasts: &[u16],
-    hasher: &Seeded,
-    name: &[u8],
-) -> Option<usize> {
-    find_placed(names, lasts, &hasher.name(name))
-}
-
-/// The place of the name with these bytes among these names.
-#[inline(always)]
-pub(crate) fn find_name(
-    names: &[Placed<'_>],
-    lasts: &[u16],
-    hasher: &Seeded,
-    name: &[u8],
-) -> Option<usize>
-    requires { AreFound hasher.now names.now lasts.now }
-    ensures { result ≡ item_named (names_of names.now) name.now }
-{
-    if lasts.is_empty() {
-        return None;
-    }
-    if is_short(name) || is_tiny(name) {
-        return find_placed(names, lasts, &hasher.name(name));
-    }
-    find_longer(names, lasts, hasher, name)
-}
-
 impl<'a, A: Allocator + Copy> Named<'a, A> {
     /// A table of these names.
     pub(crate) fn of(names: Vec<Placed<'a>, A>, lasts: Vec<u16, A>, hasher: Seeded) -> Self
@@ -152,11 +120,13 @@ impl<'a, A: Allocator + Copy> Named<'a, A> {
     pub(crate) fn find(&self, name: &[u8]) -> Option<usize>
         ensures { result ≡ item_named self.now name.now }
     {
-        find_name(
+        if self.lasts.is_empty() {
+            return None;
+        }
+        find_placed(
             self.names.as_slice(),
             self.lasts.as_slice(),
-            &self.hasher,
-            name,
+            &self.hasher.name(name),
         )
     }
 }

@@ -8,7 +8,7 @@ ghost use Rattle.std.specs.Prelude.{IfOk, IfErr, OnErr, if◌then◌else◌};
 ghost use Rattle.wq_items.specs.Table.{item_named};
 
 use crate::hashing::Seeded;
-use crate::named::{KEYS, Named, Placed, find_name, find_placed, key_of};
+use crate::named::{KEYS, Named, Placed, find_placed, key_of};
 use std::alloc::{AllocError, Allocator};
 use std::marker::Model;
 
@@ -55,11 +55,13 @@ impl<'a, A: Allocator + Copy> Names<'a, A> {
     pub(crate) fn find(&self, name: &[u8]) -> Option<usize>
         ensures { result ≡ item_named self.now name.now }
     {
-        find_name(
+        if self.lasts.is_empty() {
+            return None;
+        }
+        find_placed(
             self.names.as_slice(),
             self.lasts.as_slice(),
-            &self.hasher,
-            name,
+            &self.hasher.name(name),
         )
     }
 
