@@ -32,6 +32,7 @@ class Case:
     first_line: bool = False  # only the first line that is printed is compared
     complains: bool = False  # something goes to standard error, and else nothing
     memory: int = 0  # how much address space the program gets, where it isn't all there is
+    stack: int = 0  # how large its stack may be, where that isn't as usual
     is_pattern: bool = False  # what is printed begins as the answer, a regular expression, says
 
 
@@ -46,18 +47,24 @@ def short(text):
     return repr(text) if len(text) <= 400 else f"{text[:400]!r}.. ({len(text)} bytes)"
 
 
-def limiter(memory):
-    """What limits the address space of a process to so many bytes, where it is to be limited."""
-    if not memory:
+def limiter(memory, stack):
+    """What limits the address space and the stack of a process to so many bytes, where they are to be limited."""
+    limits = [(which, size) for which, size in [(resource.RLIMIT_AS, memory), (resource.RLIMIT_STACK, stack)] if size]
+    if not limits:
         return None
-    return lambda: resource.setrlimit(resource.RLIMIT_AS, (memory, memory))
+
+    def limit():
+        for which, size in limits:
+            resource.setrlimit(which, (size, size))
+
+    return limit
 
 
 def failure(program, folder, number, given):
     """None where the program answers a case as it should, or what differs."""
     with files(folder, {f"{number}.{at}": text for at, text in enumerate(given.texts)}) as places:
         words = [places[word] if isinstance(word, int) else word for word in given.arguments]
-        found = ask([program, *words], cwd=folder, preexec_fn=limiter(given.memory))
+        found = ask([program, *words], cwd=folder, preexec_fn=limiter(given.memory, given.stack))
     if found.is_late():
         return TOO_SLOW
     printed = found.printed.partition(b"\n")[0] + b"\n" if given.first_line else found.printed

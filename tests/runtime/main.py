@@ -16,6 +16,9 @@ import crews  # noqa: E402
 import helpers  # noqa: E402
 from tables import Case, run_cases, text_of  # noqa: E402  (in tests/lib)
 
+# A stack that is too small for one call deeper with each of 2,306 threads, in bytes.
+SMALL_STACK = 256 << 10
+
 # A chain of as many items as a runtime may have lanes.
 ITEMS = [f"item i{k}" for k in range(256)]
 FLUSHES = [f"flush i{k} i{k - 1}" for k in range(1, 256)]
@@ -137,7 +140,9 @@ def helper_cases():
     # As many threads as a runtime may have: 256 workqueues, each with eight helpers. They are all made, or not enough of them can be.
     every = " / ".join(["body"] * 256 * 9)
     texts = [text_of(text) for text in (*CHAIN, f"{every} / caller / queue i255 / caller / queue i0")]
-    yield Case("2,306 threads", ["helpers", "8", "crew", 0, 1, "100000", 2], texts, rb"finished 2 faults 0\n", 0, is_pattern=True)
+    for stack in [0, SMALL_STACK]:
+        yield Case("2,306 threads", ["helpers", "8", "crew", 0, 1, "100000", 2], texts, rb"finished 2 faults 0\n", 0, is_pattern=True,
+                   stack=stack)
     yield Case("threads that can't be made", ["helpers", "8", "crew", 0, 1, "1000", 2], [text_of(text) for text in (*CHAIN, every)],
                text_of("refused 22 seats 2303 bodies 2303 callers 0"), 1, memory=SEATS_AND_SOME_THREADS)
 

@@ -1,7 +1,9 @@
 -- Jobs, and what came back of them, place by place.
-use Rattle.std.proofs.Common.{◌≡◌, ℕ, zero, suc, List, [], ◌∷◌, ◌++◌, length, map, reverse, refl, sym, ap, subst, ◌∙◌}
+use Rattle.std.proofs.Common.{◌≡◌, ℕ, zero, suc, ◌+◌, List, [], ◌∷◌, ◌++◌, length, map, reverse, refl, sym, ap, subst}
+use Rattle.std.proofs.Common.{◌∙◌, arith}
 use Rattle.std.specs.Prelude.{Some, Result, slice_get}
-use Rattle.std.proofs.lemmas.List.{length-map, map-append, reverse-append, reverse-reverse}
+use Rattle.std.proofs.lemmas.List.{append-nil, append_assoc, length-append, length-map, length-reverse, map-append}
+use Rattle.std.proofs.lemmas.List.{reverse-append, reverse-reverse}
 use Rattle.wq_history.specs.declared.fault.CallError.{CallError}
 use Rattle.wq_rescuer.specs.declared.rescuing.Rescued.{Rescued}
 use Rattle.wq_rescuer.specs.Serving.{AreDone, HaveCalled, HaveServed}
@@ -76,6 +78,51 @@ map_reverse f (x ∷ xs) =
 
 some_is : {X : Type 0} (a b : X) → Some a ≡ Some b → a ≡ b
 some_is a b same = cc
+
+-- ---- threads
+
+-- of these some are left; of each other one something was made, of the last one first
+pub record AreTaken {X Y : Type 0} (has : X → Y → Type 0) (all left : List X) (made : List Y) : Type 0 where
+  pub taken : List X
+  pub all_are : all ≡ left ++ taken
+  pub each : AreDone has taken (reverse made)
+
+pub none_taken : {X Y : Type 0} (has : X → Y → Type 0) (all : List X) (made : List Y) → made ≡ [] → AreTaken has all all made
+none_taken has all made none = record {
+  taken = [];
+  all_are = sym (append-nil all);
+  each = subst (λ ys. AreDone has [] (reverse ys)) (sym none) tt;
+}
+
+pub taken_more : {X Y : Type 0} (has : X → Y → Type 0) (all left rest : List X) (x : X) (made more : List Y) (y : Y)
+    → AreTaken has all left made → left ≡ rest ++ (x ∷ []) → more ≡ made ++ (y ∷ []) → has x y → AreTaken has all rest more
+taken_more has all left rest x made more y are left_is more_is one = record {
+  taken = x ∷ are.taken;
+  all_are = are.all_are ∙ ap (λ xs. xs ++ are.taken) left_is ∙ append_assoc rest (x ∷ []) are.taken;
+  each = subst (AreDone has (x ∷ are.taken)) (sym (ap reverse more_is ∙ reverse-append made (y ∷ []))) (one, are.each);
+}
+
+pub all_taken : {X Y : Type 0} (has : X → Y → Type 0) (all left : List X) (made : List Y)
+    → AreTaken has all left made → left ≡ [] → AreDone has all (reverse made)
+all_taken has all left made are none =
+    subst (λ xs. AreDone has xs (reverse made)) (sym (are.all_are ∙ ap (λ xs. xs ++ are.taken) none)) are.each
+
+pub all_taken_back : {X Y : Type 0} (has : X → Y → Type 0) (all left : List X) (made : List Y)
+    → AreTaken has all left made → left ≡ [] → AreDone has (reverse all) made
+all_taken_back has all left made are none = subst (AreDone has (reverse all)) (reverse-reverse made)
+    (done_reverse has all (reverse made) (all_taken has all left made are none))
+
+-- what came back of the thread of a job came back of the job
+pub done_through : {J T E : Type 0} (has : J → T → Type 0) (kept : T → E → Type 0) (done : J → E → Type 0)
+    (so : (j : J) (t : T) (e : E) → has j t → kept t e → done j e) (js : List J) (ts : List T) (es : List E)
+    → AreDone has js ts → AreDone kept ts es → AreDone done js es
+done_through has kept done so [] [] [] a b = tt
+done_through has kept done so [] [] (e ∷ es) a b = absurd b
+done_through has kept done so [] (t ∷ ts) es a b = absurd a
+done_through has kept done so (j ∷ js) [] es a b = absurd a
+done_through has kept done so (j ∷ js) (t ∷ ts) [] a b = absurd b
+done_through has kept done so (j ∷ js) (t ∷ ts) (e ∷ es) a b =
+    (so j t e a.0 b.0, done_through has kept done so js ts es a.1 b.1)
 
 -- ---- contexts
 

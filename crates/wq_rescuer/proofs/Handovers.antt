@@ -231,15 +231,6 @@ contexts_first w all n context_seats seats runs rescued are first long =
     let same : take (length all) seats ≡ context_seats = ap (λ (m : ℕ). take m seats) at ∙ first in
     subst (λ ss. AreServed w all ss runs rescued) (sym same) are
 
--- one was lost before one more context came back
-pub one_lost_more : (contexts callers contexts_left callers_left all left : ℕ)
-    → IsOneLost contexts callers contexts_left callers_left → all ≡ contexts + 1 → left ≡ contexts_left + 1
-    → IsOneLost all callers left callers_left
-one_lost_more contexts callers contexts_left callers_left all left lost more back = elim lost [
-  | inl one ↦ inl (omega (arith, one.0, more, back), one.1)
-  | inr one ↦ inr (omega (arith, one.0, more, back), one.1)
-]
-
 -- the same numbers, seen elsewhere
 pub one_lost_seen : (contexts callers contexts_left callers_left bodies calls bodies_left calls_left : ℕ)
     → IsOneLost contexts callers contexts_left callers_left → contexts ≡ bodies → callers ≡ calls

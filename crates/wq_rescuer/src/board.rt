@@ -1,4 +1,4 @@
-//! The jobs of all threads, and what the threads hand back.
+//! The jobs of all threads, the threads themselves, and what they hand back.
 //!
 //! Making the jobs takes time in the number of contexts and callers. It takes no
 //! memory, since room for them was made before.
@@ -10,42 +10,64 @@ ghost use Rattle.wq_rescuer.specs.Executing.{NeverRan, no_counts};
 ghost use Rattle.wq_rescuer.specs.Serving.{HasRoomFor};
 
 use crate::body::Body;
-use crate::calling::{Caller, CallerEnd, CallerJob};
-use crate::context_job::{ContextEnd, ContextJob};
+use crate::calling::{Caller, CallerEnd, CallerJob, EndOfCaller};
+use crate::context_job::{ContextEnd, ContextJob, EndOfContext};
 use std::alloc::{AllocError, Allocator};
+use std::thread::{Promise, PromisedHandle};
 use wq_api::{Naming, Seat};
 use wq_core::Context;
 
-/// Jobs, and what comes back of them.
+/// Jobs, their threads, and what comes back of them.
 #[derive(Drop)]
-pub(crate) struct Jobs<J: Drop, E: Drop, A: Allocator> {
+pub(crate) struct Jobs<J: Drop, E: Drop, P: Promise<E>, A: Allocator> {
     /// Those that no thread has taken yet. The next one is last.
     pub(crate) waiting: Vec<J, A>,
+    /// The threads that aren't joined yet. The latest is last.
+    pub(crate) threads: Vec<PromisedHandle<E, P>, A>,
     /// What came back. The latest is last.
     pub(crate) ends: Vec<E, A>,
-    ghost room: { vec_len waiting + vec_len ends ≤ vec_capacity ends },
+    ghost room: { vec_len waiting + vec_len threads + vec_len ends ≤ vec_capacity ends },
+    ghost thread_room: { vec_len waiting + vec_len threads ≤ vec_capacity threads },
 }
 
-impl<J: Drop, E: Drop, A: Allocator + Copy> Jobs<J, E, A> {
-    /// Room for this many jobs, of which there is none yet. The only error is out of
-    /// memory (20), and never if there is to be no job.
+impl<J: Drop, E: Drop, P: Promise<E>, A: Allocator + Copy> Jobs<J, E, P, A> {
+    /// Room for this many jobs and their threads, of which there is none yet. The only error is out of memory (20), and
+    /// never if there is to be no job.
     pub(crate) fn new(alloc: A, count: usize) -> Result<Self, AllocError>
         ensures room { IfOk result (λ r. HasRoomFor count (vec_len r.waiting) (vec_capacity r.waiting)
-            × HasRoomFor count (vec_len r.ends) (vec_capacity r.ends)) }
+            × HasRoomFor count (vec_len r.ends) (vec_capacity r.ends)
+            × HasRoomFor count (vec_len r.threads) (vec_capacity r.threads)) }
         ensures memory { OnErr result (0 < count) }
     {
         Ok(Jobs {
             waiting: Vec::with_capacity(alloc, count)?,
+            threads: Vec::with_capacity(alloc, count)?,
             ends: Vec::with_capacity(alloc, count)?,
         })
     }
 }
 
+/// Those of the contexts.
+pub(crate) type ContextJobs<N, A, B> = Jobs<
+    ContextJob<N, A, B>,
+    ContextEnd<N, A, B>,
+    EndOfContext<B>,
+    A,
+>;
+
+/// Those of the callers.
+pub(crate) type CallerJobs<N, A, C> = Jobs<
+    CallerJob<N, A, C>,
+    CallerEnd<N, A, C>,
+    EndOfCaller<C>,
+    A,
+>;
+
 /// All jobs.
 #[derive(Drop)]
 pub(crate) struct Board<N: Naming, A: Allocator, B: Body + Drop, C: Caller + Drop> {
-    pub(crate) contexts: Jobs<ContextJob<N, A, B>, ContextEnd<N, A, B>, A>,
-    pub(crate) callers: Jobs<CallerJob<N, A, C>, CallerEnd<N, A, C>, A>,
+    pub(crate) contexts: ContextJobs<N, A, B>,
+    pub(crate) callers: CallerJobs<N, A, C>,
 }
 
 impl<N: Naming, A: Allocator + Copy, B: Body + Drop, C: Caller + Drop> Board<N, A, B, C> {
@@ -54,10 +76,12 @@ impl<N: Naming, A: Allocator + Copy, B: Body + Drop, C: Caller + Drop> Board<N, 
     pub(crate) fn new(alloc: A, contexts: usize, callers: usize) -> Result<Self, AllocError>
         ensures contexts { IfOk result (λ r.
             HasRoomFor contexts (vec_len r.contexts.waiting) (vec_capacity r.contexts.waiting)
-            × HasRoomFor contexts (vec_len r.contexts.ends) (vec_capacity r.contexts.ends)) }
+            × HasRoomFor contexts (vec_len r.contexts.ends) (vec_capacity r.contexts.ends)
+            × HasRoomFor contexts (vec_len r.contexts.threads) (vec_capacity r.contexts.threads)) }
         ensures callers { IfOk result (λ r.
             HasRoomFor callers (vec_len r.callers.waiting) (vec_capacity r.callers.waiting)
-            × HasRoomFor callers (vec_len r.callers.ends) (vec_capacity r.callers.ends)) }
+            × HasRoomFor callers (vec_len r.callers.ends) (vec_capacity r.callers.ends)
+            × HasRoomFor callers (vec_len r.callers.threads) (vec_capacity r.callers.threads)) }
         ensures memory { OnErr result (0 < contexts + callers) }
     {
         Ok(Board {
@@ -71,8 +95,8 @@ impl<N: Naming, A: Allocator + Copy, B: Body + Drop, C: Caller + Drop> Board<N, 
 #[derive(Drop)]
 pub(crate) struct Unstarted<N: Naming, A: Allocator, B: Body + Drop, C: Caller + Drop> {
     pub(crate) board: Board<N, A, B, C>,
-    ghost no_contexts: { board.contexts.ends.items ≡ [] },
-    ghost no_callers: { board.callers.ends.items ≡ [] },
+    ghost no_contexts: { (board.contexts.ends.items ≡ []) × (board.contexts.threads.items ≡ []) },
+    ghost no_callers: { (board.callers.ends.items ≡ []) × (board.callers.threads.items ≡ []) },
 }
 
 /// Makes the jobs of these contexts, that of the first one last. Each job takes the last seat that is left. No context

@@ -11,7 +11,7 @@ ghost use Rattle.wq_rescuer.specs.Contexts.{contexts_of};
 ghost use Rattle.wq_rescuer.specs.Serving.{AreServed, HasRoomFor, IsRan, finished_by, faults_by};
 ghost use Rattle.wq_rescuer.specs.declared.running.RunWhy.TheVariants.{NoThread};
 
-use crate::board::{Board, Jobs};
+use crate::board::{Board, CallerJobs, ContextJobs, Jobs};
 use crate::body::Body;
 use crate::calling::{Caller, CallerEnd, CallerJob};
 use crate::context_job::{ContextEnd, ContextJob};
@@ -198,7 +198,7 @@ pub(crate) fn gather<N: Naming, A: Allocator, B: Body + Drop, C: Caller + Drop>(
 
 /// Hands back the contexts: what came back, and the jobs that no thread took.
 fn hand_back_contexts<N: Naming, A: Allocator, B: Body + Drop>(
-    contexts: Jobs<ContextJob<N, A, B>, ContextEnd<N, A, B>, A>,
+    contexts: ContextJobs<N, A, B>,
     seats: &mut Vec<Seat<N, A>, A>,
     bodies: &mut Vec<B, A>,
 )
@@ -213,6 +213,7 @@ fn hand_back_contexts<N: Naming, A: Allocator, B: Body + Drop>(
     let Jobs {
         mut waiting,
         mut ends,
+        ..
     } = contexts;
     while let Some(end) = ends.pop() {
         let ContextEnd { seat, body, .. } = end;
@@ -228,7 +229,7 @@ fn hand_back_contexts<N: Naming, A: Allocator, B: Body + Drop>(
 
 /// Hands back the callers in the same way.
 fn hand_back_callers<N: Naming, A: Allocator, C: Caller + Drop>(
-    calls: Jobs<CallerJob<N, A, C>, CallerEnd<N, A, C>, A>,
+    calls: CallerJobs<N, A, C>,
     seats: &mut Vec<Seat<N, A>, A>,
     callers: &mut Vec<C, A>,
 )
@@ -241,6 +242,7 @@ fn hand_back_callers<N: Naming, A: Allocator, C: Caller + Drop>(
     let Jobs {
         mut waiting,
         mut ends,
+        ..
     } = calls;
     while let Some(end) = ends.pop() {
         let CallerEnd { seat, caller, .. } = end;

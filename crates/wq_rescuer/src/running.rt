@@ -101,11 +101,15 @@ fn make_jobs<N: Naming, A: Allocator, B: Body + Drop, C: Caller + Drop>(
     requires contexts { HasRoomFor (vec_len bodies) (vec_len space.board.contexts.waiting)
         (vec_capacity space.board.contexts.waiting)
         × HasRoomFor (vec_len bodies) (vec_len space.board.contexts.ends) (vec_capacity space.board.contexts.ends)
-        × HasRoomFor (vec_len bodies) (vec_len space.rescued) (vec_capacity space.rescued) }
+        × HasRoomFor (vec_len bodies) (vec_len space.rescued) (vec_capacity space.rescued)
+        × HasRoomFor (vec_len bodies) (vec_len space.board.contexts.threads)
+        (vec_capacity space.board.contexts.threads) }
     requires callers { HasRoomFor (vec_len callers) (vec_len space.board.callers.waiting)
         (vec_capacity space.board.callers.waiting)
         × HasRoomFor (vec_len callers) (vec_len space.board.callers.ends) (vec_capacity space.board.callers.ends)
-        × HasRoomFor (vec_len callers) (vec_len space.results) (vec_capacity space.results) }
+        × HasRoomFor (vec_len callers) (vec_len space.results) (vec_capacity space.results)
+        × HasRoomFor (vec_len callers) (vec_len space.board.callers.threads)
+        (vec_capacity space.board.callers.threads) }
     requires seats { (vec_len space.seats ≡ vec_len bodies + vec_len callers)
         × (vec_len bodies + vec_len callers ≤ vec_capacity space.seats) }
     requires no_counts { All (λ seat. seat ≡ no_counts N.wiring) space.seats.items }

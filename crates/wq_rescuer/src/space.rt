@@ -51,11 +51,14 @@ impl<N: Naming, A: Allocator + Copy, B: Body + Drop, C: Caller + Drop> Space<N, 
         ensures contexts { IfOk result (λ r.
             HasRoomFor (vec_len contexts) (vec_len r.board.contexts.waiting) (vec_capacity r.board.contexts.waiting)
             × HasRoomFor (vec_len contexts) (vec_len r.board.contexts.ends) (vec_capacity r.board.contexts.ends)
-            × HasRoomFor (vec_len contexts) (vec_len r.rescued) (vec_capacity r.rescued)) }
+            × HasRoomFor (vec_len contexts) (vec_len r.rescued) (vec_capacity r.rescued)
+            × HasRoomFor (vec_len contexts) (vec_len r.board.contexts.threads)
+            (vec_capacity r.board.contexts.threads)) }
         ensures callers { IfOk result (λ r.
             HasRoomFor callers (vec_len r.board.callers.waiting) (vec_capacity r.board.callers.waiting)
             × HasRoomFor callers (vec_len r.board.callers.ends) (vec_capacity r.board.callers.ends)
-            × HasRoomFor callers (vec_len r.results) (vec_capacity r.results)) }
+            × HasRoomFor callers (vec_len r.results) (vec_capacity r.results)
+            × HasRoomFor callers (vec_len r.board.callers.threads) (vec_capacity r.board.callers.threads)) }
         ensures seats { IfOk result (λ r. (r.seats.items ≡ []) × (vec_len contexts + callers ≤ vec_capacity r.seats)) }
         ensures memory { OnErr result (0 < vec_len contexts + callers) }
     {
@@ -119,11 +122,13 @@ fn take_room<N: Naming, A: Allocator + Copy, B: Body + Drop, C: Caller + Drop>(
     ensures contexts { IfOk result (λ r.
         HasRoomFor count (vec_len r.board.contexts.waiting) (vec_capacity r.board.contexts.waiting)
         × HasRoomFor count (vec_len r.board.contexts.ends) (vec_capacity r.board.contexts.ends)
-        × HasRoomFor count (vec_len r.rescued) (vec_capacity r.rescued)) }
+        × HasRoomFor count (vec_len r.rescued) (vec_capacity r.rescued)
+        × HasRoomFor count (vec_len r.board.contexts.threads) (vec_capacity r.board.contexts.threads)) }
     ensures callers { IfOk result (λ r.
         HasRoomFor callers (vec_len r.board.callers.waiting) (vec_capacity r.board.callers.waiting)
         × HasRoomFor callers (vec_len r.board.callers.ends) (vec_capacity r.board.callers.ends)
-        × HasRoomFor callers (vec_len r.results) (vec_capacity r.results)) }
+        × HasRoomFor callers (vec_len r.results) (vec_capacity r.results)
+        × HasRoomFor callers (vec_len r.board.callers.threads) (vec_capacity r.board.callers.threads)) }
     ensures seats { IfOk result (λ r. (r.seats.items ≡ []) × (count + callers ≤ vec_capacity r.seats)) }
     ensures memory { OnErr result (0 < count + callers) }
 {
@@ -147,11 +152,13 @@ pub(crate) fn reserve<N: Naming, A: Allocator + Copy, R: Wait, B: Body + Drop, C
     ensures contexts { IfOk result (λ r.
         HasRoomFor bodies (vec_len r.board.contexts.waiting) (vec_capacity r.board.contexts.waiting)
         × HasRoomFor bodies (vec_len r.board.contexts.ends) (vec_capacity r.board.contexts.ends)
-        × HasRoomFor bodies (vec_len r.rescued) (vec_capacity r.rescued)) }
+        × HasRoomFor bodies (vec_len r.rescued) (vec_capacity r.rescued)
+        × HasRoomFor bodies (vec_len r.board.contexts.threads) (vec_capacity r.board.contexts.threads)) }
     ensures callers { IfOk result (λ r.
         HasRoomFor callers (vec_len r.board.callers.waiting) (vec_capacity r.board.callers.waiting)
         × HasRoomFor callers (vec_len r.board.callers.ends) (vec_capacity r.board.callers.ends)
-        × HasRoomFor callers (vec_len r.results) (vec_capacity r.results)) }
+        × HasRoomFor callers (vec_len r.results) (vec_capacity r.results)
+        × HasRoomFor callers (vec_len r.board.callers.threads) (vec_capacity r.board.callers.threads)) }
     ensures seats { IfOk result (λ r. (vec_len r.seats ≡ bodies + callers) × (bodies + callers ≤ vec_capacity r.seats)
         × All (λ seat. seat ≡ replicate (counts_each * slots N.wiring) 0) r.seats.items) }
     ensures refused { IfErr result (λ e. RefusesRun (length (contexts_of N.wiring)) bodies e.why) }

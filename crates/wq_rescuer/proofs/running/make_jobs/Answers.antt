@@ -7,9 +7,15 @@ returns-clause-contexts g c = c.add_contexts.ensures.contexts ∙ ap reverse c.r
 
 pub invariant_of-result : goal.invariant_of-result
 invariant_of-result g c =
-    let contexts = c.args.space.board.contexts.ends in
-    let callers = c.args.space.board.callers.ends in
+    let contexts = c.args.space.board.contexts in
+    let callers = c.args.space.board.callers in
     record {
-      no_contexts = nothing_in contexts.items (sym contexts.ok.0 ∙ c.requires.contexts.1.0);
-      no_callers = nothing_in callers.items (sym callers.ok.0 ∙ c.requires.callers.1.0);
+      no_contexts = (
+        nothing_in contexts.ends.items (sym contexts.ends.ok.0 ∙ c.requires.contexts.1.0),
+        nothing_in contexts.threads.items (sym contexts.threads.ok.0 ∙ c.requires.contexts.3.0),
+      );
+      no_callers = (
+        nothing_in callers.ends.items (sym callers.ends.ok.0 ∙ c.requires.callers.1.0),
+        nothing_in callers.threads.items (sym callers.threads.ok.0 ∙ c.requires.callers.3.0),
+      );
     }
