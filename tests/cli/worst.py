@@ -61,6 +61,7 @@ CASES = {
     ("dot", "16,384 flushes lead to no rescuer, 2,048 named workqueues without a rescuer"),
     ("dot", "16,384 flushes lead to no rescuer, names that differ at the end"),
     ("hang", "flushes of the next 512, 2,048 workqueues, all unsure"),
+    ("hang", "3 workqueues around, each item flushes the next one, all unsure"),
     ("hang", "layers, one workqueue, every second unsure"),
     ("hang", "random flushes with circles, own workqueues, every second unsure"),
     ("hang", "16,384 flushes lead to no rescuer, 2,048 workqueues without a rescuer, all unsure"),

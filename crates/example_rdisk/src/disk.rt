@@ -1,6 +1,6 @@
 //! The disk and its server: what `rdisk.c` keeps in `struct rdisk`, and what its hardware does.
 //!
-//! One lock protects it, and nothing here waits. Each call takes time in the number of requests, and no memory.
+//! One lock protects it, and nothing here waits. Each call takes time linear in the number of requests, and no memory.
 
 use wq_api::CallError;
 

@@ -114,8 +114,8 @@ fn put_destroyed<N: Naming, R: Wait + Print>(
     Ok(())
 }
 
-/// Prints what came of the calls and of the requests, and the answers after
-/// `destroy`. The seat for these is added to the others.
+/// Prints the results of the calls and of the requests, and the answers after `destroy`. The seat of these answers is
+/// added to the others.
 fn put_ran<N: Naming, R: Wait + Print + AllocGlobal>(
     rt: &R,
     runtime: &WqRuntime<N, Global>,

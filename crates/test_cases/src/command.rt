@@ -41,9 +41,9 @@ pub enum PlainCommand {
     Check,
     Deadlock,
     Hang,
-    /// `repair`, where all items may move.
+    /// `repair` of all items.
     Repair,
-    /// `repair`, where only `a` may move.
+    /// `repair` of the item `a` alone.
     RepairOne,
     Replay,
     /// `circles` of a declaration and an assignment.
@@ -130,10 +130,10 @@ pub(crate) const NAMES: FileNames<'static> = FileNames {
     run: "r",
 };
 
-/// The items that may move, where only `a` may.
+/// The items that may move: `a` alone.
 const ONE: &[&str] = &["a"];
 
-/// The items that may move, where all may.
+/// No name: all items may move.
 const ALL: &[&str] = &[];
 
 /// Carries out a command over these readers, as the program does.
@@ -163,7 +163,7 @@ where
     )
 }
 
-/// Repairs, where these items may move.
+/// Carries out `repair` of these items.
 fn repair<A: Allocator + Copy, R: Read, W: Write, E: Write>(
     alloc: A,
     names: &[&str],

@@ -22,7 +22,7 @@ pub enum Saying {
     OfPlan,
     /// The command `deadlock` of an assignment, likewise.
     OfDeadlock,
-    /// The command `replay` of a run, likewise, where both items are on one workqueue.
+    /// The command `replay` of a run, likewise, but with both items on one workqueue.
     OfReplay,
     /// `of_no_item`.
     OfNoItem,
@@ -30,7 +30,7 @@ pub enum Saying {
     OfTooMany,
     /// The command `check`, likewise.
     OfCheck,
-    /// `of_failed` of a file, whose name is the certificate.
+    /// `of_failed` of a file; its name is in the place of the certificate.
     OfFailed,
 }
 
@@ -360,7 +360,7 @@ where
     }
 }
 
-/// What is said of a declaration without an item; nothing where it is refused.
+/// What is said of a declaration without an item; nothing if it is refused.
 fn say_no_item<A: Allocator + Copy>(
     alloc: A,
     declaration: Source<'_>,

@@ -1,5 +1,5 @@
-//! Readers and writers that misbehave, which no clause of `std` describes. Each call
-//! takes time in the number of bytes that it moves.
+//! Readers and writers that misbehave, which no clause of `std` describes. Each call takes time linear in the number of
+//! bytes that it moves.
 
 ghost use Rattle.std.specs.Prelude.{◌≤◌, IfOk};
 
@@ -22,7 +22,7 @@ impl Read for Endless {
 pub enum Failure {
     /// With an error.
     Error(ErrorKind),
-    /// It moves nothing. A writer has failed so; a reader has come to its end.
+    /// Moves nothing: for a writer that is a failure, for a reader the end of its text.
     Nothing,
 }
 

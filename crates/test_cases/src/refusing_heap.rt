@@ -1,8 +1,8 @@
 //! A heap that refuses one request for memory, or that request and all after it.
 //!
-//! It tells requests by their numbers alone. So a run in which a request is refused has to make the same requests up to
-//! that one as a run in which none is. Its count is atomic, so that threads may share it. A request takes the time that
-//! it takes of the heap behind it.
+//! Requests are known by their numbers alone. So a run in which a request is refused has to make the same requests up
+//! to that one as a run in which none is refused. The count is atomic, so that threads may share the heap. A request
+//! takes as long as the heap behind it takes.
 
 use std::alloc::{AllocError, Allocator};
 use std::sync::atomic::{AtomicU64, Ordering};
@@ -27,7 +27,7 @@ struct Requests {
 }
 
 impl Requests {
-    /// Counts a request. Whether it is refused, where there are fewer than 2^64 in all.
+    /// Counts a request, and says whether it is refused. There must be fewer than 2^64 requests in all.
     fn is_refused(&self) -> bool {
         let number = self.made.fetch_add(1, Ordering::SeqCst).wrapping_add(1);
         match self.refusing {
@@ -61,7 +61,7 @@ impl<B: Allocator> RefusingHeap<B> {
         RefusingHeap::new(inner, Refusing::One, u64::MAX)
     }
 
-    /// Whether a request has been refused, where there are fewer than 2^64 in all.
+    /// Whether a request has been refused. There must be fewer than 2^64 requests in all.
     pub fn has_refused(&self) -> bool {
         self.requests.made.load(Ordering::SeqCst) >= self.requests.nth
     }

@@ -1,8 +1,8 @@
 //! Books: an ask of another book, and what a book says of its rows and its lanes.
 //!
-//! What each call answers in which state, and the judgement of a history, are tested
-//! in tests/runtime/book. The rules are those of "Books" in docs/RUNTIME.md, from
-//! which each row was worked out by hand. The tests take time in the number of calls.
+//! What each call answers in which state, and the judgement of a history, are tested in tests/runtime/book. The rules
+//! are those of "Books" in docs/RUNTIME.md, from which each row was worked out by hand. The tests take time linear in
+//! the number of calls.
 
 use crate::declared::{core_in, helped_core_in};
 use linked_list_allocator::LocalHeap;
@@ -183,7 +183,7 @@ fn a_caller_waits_for_a_whole_lane(rt: HostRuntime) -> Result<(), Fail> {
 /// Two items on one lane, which may run at the same time.
 const FREE: &str = "item a\nitem b\n";
 
-/// The same, but they may not.
+/// The same two items, which may not run at the same time.
 const ORDERED: &str = "item a\nitem b\nordered a b\n";
 
 /// The rows that `share_a_lane` writes, packed.
@@ -292,7 +292,7 @@ fn assert_given_back(rt: &impl Abort, book: &mut Book<Global>, other: &mut Book<
     let asked = not_asked(rt, other.told(waits(rt, book.ask(a))));
     assert!(rt; asked.item() == a && asked.mark() == 1);
     asked.give_up();
-    // Its own book keeps a row for it.
+    // The ask's own book keeps a row for it.
     assert!(rt; book.free_rows() == 4 && other.free_rows() == 6);
     assert!(rt; book.rows().len() == 2 && other.rows().len() == 1);
 }
@@ -314,7 +314,7 @@ fn an_ask_of_another_book_is_given_back(rt: HostRuntime) -> Result<(), Fail> {
     assert_given_back_by_another(&rt, rt.alloc(), &mut book)
 }
 
-/// How many bytes of a heap a book with room for so many rows takes, besides its machine.
+/// How many bytes of a heap a book with room for this many rows takes, besides its machine.
 fn bytes_of(heap: &LocalHeap, rows: u32) -> Result<Option<usize>, Fail> {
     let core = core_in(heap, heap, "item a\n", 1, &[0])??;
     let before = heap.used();

@@ -1,7 +1,7 @@
 //! The calls for commands that no program makes, over texts in memory: how each ends, and what it writes.
 //!
 //! The answers were worked out by hand from docs/FORMAT.md. `plan_cmd` is called in devices.rt and seeds.rt, and
-//! `run_cmd`, which takes threads, by `test_shortages`. It takes the time of the commands.
+//! `run_cmd`, which takes threads, by `test_shortages`. The tests take the time of the commands.
 
 use test_cases::SEED;
 use wq_commands::{End, Metered, check_cmd, deadlock_cmd, replay_cmd};

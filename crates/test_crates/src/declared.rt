@@ -1,6 +1,6 @@
 //! What the tests declare and assign: from texts and numbers to tables, assignments and machines.
 //!
-//! It takes time in the lengths of the texts.
+//! The tests take time linear in the lengths of the texts.
 
 ghost use Rattle.std.specs.Prelude.{◌≡◌, ◌≤◌, IfOk};
 ghost use Rattle.wq_core.specs.State.{empty_state};

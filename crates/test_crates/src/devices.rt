@@ -1,7 +1,7 @@
 //! Readers that never end, and how much is read and written at most. What the commands do with devices that give little
 //! or fail is tried by `test_shortages`.
 //!
-//! It takes time in the number of calls of the devices.
+//! The tests take time linear in the number of calls of the devices.
 
 use std::alloc::Global;
 use std::io::ErrorKind;

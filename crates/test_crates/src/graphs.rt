@@ -1,7 +1,7 @@
 //! Wait graphs and their ranks, which answers show only in part.
 //!
-//! The arcs and the circles are those of "Items and groups" and "Circle texts" in
-//! docs/FORMAT.md. The tests take time in the lengths of the texts.
+//! The arcs and the circles are those of "Items and groups" and "Circle texts" in docs/FORMAT.md. The tests take time
+//! linear in the lengths of the texts.
 
 use crate::declared::{assigned, declared};
 use std::alloc::{AllocError, Global};

@@ -1,6 +1,7 @@
 //! Items, groups and assignments: names, places and members, which answers show only in part.
 //!
-//! The numbers are those of "Items and groups" in docs/FORMAT.md. The tests take time in the lengths of the texts.
+//! The numbers are those of "Items and groups" in docs/FORMAT.md. The tests take time linear in the lengths of the
+//! texts.
 
 ghost use Rattle.std.specs.Prelude.{◌≡◌, ◌<◌, length};
 

@@ -1,6 +1,6 @@
 //! Commands with heaps that are too small, at each size up to one that is large enough.
 //!
-//! It takes time in the number of sizes and cases.
+//! The tests take time linear in the number of sizes and cases.
 
 use linked_list_allocator::LocalHeap;
 use std::alloc::{AllocError, Global};
@@ -64,7 +64,7 @@ fn judged(ran: &HeapRun, case: &Case) -> Option<Reached> {
 }
 
 /// Asserts that a run leaves no memory in use, runs out of memory up to some size of the heap, answers from there on,
-/// and says what there is to be said where the heap is large enough.
+/// and says what there is to be said if the heap is large enough.
 fn assert_sizes(rt: &impl Abort, alloc: Global, case: &Case) -> Result<(), AllocError> {
     let name = case.name;
     let mut refused = false;

@@ -2,7 +2,7 @@
 //!
 //! The rules are those of "The machine" in docs/DEFINITIONS.md, from which each number and each refusal was worked out
 //! by hand. Which steps are lawful and which numbers they give is tested in tests/cli/rows and tests/runtime/book, too.
-//! The tests take time in the number of steps.
+//! The tests take time linear in the number of steps.
 
 use crate::declared::{core_in, helped_core_in};
 use std::alloc::{Allocator, Global};
@@ -86,8 +86,8 @@ const PLAYED: &[Played] = &[
     (Finish(1, 0), Some(2), 0, None, None, None),
 ];
 
-/// The number that a step would give, and the work that would be left after it; or,
-/// where it gives none, the work that is left now.
+/// The number that a step would give, and the work that would be left after it; or, if it gives none, the work that is
+/// left now.
 fn looked_ahead(core: &Core<Global>, step: &Step) -> (Option<u32>, u64) {
     let left = core.work_left();
     match core.peek(step) {

@@ -1,7 +1,7 @@
 //! The plan of the largest declaration, compared with one that is found by rounds: each round gives each item a
 //! workqueue above those of all that it flushes, until a round changes nothing.
 //!
-//! It takes time in the number of flushes times the length of the longest chain.
+//! The test takes O(flushes * longest chain) time.
 
 use crate::declared::declared;
 use crate::groups::assert_lanes;

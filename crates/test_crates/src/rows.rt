@@ -1,6 +1,6 @@
 //! Rows whose bytes were worked out by hand from "Histories" in docs/FORMAT.md.
 //!
-//! More rows, and bytes that hold none, are in tests/runtime/book. The test takes time in the number of rows.
+//! More rows, and bytes that hold none, are in tests/runtime/book. The test takes time linear in the number of rows.
 
 ghost use Rattle.std.specs.Prelude.{◌≡◌};
 
@@ -26,7 +26,7 @@ const PACKED: &[u8; 24] = &[
     8, 1, 2, 1, 0, 0, 0, 0, 4, 3, 2, 1, // Told of item 0x0102, yes, 0x01020304
 ];
 
-/// The start of item 1 by helper 1 of lane 0; and the same, but by a helper that there can't be.
+/// The start of item 1 by helper 1 of lane 0; and the start by a helper that can't exist.
 const HELPED: &[u8; 12] = &[3, 1, 1, 0, 0, 0, 1, 0, 1, 0, 0, 0];
 
 const NO_HELPER: &[u8; 12] = &[3, 1, 1, 0, 0, 0, 9, 0, 1, 0, 0, 0];

@@ -1,6 +1,6 @@
 //! Seeds of the hashes of names. No answer depends on them.
 //!
-//! The answers were worked out by hand from docs/FORMAT.md. It takes the time of a hundred runs for each text.
+//! The answers were worked out by hand from docs/FORMAT.md. The tests take the time of a hundred runs for each text.
 
 use wq_commands::{End, Metered, plan_cmd};
 

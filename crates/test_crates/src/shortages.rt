@@ -1,8 +1,8 @@
 //! Machines and books with each request for memory refused in turn, alone and with all after it: they are refused while
 //! they are made, or go on as with enough memory. Once they are made, no call takes memory.
 //!
-//! Each answer was worked out by hand from "Steps" in docs/FORMAT.md and "Books" in docs/RUNTIME.md. It takes the time
-//! of making all of them as often as they have requests.
+//! Each answer was worked out by hand from "Steps" in docs/FORMAT.md and "Books" in docs/RUNTIME.md. The tests take the
+//! time of making all of them as often as they have requests.
 
 ghost use Rattle.std.specs.Prelude.{◌≡◌};
 ghost use Rattle.wq_core.specs.State.{empty_state};
@@ -40,7 +40,7 @@ const STUCK: &[Made] = &[
     Wait(1, 3),
 ];
 
-/// Has the machine of two lanes run until no lane can move, and asserts that this takes no memory.
+/// Runs the machine of two lanes until no lane can move, and asserts that this takes no memory.
 fn get_stuck(rt: &impl Abort, heap: &Heap, core: &mut Core<&Heap>) {
     let refused = heap.has_refused();
     for made in STUCK {
@@ -97,8 +97,8 @@ fn keeps_book(rt: &impl Abort, ample: &Heap, heap: &Heap) -> Result<bool, Fail> 
     }
 }
 
-/// Judges the rows of such a book on a machine on which nothing has happened. Says
-/// whether they were judged; if not, the machine is as it was.
+/// Judges the rows of such a book on a machine on which nothing has happened. Says whether they were judged; if not,
+/// the machine hasn't changed.
 fn judges_on<A: Allocator + Copy>(rt: &impl Abort, heap: A, core: &mut Core<A>) -> bool
     requires { core.old.state ≡ empty_state core.old.wiring }
 {

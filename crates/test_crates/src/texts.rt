@@ -1,7 +1,7 @@
 //! Where lines and words are, and which bytes are a number.
 //!
-//! The rules are those of "Lines, words and numbers" in docs/FORMAT.md. The tests
-//! take time in the lengths of the texts.
+//! The rules are those of "Lines, words and numbers" in docs/FORMAT.md. The tests take time linear in the lengths of
+//! the texts.
 
 use std::process::Abort;
 use std::test::Fail;

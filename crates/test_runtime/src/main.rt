@@ -2,9 +2,8 @@
 //! rescuers, bodies and callers do what a text or the declaration says, judges the rows
 //! of a history, or runs a load on a runtime in many threads, and prints what came of it.
 //!
-//! It is a program of the tests and of the measurements (bench/README.md), and never installed. What it
-//! reads and prints is in tests/FORMATS.md; no contract says so. It takes the time
-//! of what is asked, and that of printing it.
+//! It is a program of the tests and of the measurements (bench/README.md), and never installed. What it reads and
+//! prints is in tests/FORMATS.md; no contract says so. This takes the time of what is asked, and that of printing it.
 #![tactic(auto)]
 
 mod loads;
@@ -38,7 +37,7 @@ struct Order<'a> {
 }
 
 /// The task of a subcommand in these files, with the words after them and this many helpers, of which a book has 8 at
-/// most. A history that is judged has as many rows as it has.
+/// most. The number of rows of a judged history is that of its text.
 fn order_of<'a>(
     command: &str,
     declaration: &'a str,

@@ -1,5 +1,5 @@
-//! What every test of a runtime does: it reads a declaration and an assignment, makes a runtime from them with so many
-//! rows, and prints what happened.
+//! What every test of a runtime does: it reads a declaration and an assignment, makes a runtime from them with this
+//! many rows, and prints what happened.
 
 mod bed;
 mod command_line;

@@ -1,4 +1,4 @@
-//! The cases of the commands. They take the time of all runs.
+//! The cases of the commands. Trying them takes as long as all the runs together.
 
 use crate::asked::Wanted;
 use crate::failing::put_failing;

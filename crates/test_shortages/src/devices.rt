@@ -59,7 +59,7 @@ impl<'t> Devices<'t> {
     }
 }
 
-/// A writer that fails after it took so many bytes, one a call.
+/// A writer that takes this many bytes, one a call, and then fails.
 pub(crate) fn failing_writer(
     alloc: Global,
     successes: u32,

@@ -1,4 +1,4 @@
-//! The cases of what is said of texts that are refused. They take the time of all runs.
+//! The cases of what is said of texts that are refused. Trying them takes as long as all the runs together.
 
 use crate::trial::{TrialEnd, put_trial};
 use std::alloc::{AllocError, Global};

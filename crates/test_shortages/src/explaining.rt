@@ -1,5 +1,6 @@
 //! The command `explain`, of a number, of a word that has no explanation, and of all. What it answers with enough
-//! memory is what it should answer; tests/cli/explain.sh says what that is. It takes the time of all runs.
+//! memory is what it should answer; tests/cli/explain.sh says what that is. This takes as long as all the runs
+//! together.
 
 use crate::asked::{AnyCommand, Wanted};
 use crate::commands::put_asked;

@@ -1,5 +1,5 @@
-//! Commands over devices that move a byte a call, or a few, and with each call of a
-//! device failing in turn. It takes the time of all runs.
+//! Commands over devices that move a byte a call, or a few, and with each call of a device failing in turn. This takes
+//! as long as all the runs together.
 
 use crate::asked::Wanted;
 use crate::devices::{
@@ -55,7 +55,7 @@ impl DeviceTally {
     }
 }
 
-/// What is counted of a device that moves these bytes, a call for each.
+/// What is counted of a device that moves these bytes, one a call.
 fn each(bytes: &[u8]) -> Counts {
     let len = bytes.len() as u64;
     (len, len, 0)
@@ -67,7 +67,7 @@ fn at_once(text: &[u8]) -> Counts {
     (calls, text.len() as u64, 0)
 }
 
-/// What is counted of a device that failed after so many calls, each of which moved a byte.
+/// What is counted of a device that failed after this many calls, each of which moved a byte.
 fn failed(successes: u32) -> Counts {
     let before = u64::from(successes);
     (before.saturating_add(1), before, 1)
@@ -106,7 +106,7 @@ fn read_before(asked: &Wanted<'_, '_>, text: usize, at: usize, successes: u32) -
     }
 }
 
-/// Whether a read of the text at `at` was the end of a command, after so many that gave a byte each.
+/// Whether a read of the text at `at` was the end of a command, after this many reads that gave a byte each.
 fn is_unread(ran: &DeviceRun, asked: &Wanted<'_, '_>, at: usize, successes: u32) -> bool {
     let [first, second, third] = ran.reads;
     ran.end == Err(CommandFault::Common(Fault::Read))
@@ -116,7 +116,7 @@ fn is_unread(ran: &DeviceRun, asked: &Wanted<'_, '_>, at: usize, successes: u32)
         && third == read_before(asked, 2, at, successes)
 }
 
-/// Whether a write was the end of a command, after so many that took a byte each.
+/// Whether a write was the end of a command, after this many writes that took a byte each.
 fn is_unwritten(ran: &DeviceRun, asked: &Wanted<'_, '_>, successes: u32) -> bool {
     ran.end == Err(CommandFault::Common(Fault::Write))
         && ran.is_silent()
@@ -244,7 +244,7 @@ fn fail_tells<R: Threads + Wait + Sync>(
     }
 }
 
-/// The runs over devices that move a few bytes a call, and of those over devices of which a call fails.
+/// The runs over devices that move a few bytes a call, and the runs over devices of which a call fails.
 #[derive(Clone, Copy)]
 struct DeviceTallies {
     pieces: DeviceTally,
@@ -254,7 +254,7 @@ struct DeviceTallies {
 }
 
 impl DeviceTallies {
-    /// Whether all of these ended as they should.
+    /// Whether all runs ended as they should.
     fn are_right(&self) -> bool {
         let wrong = (
             self.pieces.wrong,
@@ -309,8 +309,8 @@ fn tried<R: Threads + Wait + Sync>(rt: &R, alloc: Global, asked: &Wanted<'_, '_>
     tallies
 }
 
-/// How many calls there are of all readers, of the writer and of the teller, where each moves one byte. Nothing if
-/// the command isn't answered so, or asks for more.
+/// How many calls there are of all readers, of the writer and of the teller, if each call moves one byte. `None` if the
+/// command isn't answered in this way, or asks for more.
 fn calls<R: Threads + Wait + Sync>(
     rt: &R,
     alloc: Global,
@@ -326,10 +326,10 @@ fn calls<R: Threads + Wait + Sync>(
     Some((reads, ran.writes.0, ran.tells.0))
 }
 
-/// Tries a command over devices that move little, or fail, and prints a line: how many calls
-/// there are of all readers, of the writer and of the teller, where each moves one byte; and
-/// how many runs ended as they should over devices that move a few bytes a call, and with
-/// one read, one write and one tell that fails. Gives whether all runs ended as they should.
+/// Tries a command over devices that move little, or fail, and prints a line: how many calls there are of all readers,
+/// of the writer and of the teller, if each call moves one byte; and how many runs ended as they should over devices
+/// that move a few bytes a call, and with one read, one write and one tell that fails. Gives whether all runs ended as
+/// they should.
 pub(crate) fn put_failing<R: Print + AllocGlobal + Threads + Wait + Sync>(
     rt: &R,
     name: &str,

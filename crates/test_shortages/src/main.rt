@@ -17,7 +17,7 @@
 //! read with nothing written or said, after a write with what was written before it, and after a tell with the whole
 //! answer and what was said before it.
 //!
-//! If a run ends in another way a line says `WRONG`, and the status is 1. It takes the time of all runs.
+//! If a run ends in another way a line says `WRONG`, and the status is 1. This takes as long as all the runs together.
 #![tactic(auto)]
 
 mod asked;

@@ -1,5 +1,5 @@
-//! Commands with a heap that refuses one request for memory, or that one and all
-//! after it. It takes the time of all runs.
+//! Commands with a heap that refuses one request for memory, or that request and all after it. This takes as long as
+//! all the runs together.
 
 use crate::asked::Wanted;
 use crate::devices::{DeviceRun, Devices, WHOLE, run_over};

@@ -1,5 +1,5 @@
-//! The command `run` of a plan that has too many workqueues, and `run_cmd`, which no
-//! program calls. It takes the time of all runs.
+//! The command `run` of a plan that has too many workqueues, and `run_cmd`, which no program calls. This takes as long
+//! as all the runs together.
 
 use crate::asked::{AnyCommand, Wanted};
 use crate::memory::put_memory;

@@ -1,7 +1,7 @@
-//! A runtime whose requests for memory are refused, and those of its seats and of `run_all`.
+//! A runtime, its seats, and `run_all`, with each of their requests for memory refused in turn.
 //!
-//! What a part is tried with has the heap that refuses requests; all else is of one
-//! that refuses none. It takes the time of all runs.
+//! The part that is tried has the heap that refuses requests; all other parts have a heap that refuses none. This takes
+//! as long as all the runs together.
 
 ghost use Rattle.std.specs.Prelude.{◌≡◌, length};
 ghost use Rattle.wq_core.specs.Wiring.{wiring};

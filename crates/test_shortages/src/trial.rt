@@ -1,6 +1,6 @@
 //! What is run with each of its requests for memory refused in turn, and the line that is printed of it.
 //!
-//! Each request is refused twice: alone, and with all after it. It takes the time of all runs.
+//! Each request is refused twice: alone, and with all after it. This takes as long as all the runs together.
 
 use std::alloc::Global;
 use std::io;
@@ -67,9 +67,9 @@ fn refuse_each<F: Fn(&RefusingHeap<Global>) -> TrialEnd>(
 }
 
 /// Prints a line: how many requests for memory there are; how many of the runs in which one of them was refused ended
-/// with out of memory, how many were answered and said nothing of it, though there was something to be said, and how
-/// many were answered in full; and the same of the runs in which all after it were refused, too. Or it prints the
-/// request with which a run ended as it should not. Gives whether all runs ended as they should.
+/// with out of memory, how many were answered with nothing said, though there was something to say, and how many were
+/// answered in full; and the same numbers of the runs in which all later requests were refused, too. If a run doesn't
+/// end as it should, its request is printed instead. Gives whether all runs ended as they should.
 fn put_tallies<R: Print>(
     rt: &R,
     what: &str,

@@ -17,7 +17,7 @@ AreEach-append Says [] more one two none said = subst (λ (text : List ℕ). Are
 AreEach-append Says (c ∷ cs) more one two (first, rest, is, says, others) said =
     (first, rest ++ two, ap (λ (text : List ℕ). text ++ two) is ∙ append_assoc first rest two, says, AreEach-append Says cs more rest two others said)
 
--- the text of one change was added to those of the ones before it
+-- the text of one change is added to the texts of the changes before it
 pub AreEach-next : (Says : Change → List ℕ → Type 0) (cs : List Change) (k : ℕ) (c : Change) (old new one : List ℕ) → k < length cs → c ≡ get_or cs k c
     → AreEach Says (take k cs) old → Says c one → new ≡ old ++ one → AreEach Says (take (k + 1) cs) new
 AreEach-next Says cs k c old new one within is so_far says added =
@@ -34,7 +34,7 @@ All-IsOf groups old new =
     (All-map (IsOf groups) (λ g. change.Moved g) (filter (has_moved old new) (range_with_len 0 groups))
     (All-filter (has_moved old new) (λ g. g < groups) (range_with_len 0 groups) (range_with_len-below groups)))
 
--- the first n, and the others, if there are so many
+-- the first n elements, or all, if there are fewer
 pub take_least : {X : Type 0} (n : ℕ) (xs : List X) → take (min (length xs) n) xs ≡ take n xs
 take_least n xs = elim (cases_lt (length xs) n) [
   | inl few ↦

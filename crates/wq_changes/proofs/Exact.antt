@@ -1,4 +1,4 @@
--- The changes that are said are all that there are, and no others.
+-- What is said is about all changes, and about nothing else.
 use Rattle.std.proofs.Common.{◌≡◌, ℕ, ◌<◌, Bool, true, false, List, map, inl, inr, refl, sym, ap, subst, ◌∙◌}
 use Rattle.std.specs.Prelude.{◌≢◌, ◌==◌, ◌&&◌, not, filter, Contains}
 use Rattle.std.specs.List.{list_any, range_with_len}

@@ -1,4 +1,4 @@
--- Numbers that are gone through one after another: those that pass a test, and what is made of each.
+-- Numbers that are gone through one after another: the numbers that pass a test, and what is made of each.
 use Rattle.std.proofs.Common.{◌≡◌, ℕ, ◌+◌, ◌<◌, Bool, true, false, List, [], ◌∷◌, ◌++◌, map, get_or, append-nil, append_assoc, refl, sym, ap, subst, ◌∙◌, arith}
 use Rattle.std.specs.Prelude.{◌||◌, filter}
 use Rattle.std.specs.List.{list_any, range_with_len}

@@ -18,7 +18,7 @@ stays_on old new q g = (lane_in old g == q) && (lane_in new g == q)
 abbrev pub is_bare : Workqueues → ℕ → Bool
 is_bare ws q = slice_index_or ws.bare q false
 
--- lane q is given a rescuer: it had none and has one now, and one of so many groups is on it that was
+-- lane q is given a rescuer: it had none, has one now, and one of the groups has stayed on it
 abbrev pub is_given : ℕ → Workqueues → Workqueues → ℕ → Bool
 is_given groups old new q =
     (is_bare old q && not (is_bare new q)) && list_any (stays_on old new q) (range_with_len 0 groups)
@@ -29,7 +29,7 @@ changes_of groups old new =
     map (λ q. change.Given q) (filter (is_given groups old new) (range_with_len 0 old.assignment.lanes))
     ++ map (λ g. change.Moved g) (filter (has_moved old new) (range_with_len 0 groups))
 
--- a change of one of so many groups, or of a lane
+-- a change of a group below this number, or of a lane
 abbrev pub IsOf : ℕ → Change → Type 0
 IsOf groups (change.Moved g) = g < groups
 IsOf groups (change.Given q) = ⊤

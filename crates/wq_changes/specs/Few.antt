@@ -1,4 +1,4 @@
--- What is said where too few items may move: the workqueues of the run that is printed, and how they hang soonest.
+-- What is said if too few items may move: the workqueues of the run that is printed, and how they hang soonest.
 use Rattle.std.specs.Prelude.{◌≡◌, ℕ, List, [], ◌∷◌, ◌++◌, Option, unwrap_or}
 use Rattle.wq_core.specs.Workqueues.{Workqueues}
 use Rattle.wq_groups.specs.DeclaredGroups.{declared_waits, Declared}
@@ -13,7 +13,7 @@ use Rattle.wq_voice.specs.declared.waits.Wording.TheVariants.{OnWorkqueues}
 abbrev pub few_line : List ℕ → List ℕ
 few_line file = shown_lines (names_are_too_few file ∷ [])
 
--- that it is so, the lines of these workqueues, and how they hang soonest
+-- that too few items may move, the lines of these workqueues, and how they hang soonest
 pub record TellsFew (first second : List ℕ) (s : Declared) (names : List (List ℕ)) (start : Workqueues)
     (text : List ℕ) : Type 0 where
   pub said : Option (List ℕ)

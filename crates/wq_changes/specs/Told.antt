@@ -11,7 +11,7 @@ use Rattle.wq_changes.specs.Changes.{changes_of}
 use Rattle.wq_changes.specs.Without.{without_change}
 use Rattle.wq_changes.specs.Words.{change_words, lead_of}
 
--- of how many changes it is said why, at most, if there are so many items
+-- for how many changes it is said, at most, why they are needed, if this many items are declared
 abbrev pub most_reasons : ℕ → ℕ
 most_reasons items = if nat_lt 512 items then 1 else 10
 
@@ -39,12 +39,12 @@ IsToldWhy first second s names old new c text =
     (one : List ℕ) × (why : List ℕ) × (text ≡ one ++ why) × IsTold second s names old new c one
     × GivesWhy first s names old new c why
 
--- such a text for each of these changes, in this order
+-- the texts for these changes, one for each, in this order
 abbrev pub AreEach : (Change → List ℕ → Type 0) → List Change → List ℕ → Type 0
 AreEach Says [] text = text ≡ []
 AreEach Says (c ∷ cs) text = (one : List ℕ) × (rest : List ℕ) × (text ≡ one ++ rest) × Says c one × AreEach Says cs rest
 
--- such texts were added to a text
+-- the texts of `AreEach` were added to a text
 abbrev pub AddsEach : (Change → List ℕ → Type 0) → List Change → List ℕ → List ℕ → Type 0
 AddsEach Says cs old new = (added : List ℕ) × (new ≡ old ++ added) × AreEach Says cs added
 

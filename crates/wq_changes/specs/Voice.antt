@@ -19,9 +19,9 @@ use Rattle.wq_changes.specs.Circles.{TellsCircle}
 
 -- ---- what can be done about workqueues
 
--- what is said of this answer to workqueues with this text, the names of which are in it: of those that are safe, which
--- items are on workqueues without a rescuer; of those that are repaired, which changes make the new ones of them; where
--- too few may move, on which workqueues they hang; and where groups that need a rescuer wait in a circle, how they hang
+-- what is said of this answer to the workqueues with this text, which also has their names. If they are safe, which
+-- items are on workqueues without a rescuer; if they are repaired, which changes lead to the new ones; if too few items
+-- may move, on which workqueues they hang; and if groups that need a rescuer wait in a circle, how they hang
 abbrev pub SaysAnswer : {A : Type 0} → List ℕ → List ℕ → List ℕ → Declared → Workqueues → Answer A → Option (List ℕ)
     → Type 0
 SaysAnswer first second lanes s old answer.Safe said = NotesSafe first second lanes s old said
@@ -34,7 +34,7 @@ SaysAnswer first second lanes s old (answer.Circle arcs) said =
 
 -- ---- a name that is that of no item
 
--- the first of these names that is that of no item
+-- the first of these names that is no item's
 abbrev pub first_unknown : List (List ℕ) → List (List ℕ) → Option (List ℕ)
 first_unknown items [] = None
 first_unknown items (name ∷ names) = if is_none (item_named items name) then Some name else first_unknown items names
@@ -54,22 +54,22 @@ SaysNoItem file items name text = (text ≡ unknown_line file name)
     ⊎ ((i : ℕ) × (item : List ℕ) × (item_named items item ≡ Some i)
     × (text ≡ unknown_line file name ++ meant_line file item))
 
--- what is said of such a name; nothing if there is none
+-- what is said of the first name that is no item's; nothing if there is none
 abbrev pub SaysFirstUnknown : List ℕ → List (List ℕ) → Option (List ℕ) → Option (List ℕ) → Type 0
 SaysFirstUnknown file items None said = said ≡ None
 SaysFirstUnknown file items (Some name) said = (text : List ℕ) × (said ≡ Some text) × SaysNoItem file items name text
 
 -- ---- what `repair` found
 
--- what is said of workqueues with this text and of the answer to them; or of the first of these names that is that of
--- no item, where that is what was found
+-- what is said of workqueues with this text and of the answer to them; or of the first name that is no item's, if one
+-- was found
 abbrev pub SaysRead : {A : Type 0} → List ℕ → List ℕ → List (List ℕ) → Declared → List ℕ → Option (Repairing A)
     → Option (List ℕ) → Type 0
 SaysRead first second names s lanes None said =
     SaysFirstUnknown first s.table.names (first_unknown s.table.names names) said
 SaysRead first second names s lanes (Some r) said = SaysAnswer first second lanes s r.workqueues r.answer said
 
--- what is said of what was found in these texts, where the items with these names may move; or of the text that is
+-- what is said of what `repair` found in these texts, if the items with these names may move; or of the text that is
 -- refused
 abbrev pub SaysRepair : {A : Type 0} → List ℕ → List ℕ → List ℕ → List (List ℕ) → Declared → Given
     → Found (Option (Repairing A)) → Option (List ℕ) → Type 0

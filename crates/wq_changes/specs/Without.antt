@@ -25,7 +25,7 @@ lane_without old new c g = if moves c g then lane_in old g else lane_in new g
 abbrev pub bare_without : Workqueues → Change → ℕ → Bool
 bare_without new c p = gives c p || is_bare new p
 
--- the new workqueues without this change, where all others are made
+-- the new workqueues without this change, but with all others
 abbrev pub without_change : Workqueues → Workqueues → Change → Workqueues
 without_change old new c = record {
   assignment = record {

@@ -25,7 +25,7 @@ use wq_names::workqueue_names;
 use wq_repair::Answer;
 use wq_voice::{FlushLines, say_safe};
 
-/// What is said of the changes that make the new workqueues of the old ones, whose text is that of the assignment.
+/// What is said of the changes from the old workqueues, which are those in the text of the assignment, to the new ones.
 fn of_repaired<'a, A: Allocator + Copy>(
     alloc: A,
     declaration: Source<'a>,
@@ -55,8 +55,8 @@ fn of_repaired<'a, A: Allocator + Copy>(
     of_changes(alloc, &repair)
 }
 
-/// What is said of the workqueues on which items hang where too few may move. Their names are in the text of the
-/// assignment.
+/// What is said, if too few items may move, of the workqueues on which they hang. The names of the workqueues are in
+/// the text of the assignment.
 fn of_start<'a, A: Allocator + Copy>(
     alloc: A,
     declaration: Source<'a>,

@@ -1,7 +1,6 @@
 //! Changes of workqueues: which there are.
 //!
-//! It takes time in the number of groups and lanes; for a lane without a rescuer that has one now, in the number of
-//! groups.
+//! A call takes O(groups + lanes) time, and O(groups) more for each lane that is given a rescuer.
 
 ghost use Rattle.std.specs.Prelude.{◌≡◌, ◌<◌, ◌≤◌, ◌++◌, IfOk, OnOk, filter, length, map};
 ghost use Rattle.std.specs.List.{list_any, range_with_len};
@@ -16,7 +15,7 @@ use wq_groups::{GroupId, LaneId};
 /// A change of workqueues.
 #[derive(Clone, Copy, Debug, PartialEq, Eq)]
 pub enum Change {
-    /// This lane, which had no rescuer, is given one, and a group stays on it.
+    /// This lane had no rescuer and is given one, and a group stays on it.
     Given(LaneId),
     /// This group is on another lane.
     Moved(GroupId),
@@ -44,7 +43,7 @@ fn stays_on<A: Allocator>(
     lane_in(old, group) == lane && lane_in(new, group) == lane
 }
 
-/// Whether one of so many groups is on this lane, and was.
+/// Whether one of the groups is on this lane in both assignments.
 fn has_stayed<A: Allocator>(
     old: &Workqueues<A>,
     new: &Workqueues<A>,
@@ -63,7 +62,7 @@ fn has_stayed<A: Allocator>(
     false
 }
 
-/// Whether a lane is given a rescuer, and one of so many groups stays on it.
+/// Whether a lane is given a rescuer, and one of the groups stays on it.
 fn is_given<A: Allocator>(
     old: &Workqueues<A>,
     new: &Workqueues<A>,
@@ -129,7 +128,7 @@ fn push_moved<A: Allocator + Copy>(
     Ok(())
 }
 
-/// The changes from the old workqueues of so many groups to the new ones: first the lanes that are given a rescuer, and
+/// The changes from the old workqueues of these groups to the new ones: first the lanes that are given a rescuer, and
 /// then the groups that are on another lane, each by number.
 ///
 /// The only error is out of memory (20).

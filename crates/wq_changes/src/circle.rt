@@ -1,6 +1,6 @@
-//! What is said beside a circle of groups that need a rescuer: how they hang where each has a workqueue of its own.
+//! What is said beside a circle of groups that need a rescuer: how they hang if each has a workqueue of its own.
 //!
-//! The form is that of "Changes" in docs/FORMAT.md. It takes the time of a search from each of its items.
+//! The form is that of "Changes" in docs/FORMAT.md. A call takes the time of a search from each item of the circle.
 
 ghost use Rattle.std.specs.Prelude.{◌≡◌, IfOk, length};
 ghost use Rattle.wq_circles.specs.ComponentsText.{AreBetween};
@@ -15,7 +15,7 @@ use wq_groups::Declaration;
 use wq_hang::Rounds;
 use wq_voice::{FlushLines, Subject, Wording, put_round};
 
-/// What is said of this circle, if the groups stand on these workqueues.
+/// What is said of this circle, if its groups are on these workqueues.
 fn of_circle_on<'a, A: Allocator + Copy>(
     alloc: A,
     declaration: Source<'a>,

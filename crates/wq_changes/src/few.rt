@@ -1,6 +1,6 @@
-//! What is said where too few items may move: the workqueues of the run that is printed, and how they hang soonest.
+//! What is said if too few items may move: the workqueues of the run that is printed, and how they hang soonest.
 //!
-//! The form is that of "Changes" in docs/FORMAT.md. It takes the time of a search for a shortest run.
+//! The form is that of "Changes" in docs/FORMAT.md. A call takes the time of a search for a shortest run.
 
 ghost use Rattle.std.specs.Prelude.{◌≡◌, ◌++◌, [], IfOk, OnOk, map, option_map, unwrap_or};
 ghost use Rattle.wq_changes.specs.Few.{TellsFew, few_line};
@@ -36,7 +36,7 @@ fn put_said<A: Allocator + Copy>(
     }
 }
 
-/// What is said of the workqueues on which items hang where too few may move.
+/// What is said, if too few items may move, of the workqueues on which they hang.
 pub(crate) fn of_few<'a, A: Allocator + Copy>(
     alloc: A,
     declaration: Source<'a>,

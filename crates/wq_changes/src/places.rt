@@ -1,7 +1,7 @@
 //! Where workqueues and items are in the text of an assignment.
 //!
-//! The text is gone through once, so that thousands of changes take no longer than that. It takes memory in the number
-//! of items and workqueues.
+//! The text is read once, so thousands of changes take no longer than one. Memory is linear in the number of items and
+//! workqueues.
 
 ghost use Rattle.wq_changes.specs.Changes.{IsOf};
 
@@ -13,7 +13,7 @@ use wq_groups::{Declaration, LaneId};
 use wq_items::{ItemId, ItemTable};
 use wq_text::{Line, Word};
 
-/// A line and a column of a text, each from 1; 0 where there is none.
+/// A line and a column of a text, each from 1; 0 if there is none.
 #[derive(Clone, Copy, Debug, PartialEq, Eq)]
 pub(crate) struct Place {
     pub(crate) line: u32,
@@ -42,7 +42,7 @@ pub(crate) struct Places<A: Allocator> {
 }
 
 impl<A: Allocator + Copy> Places<A> {
-    /// Those of the text of an assignment of these items.
+    /// The places in the text of an assignment of these items.
     pub(crate) fn new(alloc: A, table: &ItemTable<'_, A>, text: &[u8]) -> Result<Self, AllocError> {
         let mut places = Places {
             lanes: Vec::new(alloc),

@@ -1,8 +1,8 @@
 //! What is said of changes: for each in turn what is changed, and for the first ones how the workqueues hang without
 //! it.
 //!
-//! The form is that of "Changes" in docs/FORMAT.md. It takes the time of a search for a shortest run for each of the
-//! first changes.
+//! The form is that of "Changes" in docs/FORMAT.md. A call takes the time of a search for a shortest run for each of
+//! the first changes.
 
 ghost use Rattle.std.specs.Prelude.{◌≡◌, ◌≤◌, [], ◌∷◌, IfOk, length, map, option_map, unwrap_or};
 ghost use Rattle.std.specs.List.{All};
@@ -22,7 +22,8 @@ use wq_names::messages;
 use wq_text::put;
 use wq_voice::{FlushLines, Subject, Wording, of_subject};
 
-/// Of how many changes it is said why, at most, if there are so many items. Each takes a search for a shortest run.
+/// For how many changes it is said, at most, why they are needed, if this many items are declared: each reason takes a
+/// search for a shortest run.
 fn most_reasons(items: u16) -> usize
     ensures { result ≡ most_reasons items }
 {
@@ -89,7 +90,7 @@ fn told<A: Allocator + Copy>(
     line_at(alloc, assignment.file, &[place.line, place.column], &what)
 }
 
-/// This, or no byte if there is nothing.
+/// The text that is given, or an empty one.
 fn or_nothing<A: Allocator>(alloc: A, said: Option<Vec<u8, A>>) -> Vec<u8, A>
     ensures { result.items ≡ unwrap_or (option_map (λ s. s.items) said) [] }
 {
@@ -146,7 +147,7 @@ fn told_why<A: Allocator + Copy>(
     Ok(text)
 }
 
-/// The same of each of these changes.
+/// Why each of these changes is needed.
 fn all_whys<A: Allocator + Copy>(
     alloc: A,
     repair: &Repair<'_, '_, '_, A>,
@@ -167,7 +168,7 @@ fn all_whys<A: Allocator + Copy>(
     Ok(text)
 }
 
-/// A text, and behind it what is changed, of each of these changes.
+/// A text, and behind it what each of these changes is.
 fn with_all_told<A: Allocator + Copy>(
     alloc: A,
     repair: &Repair<'_, '_, '_, A>,

@@ -1,7 +1,7 @@
-//! What is said of a NAME that is that of no item.
+//! What is said of a NAME that is no item's.
 //!
-//! It takes the time of finding the names; and for the first that isn't found, of searching the text of the declaration
-//! for one that is like it.
+//! A call takes the time of finding the names; and for the first that isn't found, of searching the text of the
+//! declaration for one that is like it.
 
 ghost use Rattle.std.specs.Prelude.{◌≡◌, ◌++◌, ℕ, Some, IfOk, OnOk, IfSome, map, option_map};
 ghost use Rattle.wq_items.specs.Table.{item_named};
@@ -15,7 +15,7 @@ use wq_items::ItemTable;
 use wq_names::messages;
 use wq_text::Text;
 
-/// The first of these names that is that of no item.
+/// The first of these names that is no item's.
 fn first_unknown<'a, A: Allocator + Copy>(
     table: &ItemTable<'_, A>,
     names: &[&'a str],
@@ -44,7 +44,7 @@ fn unknown_line<A: Allocator + Copy>(
     Ok(text)
 }
 
-/// The item that was most likely meant, where its name is like this one.
+/// The item that was most likely meant, if the name of one is like this one.
 fn item_meant<'a, A: Allocator + Copy>(
     alloc: A,
     declaration: &Text<'a>,
@@ -101,7 +101,7 @@ fn of_name<A: Allocator + Copy>(
     }
 }
 
-/// What is said of the first of these names that is that of no declared item. Nothing if there is none.
+/// What is said of the first of these names that is no declared item's; nothing if there is no such name.
 ///
 /// The only error is out of memory (20).
 pub(crate) fn say_unknown<A: Allocator + Copy>(

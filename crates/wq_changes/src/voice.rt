@@ -1,7 +1,7 @@
-//! What is said beside the answer of `repair`: the diagnosis of the text that is refused; which NAME is that of no
-//! item; or what is changed, or why no change helps.
+//! What is said beside the answer of `repair`: the diagnosis of the text that is refused; which NAME is no item's; or
+//! what is changed, or why no change helps.
 //!
-//! It takes the time and the memory of the diagnosis, or of what is said of the answer.
+//! A call takes the time and the memory of the diagnosis, or of what is said of the answer.
 
 ghost use Rattle.std.specs.Prelude.{ℕ, IfOk, List, Some, map, option_map};
 ghost use Rattle.wq_diagnosis.specs.Refused.{Diagnoses};
@@ -26,8 +26,8 @@ pub struct RepairVoice<'n> {
     pub files: FileNames<'n>,
 }
 
-/// What is said of what `repair` found in the text of the assignment, where the items with these names may move, or all
-/// if there is none.
+/// What is said of what `repair` found in the text of the assignment, if the items with these names may move, or all
+/// items, if no name is given.
 fn say_read<A: Allocator + Copy>(
     alloc: A,
     files: &FileNames<'_>,

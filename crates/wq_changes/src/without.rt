@@ -1,6 +1,6 @@
-//! Workqueues without one of their changes, where all others are made.
+//! Workqueues without one of their changes, but with all others.
 //!
-//! It takes time and memory in the number of groups and lanes.
+//! Making them takes time and memory linear in the number of groups and lanes.
 
 ghost use Rattle.std.specs.Prelude.{◌≡◌, ◌<◌, ◌≤◌, IfOk, length, map};
 ghost use Rattle.std.specs.List.{range_with_len};
@@ -92,7 +92,7 @@ fn bares_without<A: Allocator + Copy>(
     Ok(bare)
 }
 
-/// The new workqueues of so many groups without this change from the old ones.
+/// The new workqueues without this change from the old ones; `groups` is the number of groups.
 pub(crate) fn without_change<A: Allocator + Copy>(
     alloc: A,
     old: &Workqueues<A>,

@@ -32,7 +32,7 @@ pub(crate) fn first_item<A: Allocator + Copy>(
     }
 }
 
-/// A group: its first item, and how many move with that one.
+/// A group, by its first item and by how many others move with it.
 fn group_words<A: Allocator + Copy>(
     alloc: A,
     declared: &Declaration<'_, A>,

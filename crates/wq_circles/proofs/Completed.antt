@@ -214,7 +214,7 @@ AreLowest-done lists finished s lowest is ordered = record {
       is.answers v (subst (Contains s.order) place.2 (is.later place.0 (omega arith) place.1)));
 }
 
--- ---- the same by other arcs
+-- ---- the same vertices by other arcs
 
 module _ (R S : ℕ → ℕ → Type 0) (there : (x y : ℕ) → R x y → S x y) (back : (x y : ℕ) → S x y → R x y) where
   pub IsFinishing-arcs : (n : ℕ) (finished : List ℕ) → IsFinishing R n finished → IsFinishing S n finished

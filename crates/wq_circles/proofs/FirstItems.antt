@@ -1,4 +1,5 @@
--- The items that a run queues first, where no flush leads to a workqueue without a rescuer: their workqueues wait in a circle.
+-- The items that a run queues first, if no flush leads to a workqueue without a rescuer: their workqueues wait in a
+-- circle.
 use Rattle.std.proofs.Common.{◌≡◌, ◌≢◌, ℕ, suc, ◌+◌, ◌-◌, ◌<◌, Bool, List, [], ◌∷◌, length, map, get_or, refl, sym, ap, subst, ◌∙◌, arith}
 use Rattle.std.specs.Prelude.{slice_index}
 use Rattle.std.proofs.lemmas.List.{ext_get_or, get_or-map, length-map}

@@ -84,7 +84,7 @@ module _ (d : Declaration) (ws : Workqueues) (declaration : IsDeclaration d) (as
     places = rise;
   }
 
--- where each workqueue has a rescuer, there are none
+-- if each workqueue has a rescuer, there are no such waits
 pub no_waits : (a : Assignment) (group_of : List ℕ) (arcs : List WaitArc) → filter (leads_to_bare (all_rescued a) group_of) arcs ≡ []
 no_waits a group_of [] = refl
 no_waits a group_of (x ∷ arcs) = no_waits a group_of arcs

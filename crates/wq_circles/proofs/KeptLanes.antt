@@ -25,7 +25,7 @@ use Rattle.wq_circles.specs.Components.{kept_graph}
 abbrev pub IsKept : List Bool → ℕ → Type 0
 IsKept bare q = is_left_out bare q ≡ false
 
--- the arcs that are kept of a lane's: all whose lanes aren't bare, and in order
+-- the kept arcs of a lane: all whose lanes aren't bare, in order
 pub record AreKeptFrom (d : Declaration) (a : Assignment) (bare : List Bool) (v : ℕ) (arcs : List WaitArc) : Type 0 where
   pub declared : All (λ (b : WaitArc). IsArc d.waits (item_lanes a d.group_of) b × (slice_index (item_lanes a d.group_of) b.src ≡ v)) arcs
   pub kept : All (λ (b : WaitArc). IsKept bare v × IsKept bare b.head) arcs
@@ -80,7 +80,7 @@ module _ (d : Declaration) (a : Assignment) (bare : List Bool) (declaration : Is
   pub IsGraph-kept_graph : a.lanes ≤ 4096 → IsGraph (kept_graph d a bare)
   IsGraph-kept_graph few = IsGraph-without bare (lane_graph d a) (IsGraph-lane_graph d a declaration assignment few)
 
-  -- an arc is kept exactly where a lane with a rescuer waits for another
+  -- an arc is kept exactly if a lane with a rescuer waits for another
   pub VertexWaits-kept_graph : (p q : ℕ) → RescuedWaits (with_bare (wiring d a) bare) p q ↔ HasArc (kept_graph d a bare) p q
   VertexWaits-kept_graph p q = (
     λ waits. (HasArc-without bare (lane_graph d a) p q).1 (waits.0, waits.1, (VertexWaits-lane_graph d a declaration assignment p q).0 waits.2),

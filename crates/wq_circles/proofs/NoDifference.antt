@@ -144,7 +144,7 @@ waits-more v w h i j waits =
     let by = h.more t.whole i j (waits.0, t, waits.2, waits.3, (waits.4, refl)) in
     (by.0, by.1, by.2, by.3, by.4.0)
 
--- the same for workqueues that have a rescuer
+-- more waits of workqueues that have a rescuer
 rescued-more : (u : Wiring) (xs ys : List (List Target)) → ((i j : ℕ) → ItemWaits xs i j → ItemWaits ys i j)
     → (p q : ℕ) → RescuedWaits (record u { waits = xs }) p q → RescuedWaits (record u { waits = ys }) p q
 rescued-more u xs ys keeps p q waits =
@@ -351,7 +351,7 @@ module _ (d : Declaration) (ws : Workqueues) (declaration : IsDeclaration d)
               (rescued-more w d2.waits more.waits more2) waits))
         ]
 
-  -- a reading that differs in this flush alone is safe exactly where the other is
+  -- a reading that differs in this flush alone is safe exactly if the other one is
   pub no_difference : a.lanes ≤ 4096 → IsSafe less ↔ IsSafe more
   no_difference few = (
     λ safe. safe_more safe few,

@@ -39,7 +39,7 @@ module _ (a : Assigned) (is : IsAssigned a) where
         (AreBetween-components (declared_waits a.declared) a.workqueues.assignment a.workqueues.bare declaration
         is.assignment.assignment components are)
 
-  -- and so are those that lead to a workqueue without a rescuer
+  -- the flushes that lead to a workqueue without a rescuer are between items, too
   pub waits_between_items : AreBetween (length a.declared.table.names)
       (bare_waits (declared_waits a.declared) a.workqueues)
   waits_between_items =

@@ -145,7 +145,7 @@ module _ (d : Declaration) (a : Assignment) (bare : List Bool) (declaration : Is
   pub loop-vertex : (v : ℕ) (b : WaitArc) → IsLoop d (joined a lowest) bare declaration assigned v b → slice_index lowest (item_lane a d.group_of b.src) ≡ v
   loop-vertex v b loop = sym (joined-lane b.src (flush-items b loop.arc.declared).0) ∙ loop.leaves
 
-  -- a lane isn't bare where the one that it is joined to isn't, and the other way round
+  -- a lane is bare exactly if the one to which it is joined is bare
   kept-lane : (i : ℕ) → i < length d.group_of → IsKept bare (slice_index (item_lanes (joined a lowest) d.group_of) i) → IsKept bare (item_lane a d.group_of i)
   kept-lane i item kept =
       let lane = lane-below i item in

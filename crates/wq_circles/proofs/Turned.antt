@@ -61,7 +61,7 @@ head_lists-below graph is v k d lt = elim (cases_lt v (length graph)) [
 pub Next-in_range : (graph : List (List WaitArc)) → IsGraph graph → (v w : ℕ) → HasArc graph v w → w < length graph
 Next-in_range graph is v w arc = All-contains (λ x. x < length graph) (listed_at (head_lists graph) v) w (head_lists-below graph is v) (Next-heads graph v w arc)
 
--- the same for lists that are kept as vectors
+-- `below` of lists that are kept as vectors
 pub lists-below : {A : Type 0} (lists : List (Vec ℕ A)) (shown : List (List ℕ)) (n : ℕ) → map (λ (l : Vec ℕ A). l.items) lists ≡ shown
     → ((v : ℕ) → All (λ w. w < n) (listed_at shown v)) → All (λ (l : Vec ℕ A). All (λ w. w < n) l.items) lists
 lists-below {A = A} lists shown n same below k d lt =

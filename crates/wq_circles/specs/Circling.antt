@@ -58,8 +58,8 @@ OwnCircles declared end out =
 
 -- ---- what is found, and printed
 
--- what is printed for these components and these flushes to workqueues without a rescuer: `safe` if there are none of
--- either
+-- what is printed for these components and these flushes to workqueues without a rescuer: `safe` if there is neither a
+-- component nor such a flush
 abbrev pub PrintsCircling : Table → List (List WaitArc) → List WaitArc → End → List ℕ → Type 0
 PrintsCircling t components waits Good out = (components ≡ []) × (waits ≡ []) × (out ≡ safe_text)
 PrintsCircling t components waits Bad out =

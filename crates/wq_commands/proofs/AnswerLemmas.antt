@@ -84,7 +84,7 @@ past_groups t (Ok p) s e =
     (ap (λ (d : Declared). d.table) same, ap (λ (d : Declared). Ok d.partition) same)
 past_groups t (Err fault) s e = absurd cc
 
--- the passes made this table and these groups
+-- the passes make this table and these groups of the text
 record IsMade (ds : List (ℕ × Directive)) (s : Declared) : Type 0 where
   table : table_of ds ≡ Ok s.table
   groups : groups_of ds s.table.names ≡ Ok s.partition

@@ -60,7 +60,7 @@ short_lines most (l ∷ ls) = ap (λ (b : Bool). b && list_all (λ line. nat_le 
     here true others = refl
     here false others = others
 
--- a text keeps the limits where they find no fault
+-- a text keeps the limits if no fault of them is found
 pub limits_kept : (most most_line : ℕ) (text : List ℕ)
     → (nat_le (length text) most && list_all (λ line. nat_le (length line) most_line) (bytes_in (lines_of text))) ≡ is_none (limit_fault most most_line text)
 limits_kept most most_line text =
@@ -175,7 +175,7 @@ Says-words : (n : ℕ) (ws : List WordView) → Says (words_reading n ws) (bytes
 Says-words n [] = refl
 Says-words n (first ∷ ws) = after_says (keyword_of first.bytes) first.bytes n ws (IsWordOf-keyword_of first.bytes)
 
--- a line is read where it has no fault, and then it says these words
+-- a line that has no fault is read, and says these words
 record IsSaid (l : LineView) (r : Result (Option Directive) DeclError) : Type 0 where
   read : is_read l.bytes ≡ is_ok r
   says : (d : Option Directive) → r ≡ Ok d → Says (Ok d) (words_in l.bytes)
@@ -373,7 +373,7 @@ module _ (lines : List (List (List ℕ))) (ds : List (ℕ × Directive)) (follow
 
 -- ---- texts
 
--- what the passes say that look at tables and groups, where no name is ordered twice
+-- what the passes over tables and groups say, if no name is ordered twice
 by_groups-agree : (lines : List (List (List ℕ))) (ds : List (ℕ × Directive)) → Follow lines ds → (o : Option ℕ) → first_regrouped [] ds ≡ o → (r : Result Table ItemError) (items : Option Items) → Agrees r items
     → cond (is_none o) (option_map (in_groups lines) items) None ≡ option_map named_of (result_ok (by_table ds r))
 by_groups-agree lines ds follow None none (Ok t) items is =
@@ -382,7 +382,7 @@ by_groups-agree lines ds follow (Some n) twice (Ok t) items is = rw (groups_of-s
 by_groups-agree lines ds follow None none (Err e) items is = rw is refl
 by_groups-agree lines ds follow (Some n) twice (Err e) items is = refl
 
--- a text is in form where none of these passes finds a fault
+-- a text is in form if none of these passes finds a fault in it
 in_form : (text : List ℕ) → first_fault (lines_of text) ≡ None → is_in_form text ≡ (is_none (limit_fault max_declaration max_declaration_line text) && is_none (first_regrouped [] (directives (lines_of text))))
 in_form text none =
     let ls = lines_of text in
@@ -393,7 +393,7 @@ in_form text none =
     ap (λ (l : List (List ℕ)). has_twin (flat_map ordered_on (map words_in l))) (lines-bytes text) ∙ twin_lines (map words_in (bytes_in ls)) (directives ls) (Follow-lines ls none) in
     ap₂ (λ (a b : Bool). a && b) limits (ap₂ (λ (a b : Bool). a && not b) read twins)
 
--- nor is a text in form where the limits or a line have one
+-- a text isn't in form if it has a fault of the limits or of a line
 out_of_form : (text : List ℕ) → (is_none (limit_fault max_declaration max_declaration_line text) && is_none (first_fault (lines_of text))) ≡ false → is_in_form text ≡ false
 out_of_form text fault =
     let twice = not (has_twin (flat_map ordered_on (words_by_line text))) in

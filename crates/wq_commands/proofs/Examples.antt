@@ -85,7 +85,7 @@ module _ (arc : WaitArc) (own : arc.head ≡ 0) where
     once = λ i j d apart within. absurd (omega (arith, apart, within));
   }
 
--- ---- one workqueue, whose first item waits for what is queued on it
+-- ---- one workqueue, whose first item waits for an item that is queued on it
 
 -- the entry of item 0 that was queued first
 abbrev e : Entry
@@ -249,6 +249,6 @@ printed = rw (decimal_digit 2 (omega arith), decimal_digit 0 (omega arith), deci
 pub two_items : Answers (codes "item a\nitem b\nflush a b\n") Good (codes "plan 2\nwq 0 b\nwq 1 a\nchain 2\narc a b\n")
 two_items = record { assignment = lanes; plan = record { one_each = refl; ranks = ranks; count = refl }; text = printed }
 
--- the same, with a comment, CR LF and TABs, and without the last LF
+-- the same two items, with a comment, CR LF and TABs, and without the last LF
 pub two_items_spaced : Answers (codes "item a # x\r\n\titem\tb\r\nflush a b") Good (codes "plan 2\nwq 0 b\nwq 1 a\nchain 2\narc a b\n")
 two_items_spaced = record { assignment = lanes; plan = record { one_each = refl; ranks = ranks; count = refl }; text = printed }

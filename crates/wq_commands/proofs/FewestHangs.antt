@@ -1,5 +1,5 @@
--- Workqueues that aren't safe hang by a least walk. There are so many flushes, items and lanes, so it can be looked
--- for.
+-- Workqueues that aren't safe hang by a least walk. It can be searched for, since flushes, items and lanes are finitely
+-- many.
 use Rattle.std.proofs.Common.{◌≡◌, ◌≢◌, ℕ, zero, suc, ◌+◌, ◌-◌, ◌*◌, ◌<◌, ◌≤◌, ◌⊎◌, inl, inr, Bool, true, false, List}
 use Rattle.std.proofs.Common.{[], ◌∷◌, length, get_or, Option, Some, None, refl, sym, ap, subst, ◌∙◌, arith}
 use Rattle.std.specs.Prelude.{if◌then◌else◌, Contains, flat_map, position, slice_index_or}
@@ -92,7 +92,7 @@ module _ (P : ℕ → Type 0) (decide : (k : ℕ) → Decided (P k)) where
   found_below : (n : ℕ) → Decided ((k : ℕ) × (k < n) × P k)
   found_below n = elim (look_below n) [ inl found ↦ inl found | inr none ↦ inr (λ found. none found.0 found.1 found.2) ]
 
--- where it can be looked for less, there is a least
+-- if a smaller one can be looked for, there is a least one
 descend : {X : Type 0} (P : X → Type 0) (key : X → ℕ)
     → ((c : ℕ) → ((x : X) × P x × (key x < c)) ⊎ ((x : X) → P x → c ≤ key x)) → (n : ℕ) (x : X) → P x → key x ≤ n
     → (y : X) × P y × ((z : X) → P z → key y ≤ key z)
@@ -121,7 +121,7 @@ module _ (w : Wiring) where
   Leads i j c = ((hops : List Hop) × IsPath w i hops j × (hops_cost hops < c))
       ⊎ ((hops : List Hop) → IsPath w i hops j → c ≤ hops_cost hops)
 
-  -- the same, of at least one hop
+  -- a walk as above, of at least one hop
   abbrev LeadsOn : ℕ → ℕ → ℕ → Type 0
   LeadsOn i j c = ((hops : List Hop) × (0 < length hops) × IsPath w i hops j × (hops_cost hops < c))
       ⊎ ((hops : List Hop) → 0 < length hops → IsPath w i hops j → c ≤ hops_cost hops)
@@ -346,7 +346,7 @@ module _ (w : Wiring) where
             (IsSettled-more w old hops new n h t.0 is within at t.1.1 t.1.0 (λ u here same. t.2 u (here, same)) refl),
       )
 
-  -- the same round, as it is answered
+  -- the round, as it is answered
   pub record IsAnswered (old hops : List Hop) : Type 0 where
     pub round : IsRound w hops
     pub cost : hops_cost hops ≡ hops_cost old

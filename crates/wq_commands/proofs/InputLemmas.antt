@@ -135,7 +135,7 @@ module _ (end : End) (out : List ℕ) where
   read-kept {V} read Answers =
       both-kept read Answers (λ fault. PrintsRefusal (cert_refusal fault) end out) (λ r. PrintsRefusal r end out)
 
-  -- where the other text is an assignment
+  -- if the other text is an assignment
   pub assigned-kept : (Answers : List ℕ → List ℕ → Declared → Workqueues → Type 0) (declared text : List ℕ)
       → MatchResult (declaration (take (max_declaration + 1) declared))
       (λ s. MatchResult (workqueues_of_text s.table.names s.partition (take (max_certificate + 1) text))

@@ -127,7 +127,7 @@ module _ (s : Declared) (sound : IsSound s) (a : Workqueues) (assigned : IsAssig
 
     -- ---- the one verdict
 
-    -- the same items are queued first
+    -- both queue the same items first
     same_first : (waits : List WaitArc) (one other : List ℕ) → AreFirst (declared_waits s) a waits one → AreFirst
         (declared_waits s) a waits other → one ≡ other
     same_first (x ∷ more) one other first second = first ∙ sym second

@@ -54,7 +54,7 @@ module _ (s : Declared) (sound : IsSound s) (ws : Workqueues) (assigned : IsAssi
   pub step_item-hang : All (λ (step : Step). step_item step < length s.table.names) steps
   step_item-hang = All-weaker (IsStepOf (length s.table.names)) (λ (step : Step). step_item step < length s.table.names) (λ step named. named.0) steps IsStepOf-hang
 
--- where each workqueue has a rescuer
+-- if each workqueue has a rescuer
 module _ (s : Declared) (sound : IsSound s) (a : Assignment) (assigned : IsAssignmentOf s.partition.groups a) (steps : List Step) (deadlocks : DeadlocksBy (wiring (declared_waits s) a) steps) where
   pub length-deadlock : length steps ≤ 45056
   length-deadlock = length-hang s sound (all_rescued a) assigned steps deadlocks

@@ -33,7 +33,7 @@ bare_words : (lines : List CertLine) → list_any is_bare_line lines ≡ list_an
 bare_words [] = refl
 bare_words (line ∷ lines) = ap (λ (b : Bool). is_bare line.words || b) (bare_words lines)
 
--- lines that none of these begins
+-- lines that begin with none of these words
 none_of : {X : Type 0} (f : X → List (List ℕ)) (xs : List X) (rest : List (List (List ℕ))) → ((x : X) → is_bare (f x) ≡ false) → list_any is_bare (map f xs ++ rest) ≡ list_any is_bare rest
 none_of {X} f [] rest none = refl
 none_of {X} f (x ∷ xs) rest none = ap (λ (b : Bool). b || list_any is_bare (map f xs ++ rest)) (none x) ∙ none_of f xs rest none

@@ -198,7 +198,7 @@ AllJoin-circle s circle round =
     (round.closes ∙ ap (λ (b : WaitArc). slice_index s.partition.group_of b.src)
     (sym (get_or_from_slice_get circle 0 round.first round.first round.begins))))
 
--- those of a chain follow one another
+-- the arcs of a chain follow one another
 AllJoin-chain : (s : Declared) (a : Assignment) (chain : List WaitArc) → IsLongestChain (declared_waits s) a chain →
     AllJoin (declared_waits s) (before_in_chain (map ends_of chain)) (map ends_of chain)
 AllJoin-chain s a chain longest =

@@ -45,8 +45,8 @@ abbrev pub wiring_made : Declared → Assignment → Option (List ℕ) → Wirin
 wiring_made s a None = wiring (declared_waits s) a
 wiring_made s a (Some kept) = reading (wiring (declared_waits s) a) kept
 
--- how these steps end under an assignment of a declaration is printed, in the reading that keeps these unsure flushes,
--- or of all flushes
+-- the end of these steps is printed, under this assignment, in the reading that keeps these unsure flushes, or with all
+-- flushes
 pub record ReplaysSteps (s : Declared) (a : Assignment) (kept : Option (List ℕ)) (steps : List Step) (end : End)
     (out : List ℕ) : Type 0 where
   pub run_end : RunEnd

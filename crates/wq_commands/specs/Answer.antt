@@ -21,7 +21,7 @@ use Rattle.wq_commands.specs.Declaration.{declaration}
 abbrev pub refusal_text : Refusal → List ℕ
 refusal_text r = line_text (codes "refused" ∷ decimal r.code ∷ codes "line" ∷ decimal r.line ∷ [])
 
--- a text is refused, and that is printed
+-- a text is refused, and its refusal is printed
 abbrev pub PrintsRefusal : Refusal → End → List ℕ → Type 0
 PrintsRefusal r end out = (end ≡ Refused) × (out ≡ refusal_text r)
 

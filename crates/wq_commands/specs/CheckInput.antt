@@ -1,4 +1,4 @@
--- A run of `check` or `replay`: texts are taken from readers, and answered.
+-- What `check` and `replay` read: texts are taken from readers, and answered.
 use Rattle.std.specs.Prelude.{◌≡◌, ℕ, List, Option}
 use Rattle.wq_meter.specs.Meter.{Meter}
 use Rattle.wq_cert.specs.Texts.{max_certificate}

@@ -61,8 +61,8 @@ FindsCheck s c found end out =
 abbrev pub ChecksText : Declared → List ℕ → Found (Result Yes No) → End → List ℕ → Type 0
 ChecksText s text = AnswersIn SecondText (answer_of s.table.names s.partition text) (λ c. FindsCheck s c)
 
--- these workqueues are found, and the verdict on them, which is printed: by the walk that is found, if it has unsure
--- flushes
+-- the workqueues and the verdict on them are found, and the verdict is printed: by the walk that is found, if it has
+-- unsure flushes
 pub record FindsVerdict {A : Type 0} (s : Declared) (ws : Workqueues) (found : Found (Verdict A)) (end : End)
     (out : List ℕ) : Type 0 where
   pub verdict : Verdict A
@@ -75,7 +75,7 @@ pub record FindsVerdict {A : Type 0} (s : Declared) (ws : Workqueues) (found : F
 abbrev pub JudgesText : {A : Type 0} → Declared → List ℕ → Found (Verdict A) → End → List ℕ → Type 0
 JudgesText s text = AnswersIn SecondText (workqueues_of_text s.table.names s.partition text) (λ ws. FindsVerdict s ws)
 
--- how these steps end is found, and printed
+-- the end of these steps is found, and printed
 pub record FindsEnd {A : Type 0} (s : Declared) (ws : Workqueues) (kept : Option (List ℕ)) (steps : List Step)
     (found : Found (Replayed A)) (end : End) (out : List ℕ) : Type 0 where
   pub replayed : Replayed A

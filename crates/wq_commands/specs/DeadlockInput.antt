@@ -1,4 +1,4 @@
--- A run of `deadlock`: a declaration and an assignment are taken from readers, and judged.
+-- What `deadlock` reads: a declaration and an assignment are taken from readers, and judged.
 use Rattle.std.specs.Prelude.{ℕ, List, Option}
 use Rattle.wq_meter.specs.Meter.{Meter}
 use Rattle.wq_cert.specs.Texts.{max_certificate}

@@ -22,32 +22,33 @@ use Rattle.wq_commands.specs.Declaration.{declaration}
 abbrev pub safe_text : List ℕ
 safe_text = line_text (codes "safe" ∷ [])
 
--- behind the unsure flushes of this walk, which `hang` may print, the run is printed of the reading that keeps these
+-- the unsure flushes of this walk are printed (`hang` may print it, too), and behind them the run of the reading that
+-- keeps these flushes
 abbrev pub PrintsReading : Declared → Workqueues → List Hop → List ℕ → Type 0
 PrintsReading s ws hops out =
     (soonest : List Step) × IsHangOf (declared_waits s) ws hops soonest
     × (steps : List Step) × IsHang (declared_waits (reading_with_names s (needs hops))) ws steps
     × (out ≡ reading_text s.table.names s.table.waits (needs hops) steps)
 
--- the run is printed by which workqueues hang; if some flush is unsure, behind the fewest unsure flushes that are
--- enough it is the run of the reading that keeps these: those of a walk that `hang` may print
+-- the run by which these workqueues hang is printed; if some flush is unsure, the fewest unsure flushes that are enough
+-- come first, and then the run of the reading that keeps them: they are those of a walk that `hang` may print
 abbrev pub PrintsRun : Bool → Declared → Workqueues → List ℕ → Type 0
 PrintsRun false s ws out =
     (steps : List Step) × IsHang (declared_waits s) ws steps × (out ≡ run_text s.table.names steps)
 PrintsRun true s ws out = (hops : List Hop) × PrintsReading s ws hops out
 
 -- the verdict on workqueues of a declaration's groups is printed: `safe` if no run ends stuck; else the run by which
--- they hang. It ends stuck, with each item queued once and flushing as declared. If some flush leads from a workqueue
--- that has a rescuer to one that has none, the run begins with the item of the first such flush, even if workqueues
--- wait in a circle, too. Else it begins with the items of the circle in which the workqueues wait that have a rescuer
+-- they hang. The run ends stuck, with each item queued once and flushing as declared. If some flush leads from a
+-- workqueue that has a rescuer to one that has none, the run begins with the item of the first such flush, even if
+-- workqueues wait in a circle, too. Else it begins with the items of the circle in which workqueues with a rescuer wait
 abbrev pub JudgesAssigned : Declared → Workqueues → End → List ℕ → Type 0
 JudgesAssigned s ws Good out =
     IsAssignment s.partition.groups ws.assignment × IsSafe (wiring_of (declared_waits s) ws) × (out ≡ safe_text)
 JudgesAssigned s ws Bad out = PrintsRun (has_unsure s.table.waits) s ws out
 JudgesAssigned s ws Refused out = ⊥
 
--- this verdict is printed, and beside it this walk is found: the one whose unsure flushes are printed; none if the
--- workqueues are safe, or if no flush is unsure
+-- this verdict is printed, and beside it the walk is found whose unsure flushes are printed; none if the workqueues are
+-- safe, or if no flush is unsure
 abbrev pub JudgesBy : Declared → Workqueues → Option (List Hop) → End → List ℕ → Type 0
 JudgesBy s ws (Some hops) Bad out = (has_unsure s.table.waits ≡ true) × PrintsReading s ws hops out
 JudgesBy s ws None Bad out = (has_unsure s.table.waits ≡ false) × PrintsRun false s ws out

@@ -31,8 +31,8 @@ is_of_workqueue keyword = bytes_eq keyword (codes "flushwq") || bytes_eq keyword
 abbrev pub is_unsure : List ℕ → Bool
 is_unsure keyword = bytes_eq keyword (codes "flush?") || bytes_eq keyword (codes "flushwq?")
 
--- the keyword takes so many names: one for `item`, two or more for `flush`, two for `flushwq`, `flush?` and `flushwq?`,
--- and one or more for `ordered`. No other word is a keyword
+-- the number of names that a keyword takes: one for `item`, two or more for `flush`, two for `flushwq`, `flush?` and
+-- `flushwq?`, and one or more for `ordered`. No other word is a keyword
 abbrev pub takes : List ℕ → ℕ → Bool
 takes keyword n =
     if bytes_eq keyword (codes "item") then n == 1
@@ -80,9 +80,8 @@ add_flushes t whole unsure (i ∷ items) =
           ++ targets_from (record { whole = whole; unsure = unsure }) (flush_count t.waits) items);
     })
 
--- the items after a line of these words, if it may come next: each name on it, but for
--- that of a new item, must be an item's. The words are a directive or none (`is_read`),
--- so a keyword that is neither `item` nor `ordered` is that of flushes
+-- the items after a line of these words, if it may come next: each name on it, except that of a new item, must be an
+-- item's. The words are a directive or none (`is_read`), so any keyword except `item` and `ordered` is one of flushes
 abbrev pub after_line : Items → List (List ℕ) → Option Items
 after_line t [] = Some t
 after_line t (keyword ∷ names) =
@@ -103,7 +102,7 @@ abbrev pub ordered_on : List (List ℕ) → List (List ℕ)
 ordered_on [] = []
 ordered_on (keyword ∷ names) = if bytes_eq keyword (codes "ordered") then names else []
 
--- the two names are the same, or an `ordered` line has both
+-- both names are the same, or an `ordered` line has both of them
 abbrev pub go_together : List (List (List ℕ)) → List ℕ → List ℕ → Bool
 go_together lines a b =
     bytes_eq a b
@@ -129,7 +128,7 @@ pub record Named : Type 0 where
   pub names : List (List ℕ)
   pub declared : Declaration
 
--- the items with the groups that these lines put them in
+-- the items, each with the group into which these lines put it
 abbrev pub in_groups : List (List (List ℕ)) → Items → Named
 in_groups lines t =
     let each = map (group_with lines t.names) t.names in

@@ -1,5 +1,5 @@
--- What an answer about workqueues promises, in terms of what the two texts say: of `safe`, and of a run by which they
--- hang. With unsure flushes it is a promise about all readings.
+-- What an answer about workqueues promises, in terms of what the two texts say. The answer is `safe`, or a run by which
+-- they hang. With unsure flushes it is a promise about all readings.
 use Rattle.std.specs.Prelude.{◌≡◌, ℕ, ◌<◌, ◌≤◌, List, [], length, Option, Some, Result, Ok, unwrap_or}
 use Rattle.wq_groups.specs.Declaration.{Declaration}
 use Rattle.wq_groups.specs.Partition.{Partition}
@@ -19,7 +19,7 @@ use Rattle.wq_commands.specs.DeclaredIn.{Named, declared_in}
 abbrev pub groups_in : Declaration → Partition
 groups_in d = record { group_of = d.group_of; groups = d.groups }
 
--- the texts say this: the first one what is declared, and the second one on which workqueues that is
+-- what the two texts say: what is declared, and on which workqueues it is
 pub record SayBoth (declared lanes : List ℕ) (s : Named) (ws : Workqueues) : Type 0 where
   pub declares : declared_in declared ≡ Some s
   pub assigns : workqueues_of_text s.names (groups_in s.declared) lanes ≡ Ok ws
@@ -29,13 +29,13 @@ abbrev pub AreSafeAnyway : List ℕ → List ℕ → Type 0
 AreSafeAnyway declared lanes =
     (s : Named) × (ws : Workqueues) × SayBoth declared lanes s ws × IsSafeAnyway (wiring_of s.declared ws)
 
--- the text has these steps, and says that these unsure flushes are kept; none if it has no unsure part
+-- the text has these steps, and says that these unsure flushes are kept; none, if the text has no unsure part
 abbrev pub IsRunText : Named → List ℕ → List ℕ → List Step → Type 0
 IsRunText s out kept steps =
     (part : Option (List ℕ)) × (made_of s.names s.declared.waits out ≡ Ok (part, steps)) × (kept ≡ unwrap_or part [])
 
--- the text has a run of the reading that keeps the unsure flushes that it says, of which this holds; and no reading
--- that keeps fewer hangs
+-- `Holds` of the run in the text, in the reading that keeps the unsure flushes in the text; and no reading that keeps
+-- fewer of them hangs
 pub record PrintsFewest (Holds : Wiring → List ℕ → List Step → Type 0) (declared lanes out : List ℕ) : Type 0 where
   pub s : Named
   pub ws : Workqueues

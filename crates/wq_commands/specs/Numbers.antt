@@ -16,8 +16,8 @@ use Rattle.wq_cert.specs.Texts.{cert_refusal}
 use Rattle.wq_checker.specs.declared.answer.No.{No}
 use Rattle.wq_checker.specs.Codes.{no_code}
 
--- the number of a refusal of a declaration by one of its four passes, of a refusal of a certificate, or of a `no`; to
--- run out of memory is no refusal of a text
+-- the number of a refusal of a declaration by one of its four passes, of a refusal of a certificate, or of a `no`;
+-- running out of memory isn't a refusal of a text
 pub data IsPrinted : ℕ → Type 0 where
   of_limit : (e : TextError) → IsPrinted (text_refusal e).code
   of_line : (e : DeclError) → IsPrinted (decl_refusal e).code

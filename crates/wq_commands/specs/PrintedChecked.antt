@@ -30,7 +30,7 @@ ChecksYesDeclared s out Good = ChecksYesPlan s out
 ChecksYesDeclared s out Bad = ChecksYesCircle s out
 ChecksYesDeclared s out Refused = ⊥
 
--- the same for what a text declares; of a refused text nothing is said
+-- `ChecksYesDeclared` of what a text declares; nothing is said of a text that is refused
 abbrev pub ChecksYesOf : Result Declared Refusal → List ℕ → End → Type 0
 ChecksYesOf (Ok s) out end = ChecksYesDeclared s out end
 ChecksYesOf (Err r) out end = Unit {0}

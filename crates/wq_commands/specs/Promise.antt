@@ -15,7 +15,7 @@ use Rattle.wq_commands.specs.declared.end.End.TheVariants.{Good, Bad, Refused}
 use Rattle.wq_commands.specs.DeclaredIn.{Named, declared_in}
 
 -- the arcs, each an item and a target, lead through these groups: each arc is a declared flush, its item is in a group,
--- and its target in the next one. There is one group more than there are arcs; or there are none of either
+-- and its target in the next one. There is one group more than there are arcs; or there is neither a group nor an arc
 pub record LeadThrough (d : Declaration) (arcs : List (ℕ × ℕ)) (groups : List ℕ) : Type 0 where
   pub within : All (λ g. g < d.groups) groups
   pub count : length arcs ≡ length groups - 1
@@ -33,7 +33,7 @@ pub record LeadRound (d : Declaration) (arcs : List (ℕ × ℕ)) : Type 0 where
 
 -- the bytes are the text of a plan. No run of its assignment ends stuck, and every assignment to fewer workqueues has a
 -- run that ends stuck, with each item queued once and flushing as declared. The printed arcs lead through as many
--- groups as there are workqueues, so each of these groups waits for the next
+-- groups as there are workqueues, so each of them waits for the next
 pub record KeepsPlan (names : List (List ℕ)) (d : Declaration) (out : List ℕ) : Type 0 where
   pub assignment : Assignment
   pub arcs : List (ℕ × ℕ)

@@ -35,8 +35,8 @@ abbrev pub wiring_read : Declared → Workqueues → Option (List ℕ) → Wirin
 wiring_read s ws None = wiring_of (declared_waits s) ws
 wiring_read s ws (Some kept) = reading (wiring_of (declared_waits s) ws) kept
 
--- how these steps end under an assignment of a declaration is printed, in the reading that keeps these unsure flushes,
--- or of all flushes
+-- the end of these steps is printed, under this assignment, in the reading that keeps these unsure flushes, or with all
+-- flushes
 pub record AnswersReplay (s : Declared) (ws : Workqueues) (kept : Option (List ℕ)) (steps : List Step) (end : End)
     (out : List ℕ) : Type 0 where
   pub run_end : RunEnd

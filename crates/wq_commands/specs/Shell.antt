@@ -11,23 +11,23 @@ use Rattle.wq_commands.specs.Declaration.{declaration}
 
 -- ---- an answer, and what is said of it
 
--- what is found in texts whose first is a declaration, how the command ends, and its answer: what it finds there and
--- answers, or the refusal of the declaration
+-- what is found in texts that begin with a declaration, how the command ends, and its answer: what the command answers,
+-- or the refusal of the declaration
 abbrev pub AnswersTexts : {F : Type 0} → (Declared → Given → F → End → List ℕ → Type 0) → Given → Result F Refusal
     → End → List ℕ → Type 0
 AnswersTexts Answers texts (Ok found) end out =
     (s : Declared) × (declaration texts.first ≡ Ok s) × Answers s texts found end out
 AnswersTexts Answers texts (Err r) end out = (declaration texts.first ≡ Err r) × PrintsRefusal r end out
 
--- what is said of what was found in such texts, or of the refusal of the declaration
+-- what is said of what was found in texts that begin with a declaration, or of the refusal of the declaration
 abbrev pub SaysOfTexts : {F : Type 0} → (Declared → Given → F → Option (List ℕ) → Type 0)
     → (Given → Refusal → Option (List ℕ) → Type 0) → Given → Result F Refusal → Option (List ℕ) → Type 0
 SaysOfTexts Says Refuses texts (Ok found) said =
     (s : Declared) × (declaration texts.first ≡ Ok s) × Says s texts found said
 SaysOfTexts Says Refuses texts (Err r) said = Refuses texts r said
 
--- readers had these texts; this is found in what is kept of them, and this is the answer; these bytes of it are
--- written, and this is said of what was found
+-- the readers had these texts; `found` is what was found in the kept part of them, with its answer; these bytes of the
+-- answer are written, and this is said of what was found
 pub record IsAnswered {F : Type 0} (limits : Limits) (From : Given → Type 0)
     (Answers : Given → Result F Refusal → List ℕ → Type 0) (IsWritten : List ℕ → Type 0)
     (IsTold : Given → Result F Refusal → Type 0) : Type 0 where

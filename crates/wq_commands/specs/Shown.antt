@@ -29,7 +29,7 @@ pub record ShowsPlan (s : Declared) (out : List ℕ) : Type 0 where
 
 -- the bytes keep what is promised of a circle. They are the text of its arcs with a run after them, and spell both,
 -- within the limits of a certificate; the groups along the arcs wait for each other in a circle; and the run deadlocks
--- where each group has its own workqueue
+-- if each group has its own workqueue
 pub record ShowsCircle (s : Declared) (out : List ℕ) : Type 0 where
   pub kept : KeepsCircle s.table.names (declared_waits s) out
   pub steps : List Step

@@ -1,7 +1,7 @@
 //! The answer to a declaration, built in full in memory.
 //!
-//! It takes time in the length of the text, and for a circle also the time of its
-//! run (`wq_deadlock`). It takes memory in the length of the text.
+//! A call takes time linear in the length of the text, and for a circle also the time of its run (`wq_deadlock`). It
+//! takes memory in the length of the text.
 
 ghost use Rattle.std.specs.Prelude.{◌≡◌, IfOk};
 ghost use Rattle.wq_core.specs.Wiring.{wiring, own_lanes};
@@ -49,7 +49,7 @@ fn run_of_groups<A: Allocator + Copy>(
         IsDeadlock (declared_waits declared.now) (own_lanes declared.now.partition.groups) steps.items) }
 {
     let run = circle_run(alloc, &declared.table, &declared.groups)?;
-    // `None` would say that these workqueues are safe.
+    // `None` would mean that these workqueues are safe, and they aren't.
     Ok(run.unwrap())
 }
 

@@ -1,6 +1,6 @@
 //! Arcs as they are printed: each as an item and the target of its flush.
 //!
-//! It takes time and memory in the number of arcs.
+//! A call takes time and memory linear in the number of arcs.
 
 ghost use Rattle.std.specs.Prelude.{◌≡◌, map, IfOk};
 ghost use Rattle.wq_commands.specs.Answer.{ends_of};

@@ -1,7 +1,8 @@
 //! The command `check`: from the bytes of a declaration and a certificate to the bytes of the checker's answer.
 //!
 //! The declaration is read first and the certificate next, both before either is judged. The answer is built in full
-//! before the first byte is written. It takes the time of reading the texts, of judging them and of writing the answer.
+//! before the first byte is written. A call takes the time of reading the texts, of judging them and of writing the
+//! answer.
 
 ghost use Rattle.std.specs.Prelude.{◌≡◌, ◌≢◌, ◌≤◌, ◌+◌, ◌⊎◌, ℕ, List, Err, IfOk};
 ghost use Rattle.wq_meter.specs.Meter.{count_after, LosesPrefix, WritesPrefix, WritesWhole};
@@ -52,11 +53,11 @@ impl<A: Allocator + Copy> Command<A> for CheckCommand {
 }
 
 /// Reads a declaration and then a certificate to their ends, and writes what the checker answers: `yes K`,
-/// `yes circle N` or `no ..`. Where one of the two is refused, it writes the refusal of the first that is.
+/// `yes circle N` or `no ..`. If one of the two is refused, it writes the refusal of the first that is.
 ///
 /// At most 1,048,577 bytes of the declaration and 8,388,609 of the certificate are read, in at most as many calls. The
-/// certificate isn't touched until the declaration has been read to its end. The errors are `Fault::Read`, where a read
-/// failed, `Fault::Memory`, where memory ran out, and `Fault::Write`, where a write failed or took no byte. After
+/// certificate isn't touched until the declaration has been read to its end. The errors are `Fault::Read` if a read
+/// failed, `Fault::Memory` if memory ran out, and `Fault::Write` if a write failed or took no byte. After
 /// `Fault::Write` a prefix of the answer is written, and after the others nothing.
 ///
 /// The names are hashed with `seed`. No answer depends on it.
@@ -72,10 +73,10 @@ pub fn check_cmd<D: Read, C: Read, W: Write, A: Allocator + Copy>(
         × ChecksInput D.remaining C.remaining declaration.old declaration.new certificate.old certificate.new end out
         × WritesWhole W.contents writer.old writer.new out) }
 
-    // This answer is true where it is a yes. To a plan it is `yes K`: its assignment has K workqueues and lets no run
-    // of queueings, cancellations and steps of rescuers and helpers end stuck, and every assignment to fewer workqueues
-    // has a run without helpers, with each item queued once and flushing as declared, that ends stuck. To a circle it
-    // is `yes circle N`: its N arcs go round groups, and every assignment has such a run.
+    // A yes is true. To a plan it is `yes K`: its assignment has K workqueues and lets no run of queueings,
+    // cancellations and steps of rescuers and helpers end stuck, and every assignment to fewer workqueues has a run
+    // without helpers, with each item queued once and flushing as declared, that ends stuck. To a circle it is
+    // `yes circle N`: its N arcs go round groups, and every assignment has such a run.
     ensures promised { IfOk result (λ end. (out : List ℕ)
         × KeepsYesOfInput D.remaining C.remaining declaration.old declaration.new certificate.old certificate.new end
         out

@@ -1,6 +1,6 @@
 //! The answer to a declaration and a certificate, built in full in memory.
 //!
-//! It takes the time and the memory of reading both texts and of checking.
+//! A call takes the time and the memory of reading both texts and of checking.
 
 ghost use Rattle.std.specs.Prelude.{◌≡◌, ◌<◌, ◌++◌, ◌∷◌, [], IfOk, IfErr, OnOk, length, codes, decimal, flat_map};
 ghost use Rattle.wq_text.specs.LineText.{spaced, line_text};

@@ -1,7 +1,8 @@
 //! The command `deadlock`: from the bytes of a declaration and an assignment to the bytes of the verdict on it.
 //!
 //! The declaration is read first and the assignment next, both before either is judged. The answer is built in full
-//! before the first byte is written. It takes the time of reading the texts, of the verdict and of writing the answer.
+//! before the first byte is written. A call takes the time of reading the texts, of the verdict and of writing the
+//! answer.
 
 ghost use Rattle.std.specs.Prelude.{◌≡◌, ◌≢◌, ◌≤◌, ◌+◌, ◌⊎◌, ℕ, List, Err, IfOk};
 ghost use Rattle.wq_meter.specs.Meter.{count_after, LosesPrefix, WritesPrefix, WritesWhole};
@@ -50,13 +51,12 @@ impl<A: Allocator + Copy> Command<A> for DeadlockCommand {
     }
 }
 
-/// Reads a declaration and then an assignment to their ends, and writes whether the
-/// assignment is safe: `safe`, or else the text of a run by which it deadlocks.
-/// Where one of the two is refused, it writes the refusal of the first that is.
+/// Reads a declaration and then an assignment to their ends, and writes whether the assignment is safe: `safe`, or else
+/// the text of a run by which it deadlocks. If one of the two is refused, it writes the refusal of the first that is.
 ///
 /// At most 1,048,577 bytes of the declaration and 8,388,609 of the assignment are read, in at most as many calls. The
-/// assignment isn't touched until the declaration has been read to its end. The errors are `Fault::Read`, where a read
-/// failed, `Fault::Memory`, where memory ran out, and `Fault::Write`, where a write failed or took no byte. After
+/// assignment isn't touched until the declaration has been read to its end. The errors are `Fault::Read` if a read
+/// failed, `Fault::Memory` if memory ran out, and `Fault::Write` if a write failed or took no byte. After
 /// `Fault::Write` a prefix of the answer is written, and after the others nothing.
 ///
 /// The names are hashed with `seed`. No answer depends on it.

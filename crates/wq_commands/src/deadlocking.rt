@@ -1,8 +1,8 @@
 //! The answer to a declaration and an assignment, built in full in memory.
 //!
-//! The rules are those of "Deadlocking runs" and "Unsure lines" in docs/FORMAT.md. It takes the time and the memory of
-//! reading the two texts and of the verdict, whose run has 45,056 steps at most; and if a flush is unsure, of the
-//! search for the fewest that are enough.
+//! The rules are those of "Deadlocking runs" and "Unsure lines" in docs/FORMAT.md. The answer takes the time and the
+//! memory of reading the two texts and of the verdict, whose run has 45,056 steps at most. If a flush is unsure, the
+//! search for the fewest that are enough comes on top.
 
 ghost use Rattle.std.specs.Prelude.{◌≡◌, true, false, length, IfOk, option_map};
 ghost use Rattle.wq_cert.specs.Part.{has_unsure};
@@ -32,7 +32,8 @@ use wq_text::{put, put_end};
 pub struct Verdict<A: Allocator> {
     pub workqueues: Workqueues<A>,
     pub end: End,
-    /// The waits of the walk whose unsure flushes are printed; nothing if they are safe, or if no flush is unsure.
+    /// The waits of the walk whose unsure flushes are printed; nothing if the workqueues are safe, or if no flush is
+    /// unsure.
     pub hops: Option<Vec<Hop, A>>,
 }
 
@@ -60,7 +61,7 @@ fn deadlock_text<A: Allocator + Copy>(
     run_text(alloc, assigned.table(), steps)
 }
 
-/// The deadlocking run of the reading that keeps the unsure flushes at these places; no step where it is safe.
+/// The deadlocking run of the reading that keeps the unsure flushes at these places; no step if it is safe.
 fn deadlock_of_reading<A: Allocator + Copy>(
     alloc: A,
     assigned: &Assigned<'_, '_, A>,
@@ -77,8 +78,8 @@ fn deadlock_of_reading<A: Allocator + Copy>(
     }
 }
 
-/// What is printed of workqueues of groups that declare an unsure flush: the fewest that are enough, and the
-/// deadlocking run of the reading that keeps these. What is found is the walk that needs them.
+/// What is printed if some group declares an unsure flush: the fewest unsure flushes that are enough, and the
+/// deadlocking run of the reading that keeps them. The walk that needs them is what is found.
 fn judge_unsure<A: Allocator + Copy>(
     alloc: A,
     assigned: &Assigned<'_, '_, A>,
@@ -140,8 +141,8 @@ fn print_verdict<A: Allocator + Copy>(
     }
 }
 
-/// The verdict on workqueues of the declared groups: what is printed of it, and the walk whose unsure flushes are
-/// printed, if there is one.
+/// The verdict on workqueues of the declared groups: its text, and the walk whose unsure flushes are printed, if there
+/// is one.
 fn judge_assigned<A: Allocator + Copy>(
     alloc: A,
     assigned: &Assigned<'_, '_, A>,

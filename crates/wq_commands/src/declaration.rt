@@ -1,7 +1,7 @@
-//! The four passes over a declaration text, one after the other. Those over the lines and over the items are made in
-//! one where neither finds a fault.
+//! The four passes over a declaration text, one after the other. The pass over the lines and the one over the items are
+//! made at once, if neither finds a fault.
 //!
-//! They take time in the length of the text, and memory in the number of items and flushes.
+//! The passes take time linear in the length of the text, and memory linear in the number of items and flushes.
 
 ghost use Rattle.std.specs.Prelude.{◌≡◌, Ok, Err, None, Result, IfOk, IfErr};
 ghost use Rattle.wq_text.specs.Lines.{lines_of};
@@ -30,7 +30,7 @@ pub const MAX_DECLARATION_LINE: u32 = 4096;
 /// Why a text declares nothing.
 #[derive(Clone, Copy, Debug, PartialEq, Eq)]
 pub enum Stop {
-    /// The text is refused for the fault of this number on this line. The line is 0 where no line is meant.
+    /// The text is refused for the fault of this number on this line. The line is 0 if no line is meant.
     Refused { code: u32, line: u32 },
     /// Memory ran out.
     OutOfMemory,
@@ -115,7 +115,7 @@ fn read_table<A: Allocator + Copy>(
 
 /// Reads what a text declares. The names are hashed with this seed; no answer depends on it.
 ///
-/// The error is the first fault of the first pass that has one, or `OutOfMemory`, where a growth was refused before it:
+/// The error is the first fault of the first pass that has one, or `OutOfMemory`, if a growth was refused before it:
 /// then no earlier pass has a fault.
 #[tactic(auto, using(crate::proofs::StopLemmas::ran_out_of_groups))]
 pub fn read_declaration<A: Allocator + Copy>(

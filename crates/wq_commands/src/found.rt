@@ -1,6 +1,6 @@
 //! What a command finds: the first text behind the declaration that is refused, or what the command looked for.
 //!
-//! It takes constant time.
+//! Each call takes constant time.
 
 ghost use Rattle.std.specs.Prelude.{◌≡◌, IfOk};
 ghost use Rattle.wq_commands.specs.Answer.{PrintsRefusal};
@@ -23,15 +23,15 @@ pub enum Which {
 /// What is found in the texts behind a declaration.
 #[derive(Drop)]
 pub enum Found<T> {
-    /// This text is refused, for the fault of this number on this line. The line is 0 where no line is meant.
+    /// This text is refused, for the fault of this number on this line. The line is 0 if no line is meant.
     Refused { which: Which, code: u32, line: u32 },
     /// All are read, and this is what the command looks for.
     Read(T),
 }
 
 impl<A: Allocator + Copy, T> Answered<A, Found<T>> {
-    /// The answer where this text isn't read, for this fault. The only error is out of memory (20), which the fault may
-    /// be, too.
+    /// The answer if a text can't be read, because of this fault. The only error is out of memory (20), which the fault
+    /// may be, too.
     pub fn unread(alloc: A, which: Which, fault: CertError) -> Result<Self, AllocError>
         ensures { IfOk result (λ a. IsUnread which fault a.found a.end a.text.items) }
     {

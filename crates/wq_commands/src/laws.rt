@@ -67,22 +67,21 @@ pub fn a_text_has_one_answer()
         Answers text other printed → out ≡ printed }
 {}
 
-/// A text declares what its passes make of it, and nothing where a pass finds a fault.
+/// A text declares what its passes make of it, and nothing if a pass finds a fault.
 pub fn a_text_declares_what_its_passes_make()
     ensures { (text : List ℕ) → declared_in text ≡ option_map named_of (result_ok (declaration text)) }
 {}
 
-/// An answer keeps what it promises. For a plan text: its assignment lets no run end stuck; every
-/// assignment to fewer workqueues has a run that ends stuck, with each item queued once and
-/// flushing as declared; and the printed arcs lead through as many groups as there are workqueues.
-/// For a circle text: its arcs lead round groups, and every assignment has such a run.
+/// An answer keeps its promise. A plan: its assignment lets no run end stuck; every assignment to fewer workqueues has
+/// a run that ends stuck, with each item queued once and flushing as declared; and the printed arcs lead through as
+/// many groups as there are workqueues. A circle: its arcs lead round groups, and every assignment has such a run.
 pub fn an_answer_keeps_its_promise()
     ensures { (text : List ℕ) (end : End) (out : List ℕ) → Answers text end out → KeepsPromise text end out }
 {}
 
-/// An answer shows what it promises, within the limits of a certificate: its bytes spell
-/// the plan, each flush of which falls to a workqueue with a lower number; or the circle
-/// with a run after it, which deadlocks where each group has a workqueue of its own.
+/// An answer shows what it promises, within the limits of a certificate: its bytes spell the plan, each flush of which
+/// falls to a workqueue with a lower number; or the circle with a run after it, which deadlocks if each group has a
+/// workqueue of its own.
 pub fn an_answer_shows_its_promise()
     ensures { (text : List ℕ) (end : End) (out : List ℕ) → Answers text end out → ShowsAnswer text end out }
 {}
@@ -102,10 +101,11 @@ pub fn a_printed_answer_is_checked_with_yes()
     ensures { (text out : List ℕ) (end : End) → Answers text end out → ChecksYes text out end }
 {}
 
-/// A yes that `check` prints is true. For a plan it is `yes K`, where K is the number of workqueues of the assignment
-/// that is read from the certificate: no run of this assignment ends stuck, and every assignment to fewer workqueues
-/// has a run that ends stuck, with each item queued once and flushing as declared. For a circle it is `yes circle N`,
-/// where N is the number of arcs that are read: they go round groups, and every assignment has such a run.
+/// A yes that `check` prints is true. For a plan the yes is `yes K`, where K is the number of workqueues of the
+/// assignment that is read from the certificate: no run of this assignment ends stuck, and every assignment to fewer
+/// workqueues has a run that ends stuck, with each item queued once and flushing as declared. For a circle the yes is
+/// `yes circle N`, where N is the number of arcs that are read: these go round groups, and every assignment has such a
+/// run.
 pub fn a_printed_yes_is_true()
     ensures { (text claim out : List ℕ) → Checks text claim Good out → YesIsTrue text claim out }
 {}
@@ -115,8 +115,8 @@ pub fn a_text_has_an_answer()
     ensures { (text : List ℕ) → (end : End) × (out : List ℕ) × Answers text end out }
 {}
 
-/// Texts that are too long are all refused in the same way, and the bytes up to the first one too many show it. What
-/// comes after them changes no answer.
+/// All texts that are too long are refused in the same way. The bytes up to the first one past the limit show that a
+/// text is too long: what comes after them changes no answer.
 pub fn a_long_text_is_refused_by_its_prefix()
     ensures refused { (text : List ℕ) → max_declaration < length text →
         declaration text ≡ Err (record { code = 1; line = 0 }) }
@@ -134,7 +134,8 @@ pub fn a_printed_plan_is_within_the_limits()
         All (λ (line : LineView). length line.bytes ≤ 524288) (lines_of (text_of_plan s a)) }
 {}
 
-/// The text of a circle with its run is within the same limits: there are at most 4,096 arcs and 45,056 steps.
+/// The text of a circle with its run is within the limits of a certificate: there are at most 4,096 arcs and 45,056
+/// steps.
 pub fn a_printed_circle_is_within_the_limits()
     ensures few { (text : List ℕ) (s : Declared) (circle : List WaitArc) (steps : List Step) → declaration text ≡ Ok s →
         IsWalkedCircle (group_graph (declared_waits s)) circle →
@@ -180,7 +181,7 @@ pub fn an_item_that_flushes_itself_is_a_circle()
         (codes "circle 1\narc a a\nrun 3\nqueue a\nstart 0 a\nwait 0 a\n") }
 {}
 
-/// So has the workqueue of an item that waits for the whole of it: the item itself is unfinished there.
+/// An item that flushes its own workqueue is a circle: it waits for all that is unfinished there, so for itself.
 pub fn an_item_that_flushes_its_own_workqueue_is_a_circle()
     ensures { Answers (codes "item a\nflushwq a a\n") Bad
         (codes "circle 1\narc a a\nrun 3\nqueue a\nstart 0 a\nwaitwq 0 a\n") }
@@ -197,8 +198,8 @@ pub fn a_flush_within_an_ordered_line_is_a_circle()
         (codes "circle 1\narc a b\nrun 4\nqueue a\nqueue b\nstart 0 a\nwait 0 b\n") }
 {}
 
-/// A declaration and an assignment have only one verdict: one end, and, where no flush is unsure, one text that is
-/// printed. (Where some are, several sets of them may be the fewest that are enough.)
+/// A declaration and an assignment have only one verdict: one end, and, if no flush is unsure, one text that is
+/// printed. (If some are, several sets of them may be the fewest that are enough.)
 pub fn an_assignment_has_one_verdict()
     ensures one { (declared text : List ℕ) → (end : End) × (out : List ℕ) × Judges declared text end out }
     ensures end { (declared text : List ℕ) (end other : End) (out printed : List ℕ) → Judges declared text end out →
@@ -260,11 +261,11 @@ pub fn each_command_has_one_answer<A: Allocator>()
         (λ s texts (found : Found (Replayed A)) end out. ReplaysTexts s texts.second texts.third found end out) }
 {}
 
-/// What is said changes neither the end nor the answer. Of two calls of `carry_out`, each says in its clause `answered`
-/// how it ended. If both carry out the same command, whose readers have the same texts, then they end in the same way
-/// and write the same bytes, whatever the two voices say, and whatever the two second writers do.
+/// What is said changes neither the end nor the answer. The clause `answered` of `carry_out` says how a call ended. If
+/// two calls carry out the same command, and their readers have the same texts, they end in the same way and write the
+/// same bytes, whatever their voices say and whatever their second writers do.
 ///
-/// The command is one that has one answer at most to texts that declare what these do.
+/// The command must have at most one answer to these texts.
 pub fn what_is_said_changes_no_answer<
     C: Command<A>,
     V: Voice<C, A>,
@@ -313,9 +314,9 @@ pub fn what_a_text_declares_is_a_declaration()
         length s.partition.group_of ≡ length s.table.names }
 {}
 
-/// Where each workqueue has a rescuer, what holds of the assignment holds of the workqueues: that no run ends stuck,
-/// that a run deadlocks, and how it ends. No flush leads to a workqueue without a rescuer, the wait graph is the
-/// same, and so is the run that is printed.
+/// If each workqueue has a rescuer, what holds of the assignment holds of the workqueues: that no run ends stuck, that
+/// a run deadlocks, and how it ends. No flush leads to a workqueue without a rescuer, the wait graph is the same, and
+/// so is the run that is printed.
 pub fn workqueues_that_have_rescuers_are_an_assignment()
     ensures safe { (d : Declaration) (ws : Workqueues) → ((q : ℕ) → HasRescuer (wiring_of d ws) q) →
         (IsSafe (wiring_of d ws) ↔ IsSafe (wiring d ws.assignment)) }
@@ -335,7 +336,7 @@ pub fn workqueues_that_have_rescuers_are_an_assignment()
 {}
 
 /// A text of workqueues in which no line begins with `norescuer` keeps the answers that it has as the text of an
-/// assignment: `deadlock` and `replay` say of it what is so where each workqueue has a rescuer.
+/// assignment: `deadlock` and `replay` say of it what is so if each workqueue has a rescuer.
 pub fn a_text_without_norescuer_lines_keeps_its_answers()
     ensures deadlock { (declared text : List ℕ) (end : End) (out : List ℕ) →
         list_any is_bare_line (cert_lines (lines_of text)) ≡ false →
@@ -350,7 +351,7 @@ pub fn a_printed_plan_is_judged_safe()
     ensures { (text out : List ℕ) → Answers text Good out → Judges text out Good safe_text }
 {}
 
-/// Unsafe and deadlocking are the same, also where some workqueues have no rescuer. No run ends stuck, or some run
+/// Unsafe and deadlocking are the same, even if some workqueues have no rescuer. No run ends stuck, or some run
 /// deadlocks in which each item is queued once and flushes as declared, but not both.
 pub fn unsafe_workqueues_are_deadlocking()
     ensures one { (d : Declaration) (ws : Workqueues) → IsDeclaration d → IsAssignment d.groups ws.assignment →
@@ -360,8 +361,8 @@ pub fn unsafe_workqueues_are_deadlocking()
         ws.assignment.lanes ≤ 4096 → ((¬ IsSafe (wiring_of d ws)) ↔ Deadlocks (wiring_of d ws)) }
 {}
 
-/// The steps of a run by which workqueues deadlock name items and workqueues that exist, whichever of these have a
-/// rescuer. There are at most three for each item, and two for each declared flush. So there are 45,056 at most.
+/// The steps of a run by which workqueues deadlock name items and workqueues that exist, whichever workqueues have a
+/// rescuer. There are at most three steps for each item and two for each declared flush, so 45,056 at most.
 pub fn a_deadlocking_run_of_workqueues_is_bounded()
     ensures named { (d : Declaration) (ws : Workqueues) (steps : List Step) → IsDeclaration d →
         IsAssignment d.groups ws.assignment →

@@ -1,10 +1,10 @@
 //! The commands of the program, over any reader and any writer.
 //!
 //! What the program relies on: the bytes written are the answer text to the bytes read. The commands are those of
-//! docs/FORMAT.md. Each is one function of what is declared and of the texts behind it (`PlanCommand` and its like),
-//! which finds a value. `carry_out` reads, asks and writes for all of them, and has more said of what was found. What a
-//! run reads and writes is bounded and counted. A command takes the time of reading its texts, of answering them and of
-//! writing the answer.
+//! docs/FORMAT.md. Each command (`PlanCommand`, for example) is one function of the declaration and of the texts behind
+//! it, and finds a value. `carry_out` does the reading and the writing for all of them, and lets a voice say more of
+//! what was found. What a run reads and writes is bounded and counted. A command takes the time of reading its texts,
+//! of answering them and of writing the answer.
 #![tactic(auto)]
 
 mod answer;

@@ -1,4 +1,4 @@
-//! Which texts the commands have, and how long these may be.
+//! Which texts each command reads, and how long they may be.
 
 ghost use Rattle.std.specs.Prelude.{◌≡◌};
 ghost use Rattle.wq_commands.specs.Commands.{one_or_two_texts};

@@ -49,9 +49,9 @@ impl<A: Allocator + Copy> Command<A> for PlanCommand {
 /// Reads a declaration to its end and writes its answer: the text of its plan, or that of the circle in which its
 /// groups wait, with a run that shows it, or the refusal.
 ///
-/// At most 1,048,577 bytes are read, in at most as many calls. The errors are `Fault::Read`, where a read failed,
-/// `Fault::Memory`, where memory ran out, and `Fault::Write`, where a write failed or took no byte. After
-/// `Fault::Write` a prefix of the answer is written, and after the others nothing.
+/// At most 1,048,577 bytes are read, in at most as many calls. The errors are `Fault::Read` if a read failed,
+/// `Fault::Memory` if memory ran out, and `Fault::Write` if a write failed or took no byte. After `Fault::Write` a
+/// prefix of the answer is written, and after the others nothing.
 ///
 /// The names are hashed with `seed`. No answer depends on it.
 pub fn plan_cmd<R: Read, W: Write, A: Allocator + Copy>(
@@ -73,7 +73,7 @@ pub fn plan_cmd<R: Read, W: Write, A: Allocator + Copy>(
         × WritesWhole W.contents writer.old writer.new out) }
 
     // The written bytes show it, within the limits of a certificate: they spell this plan, whose flushes all fall, or
-    // this circle with a run after it, which deadlocks where each group has its own workqueue.
+    // this circle with a run after it, which deadlocks if each group has its own workqueue.
     ensures shown { IfOk result (λ end. (out : List ℕ) × ShowsAnswerOfInput R.remaining reader.old reader.new end out
         × WritesWhole W.contents writer.old writer.new out) }
 

@@ -1,6 +1,6 @@
-//! What is printed where a text is refused.
+//! What is printed if a text is refused.
 //!
-//! It takes constant time.
+//! Each call takes constant time.
 
 ghost use Rattle.std.specs.Prelude.{◌≡◌, IfOk};
 ghost use Rattle.wq_commands.specs.Answer.{refusal_text, PrintsRefusal};

@@ -1,7 +1,7 @@
 //! The command `replay`: from the bytes of a declaration, an assignment and a run to how the run ends.
 //!
 //! The declaration is read first, then the assignment and then the run, all before any is judged. The answer is built
-//! in full before the first byte is written. It takes the time of reading the texts, of judging them and making the
+//! in full before the first byte is written. A call takes the time of reading the texts, of judging them and making the
 //! steps, and of writing the answer.
 
 ghost use Rattle.std.specs.Prelude.{◌≡◌, ◌≢◌, ◌≤◌, ◌+◌, ◌⊎◌, ℕ, List, Err, IfOk};
@@ -51,13 +51,13 @@ impl<A: Allocator + Copy> Command<A> for ReplayCommand {
     }
 }
 
-/// Reads a declaration, an assignment and a run to their ends, makes the steps of
-/// the run, and writes how it ends: `open`, `deadlock`, `stuck` or `not lawful N`.
-/// Where one of the three is refused, it writes the refusal of the first that is.
+/// Reads a declaration, an assignment and a run to their ends, makes the steps of the run, and writes how it ends:
+/// `open`, `deadlock`, `stuck` or `not lawful N`. If one of the three is refused, it writes the refusal of the first
+/// that is.
 ///
 /// At most 1,048,577 bytes of the declaration and 8,388,609 of each of the others are read, in at most as many calls.
-/// Each isn't touched until those before it have been read to their ends. The errors are `Fault::Read`, where a read
-/// failed, `Fault::Memory`, where memory ran out, and `Fault::Write`, where a write failed or took no byte. After
+/// No text is touched until the ones before it have been read to their ends. The errors are `Fault::Read` if a read
+/// failed, `Fault::Memory` if memory ran out, and `Fault::Write` if a write failed or took no byte. After
 /// `Fault::Write` a prefix of the answer is written, and after the others nothing.
 ///
 /// The names are hashed with `seed`. No answer depends on it.

@@ -1,6 +1,6 @@
 //! The answer to a declaration, an assignment and a run, built in full in memory.
 //!
-//! It takes the time and the memory of reading the three texts and of making the steps.
+//! A call takes the time and the memory of reading the three texts and of making the steps.
 
 ghost use Rattle.std.specs.Prelude.{◌≡◌, ◌∷◌, [], ◌<◌, IfOk, length, codes, decimal, option_map};
 ghost use Rattle.wq_core.specs.Workqueues.{wiring_of};
@@ -25,7 +25,7 @@ use wq_text::{put, put_end, put_number};
 #[derive(Drop)]
 pub struct Replayed<A: Allocator> {
     pub workqueues: Workqueues<A>,
-    /// The places of the unsure flushes of the reading in which the steps were made; nothing where all flushes count.
+    /// The places of the unsure flushes of the reading in which the steps were made; nothing if all flushes count.
     pub kept: Option<Vec<u32, A>>,
     pub steps: Vec<Step, A>,
     pub end: RunEnd,
@@ -64,7 +64,7 @@ fn replay_text<A: Allocator + Copy>(alloc: A, end: RunEnd) -> Result<Vec<u8, A>,
     }
 }
 
-/// Which end of the program a run's end is: good where the run isn't stuck.
+/// How the program ends after a run that ends in this way: well, if the run isn't stuck.
 fn replay_end(end: RunEnd) -> End
     ensures { result ≡ replay_end end }
 {
@@ -101,7 +101,7 @@ fn replay_run<A: Allocator + Copy>(
     })
 }
 
-/// How these steps end on workqueues of the declared groups.
+/// How these steps end on these workqueues of the declared groups.
 fn end_of_steps<A: Allocator + Copy>(
     alloc: A,
     assigned: &Assigned<'_, '_, A>,
@@ -121,7 +121,7 @@ fn end_of_steps<A: Allocator + Copy>(
 }
 
 /// How these steps end on workqueues of the declared groups, in the reading that keeps the unsure flushes at these
-/// places, or of all flushes.
+/// places, or with all flushes.
 fn end_in_reading<A: Allocator + Copy>(
     alloc: A,
     declared: &Declaration<'_, A>,

@@ -65,7 +65,7 @@ pub trait Finds<A: Allocator> {
     // how many texts it has, and how long they may be
     ghost limits: { Self → Limits };
 
-    // of this declaration and these texts this is found; so it ends, with this answer
+    // from this declaration and these texts this is found, with this end and this answer
     ghost answers: { Self → Declared → Given → Self.Found → End → List ℕ → Type 0 };
 }
 
@@ -75,7 +75,7 @@ pub trait Command<A: Allocator>: Finds<A> {
     fn limits(&self) -> Limits
         ensures { result ≡ Self.limits self.now };
 
-    /// What it finds, how it ends, and the bytes of its answer, if these texts begin with this declaration.
+    /// What the command finds, how it ends, and the bytes of its answer, if these texts begin with this declaration.
     ///
     /// The only error is out of memory (20).
     fn answer(
@@ -176,7 +176,7 @@ impl<C: Finds<A>, A: Allocator> Voice<C, A> for Silent {
     }
 }
 
-/// Writes what there is to be said, if memory for it sufficed. Where a write fails, no more is said.
+/// Writes what there is to be said, if there was memory for it. If a write fails, nothing more is written.
 pub fn tell<E: Write, A: Allocator>(
     said: Result<Option<Vec<u8, A>>, AllocError>,
     teller: &mut Metered<E>,
@@ -274,7 +274,7 @@ pub fn respond_refused<V: SaysRefusal<A>, W: Write, E: Write, A: Allocator + Cop
     Ok(end)
 }
 
-/// Answers these texts, writes the answer, and then says what there is to be said.
+/// Answers these texts and writes the answer, and then what there is to be said.
 fn respond<C: Command<A>, V: Voice<C, A>, W: Write, E: Write, A: Allocator + Copy>(
     alloc: A,
     seed: u64,
@@ -317,15 +317,14 @@ fn respond<C: Command<A>, V: Voice<C, A>, W: Write, E: Write, A: Allocator + Cop
 /// Carries out a command: reads its texts to their ends, asks it, writes its answer, and then says what there is to be
 /// said.
 ///
-/// Each text is read only after those before it, and at most to the first byte past its limit, in at
-/// most as many calls. A text that the command doesn't have isn't asked for. All texts are read before
-/// the command is asked, and the answer is whole before its first byte is written. The errors are
-/// `Fault::Read`, where a read failed, `Fault::Memory`, where memory for a text or for the answer ran out,
-/// and `Fault::Write`, where a write of the answer failed or took no byte. After `Fault::Write` a prefix of
-/// the answer is written, and after the others nothing.
+/// Texts are read one after the other, each at most to the first byte past its limit, in at most as many calls. A text
+/// that the command doesn't have isn't asked for. All texts are read before the command is asked, and the answer is
+/// whole before its first byte is written. The errors are `Fault::Read` if a read failed, `Fault::Memory` if memory for
+/// a text or for the answer ran out, and `Fault::Write` if a write of the answer failed or took no byte. After
+/// `Fault::Write` a prefix of the answer is written, and after the others nothing.
 ///
-/// Something is said only after the whole answer is written. Where memory for it runs out, nothing is said, and where a
-/// write of it fails, no more. Neither changes the answer or the end.
+/// Something is said only after the whole answer is written. If memory for it runs out, nothing is said, and if a write
+/// of it fails, no more. Neither changes the answer or the end.
 ///
 /// The names are hashed with `seed`. No answer depends on it.
 pub fn carry_out<

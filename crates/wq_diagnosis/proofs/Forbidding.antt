@@ -1,4 +1,4 @@
--- Reasons why a step isn't lawful: they rule it out; and where none holds it is lawful.
+-- Reasons why a step isn't lawful: they rule it out, and if none holds, it is lawful.
 use Rattle.std.proofs.Common.{◌≡◌, ℕ, zero, suc, ◌<◌, ◌≤◌, Bool, true, false, List, [], ◌∷◌, length, Some, None, refl, sym, ap, subst, ◌∙◌, arith}
 use Rattle.std.specs.Prelude.{cond, find, not, slice_get}
 use Rattle.wq_items.specs.Table.{ItemWaitsBy}

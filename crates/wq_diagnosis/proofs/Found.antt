@@ -1,4 +1,4 @@
--- The first step that isn't lawful, where the steps are made on a machine.
+-- The first step that isn't lawful, if the steps are made on a machine.
 use Rattle.std.proofs.Common.{◌≡◌, ℕ, zero, suc, ◌+◌, ◌-◌, ◌<◌, ◌≤◌, List, [], ◌∷◌, length, take, Some, Ok, refl, ap, subst, arith}
 use Rattle.std.specs.Prelude.{slice_get}
 use Rattle.std.specs.List.{All}
@@ -98,7 +98,7 @@ module _ (old new : Machine) (steps : List Step) (k : ℕ) (empty : old.state �
         let next : new.state.next ≤ length (take k steps) = omega (arith, ap (λ (s : State). s.next) leaves, next-after old.wiring (empty_state old.wiring) (take k steps)) in
         omega (arith, full, next, few_taken k steps, few, within)
 
--- where all are made, none is the first that isn't lawful
+-- if all steps are made, none is the first that isn't lawful
 pub none_first : (old new : Machine) (steps : List Step) → old.state ≡ empty_state old.wiring → AreDone old steps new
     → (n : ℕ) → ¬ IsFirstUnlawful old.wiring steps n
 none_first old new steps empty done n is =

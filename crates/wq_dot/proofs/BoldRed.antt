@@ -63,7 +63,7 @@ module _ (d : Declaration) (ws : Workqueues) (declaration : IsDeclaration d) (as
 
   -- ---- a walk round
 
-  -- the same lane, or one that leads to the other
+  -- the two lanes are the same, or one leads to the other
   abbrev AreNear : ℕ → ℕ → Type 0
   AreNear p q = (p ≡ q) ⊎ Leads R p q
 
@@ -92,7 +92,7 @@ module _ (d : Declaration) (ws : Workqueues) (declaration : IsDeclaration d) (as
   path-near i (h ∷ hops) j (is, hop, on, path) rescuer =
       near-trans (lane i) (lane h.next) (lane j) (inr (subst (λ (x : ℕ). Leads R (lane x) (lane h.next)) is (hop-leads h hops j hop on path rescuer))) (path-near h.next hops j path rescuer)
 
-  -- where the end leads back to what comes first, each target leads back to its item
+  -- if the end of a path leads back to its beginning, each target leads back to its item
   path-back : (i : ℕ) (hops : List Hop) (j : ℕ) → IsPath w i hops j → HasRescuer w (lane j) → AreNear (lane j) (lane i) → All (λ (h : Hop). IsHop w h × Leads R (lane h.flush.item) (lane h.item)) hops
   path-back i [] j is rescuer back = λ k e within. absurd (omega (arith, within))
   path-back i (h ∷ hops) j (is, hop, on, path) rescuer back =

@@ -1,4 +1,4 @@
--- Lines of a drawing, counted: those of the items, and the arrows.
+-- Lines of a drawing, counted: the lines of items, and the arrows.
 use Rattle.std.proofs.Common.{◌≡◌, ℕ, ◌+◌, ◌<◌, ◌==◌, Bool, false, cond, inl, inr, List, [], ◌∷◌, ◌++◌, length, map, get_or, refl, sym, ap, ◌∙◌, arith}
 use Rattle.std.specs.Prelude.{bytes_eq, codes, decimal, flat_map, slice_index, slice_index_or}
 use Rattle.std.specs.List.{All, count_by, sum_by, range_with_len}
@@ -39,7 +39,8 @@ sum_by-ones (x ∷ xs) = omega (arith, sum_by-cons (λ y. 1) x xs, sum_by-ones x
 abbrev one_if : Bool → ℕ
 one_if b = cond b 1 0
 
--- ---- a test of lines that tells items: of the lines of a workqueue it passes those of the items that pass another test
+-- ---- a test of lines that stands for a test of items: of the lines of a workqueue, exactly the lines of items that
+-- pass the other test pass it
 
 record TellsItems (p : List ℕ → Bool) (names : List (List ℕ)) (s : ℕ → Bool) : Type 0 where
   single : (j : ℕ) → p (single_line names j) ≡ s j

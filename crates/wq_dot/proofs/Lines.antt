@@ -16,25 +16,25 @@ text_of-append before lines = flat_map-append ended before lines
 pub text_of-push : (out : List ℕ) (before lines : List (List ℕ)) → (out ++ text_of before) ++ text_of lines ≡ out ++ text_of (before ++ lines)
 text_of-push out before lines = append_assoc out (text_of before) (text_of lines) ∙ ap (λ (l : List ℕ). out ++ l) (sym (text_of-append before lines))
 
--- the lines of each element of a list: those of one more
+-- the lines of each element of a list, with one more element
 module _ {X : Type 0} (lines : X → List (List ℕ)) where
   pub text_of-more : (out : List ℕ) (xs : List X) (x : X) → (out ++ text_of (flat_map lines xs)) ++ text_of (lines x) ≡ out ++ text_of (flat_map lines (xs ++ (x ∷ [])))
   text_of-more out xs x =
       text_of-push out (flat_map lines xs) (lines x)
       ∙ ap (λ (l : List (List ℕ)). out ++ text_of l) (ap (λ (l : List (List ℕ)). flat_map lines xs ++ l) (sym (append-nil (lines x))) ∙ sym (flat_map-append lines xs (x ∷ [])))
 
-  -- those of the next element
+  -- the lines of the next element
   pub text_of-next : (out now new : List ℕ) (xs : List X) (k : ℕ) (x : X) → k < length xs → x ≡ get_or xs k x → now ≡ out ++ text_of (flat_map lines (take k xs)) → new ≡ now ++ text_of (lines x)
       → new ≡ out ++ text_of (flat_map lines (take (k + 1) xs))
   text_of-next out now new xs k x within is so_far put =
       put ∙ ap (λ (o : List ℕ). o ++ text_of (lines x)) so_far ∙ text_of-more out (take k xs) x
       ∙ ap (λ (l : List X). out ++ text_of (flat_map lines l)) (ap (λ (y : X). take k xs ++ (y ∷ [])) is ∙ sym (take_more xs k x within))
 
-  -- those of all
+  -- the lines of all elements
   pub text_of-all : (out now : List ℕ) (xs : List X) (k : ℕ) → length xs ≤ k → now ≡ out ++ text_of (flat_map lines (take k xs)) → now ≡ out ++ text_of (flat_map lines xs)
   text_of-all out now xs k all so_far = so_far ∙ ap (λ (l : List X). out ++ text_of (flat_map lines l)) (take_all k xs all)
 
--- a box: two lines, those of what is in it, and its end
+-- a box: two lines, the lines of its contents, and its end
 pub box_closed : (out first second last : List ℕ) (lines : List (List ℕ)) (now full new : List ℕ) → now ≡ out ++ (ended first ++ ended second) → full ≡ now ++ text_of lines → new ≡ full ++ ended last
     → new ≡ out ++ text_of (first ∷ second ∷ (lines ++ (last ∷ [])))
 box_closed out first second last lines now full new opened filled closed =

@@ -51,7 +51,7 @@ module _ {X : Type 0} (place : X → ℕ) (look : FlushLook) where
         ∙ sym (ap (λ (b : Bool). cond (b || has_place xs p) look (get_or looks p Plain)) (ne_eqb (place x) p other))
   ]
 
-  -- those of some, and then those of others
+  -- the marks of some elements, and then of others
   marks-append : (looks : List FlushLook) (one other : List X) → marks looks (one ++ other) ≡ marks (marks looks one) other
   marks-append looks [] other = refl
   marks-append looks (x ∷ one) other = marks-append (set looks (place x) look) one other

@@ -66,7 +66,7 @@ module _ (s : Declared) (comments : List (List ℕ)) where
 
 -- ---- one end, and one text for the same waits
 
--- the ends of two answers are the same, and so are the texts if the waits are
+-- two answers have the same end, and, if they have the same waits, the same text
 abbrev AreOne : List Hop → List Hop → End → End → List ℕ → List ℕ → Type 0
 AreOne hops others end other out printed = (end ≡ other) × (hops ≡ others → out ≡ printed)
 

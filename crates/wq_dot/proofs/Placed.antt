@@ -1,4 +1,4 @@
--- Places: the flush of each arc of a chain, or of components, is one of those that are declared, and so is that of each wait of a walk.
+-- Places: the flush of each arc of a chain, or of components, is declared, and so is the flush of each wait of a walk.
 use Rattle.std.proofs.Common.{ℕ, ◌<◌, ◌==◌, not, Bool, inl, inr, List, [], ◌∷◌, length, map, get_or, refl, sym, subst, arith}
 use Rattle.std.specs.List.{All, range_with_len}
 use Rattle.std.proofs.lemmas.List.Elements.{All-cons, All-filter, All-map, Contains-get_or}

@@ -34,7 +34,7 @@ pub was_new : (there is_new : Bool) → is_new ≡ not there → is_new ≡ true
 was_new false is_new is new = refl
 was_new true is_new is new = absurd (let never : false ≡ true = sym is ∙ new in cc)
 
--- an empty set has those that stand at least once, or twice, among none
+-- an empty set has all names that occur at least once, or twice, in an empty list
 pub has_none : (s : BTreeSet (Bor (List ℕ))) → IsEmpty s → (q : Bor (List ℕ)) → contains in_order s q ≡ false
 has_none s empty q = ap (list_any (is_at (in_order q))) empty
 
@@ -50,7 +50,7 @@ module _ (names : List (Bor (List ℕ))) (k : ℕ) (x : Bor (List ℕ)) (within 
   is_it : (q : Bor (List ℕ)) → is_eq (slice_cmp nat_cmp x.now q.now) ≡ bytes_eq q.now x.now
   is_it q = is_eq-slice_cmp x.now q.now ∙ nat_list_eq_equiv.symm x.now q.now
 
-  -- it is put into the set of those that stand there
+  -- a name is put into the set of the names that occur
   pub seen_more : (s n : BTreeSet (Bor (List ℕ))) → Updates in_order s n x true → HasThose 1 (take k names) s → HasThose 1 (take (k + 1) names) n
   seen_more s n updates has q = elim (cases_Bool (bytes_eq q.now x.now)) [
     | inl same ↦
@@ -64,7 +64,7 @@ module _ (names : List (Bor (List ℕ))) (k : ℕ) (x : Bor (List ℕ)) (within 
         ∙ ap (nat_le 1) (sym (as_often q.now other))
   ]
 
-  -- it stood there before, and is put into the set of those that stand there twice
+  -- a name that occurred before is put into the set of the names that occur twice
   pub shared_more : (s n : BTreeSet (Bor (List ℕ))) → Updates in_order s n x true → (seen : BTreeSet (Bor (List ℕ))) → HasThose 1 (take k names) seen → contains in_order seen x ≡ true → HasThose 2 (take k names) s → HasThose 2 (take (k + 1) names) n
   shared_more s n updates seen once there has q = elim (cases_Bool (bytes_eq q.now x.now)) [
     | inl same ↦

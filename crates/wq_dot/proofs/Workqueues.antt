@@ -9,7 +9,7 @@ use Rattle.wq_items.proofs.Lists.{range_with_len-below}
 use Rattle.wq_groups.specs.Assignment.{Assignment, group_lane}
 use Rattle.wq_dot.specs.Drawing.{groups_on}
 
--- those on a workqueue are its bucket
+-- the groups on a workqueue are its bucket
 pub groups_on-bucket : (a : Assignment) (lanes : List ℕ) (buckets : List (List ℕ)) (q : ℕ) (own : List ℕ) → lanes ≡ a.lane_of_group → buckets ≡ buckets_of lanes a.lanes → q < a.lanes → own ≡ get_or buckets q [] → own ≡ groups_on a q
 groups_on-bucket a lanes buckets q own are made below is =
     is

@@ -129,7 +129,7 @@ circles_title hanging leading bare red bold unsure =
 
 -- ---- drawings
 
--- how the flushes of what is declared look: those of these arcs have this look, the others are plain
+-- how the flushes of what is declared look: the flushes of these arcs have this look, the others are plain
 abbrev pub declared_looks : Declared → FlushLook → List WaitArc → List FlushLook
 declared_looks s look arcs = looks_of (flush_count s.table.waits) look arcs
 
@@ -152,19 +152,19 @@ pub record DrawsPlan (s : Declared) (comments : List (List ℕ)) (out : List ℕ
 abbrev pub hanging_arcs : Declared → Workqueues → List (List WaitArc) → List WaitArc
 hanging_arcs s ws components = all_arcs components ++ bare_waits (declared_waits s) ws
 
--- these are the waits of a shortest run of the workqueues that ends stuck, in the walk whose run it is; none if no run
--- ends stuck
+-- these are the waits of a shortest run of the workqueues that ends stuck, in the walk that has this run; none if no
+-- run ends stuck
 abbrev pub AreShortest : Declaration → Workqueues → List Hop → Type 0
 AreShortest d ws hops = (IsSafe (wiring_of d ws) × (hops ≡ [])) ⊎ ((steps : List Step) × IsHangOf d ws hops steps)
 
--- how the flushes of what is declared look: those of these waits are bold red; of the others, those of these arcs are
--- red
+-- how the flushes of what is declared look: the flushes of these waits are bold red; of the others, the flushes of
+-- these arcs are red
 abbrev pub hanging_looks : Declared → List Hop → List WaitArc → List FlushLook
 hanging_looks s hops arcs = red_looks_of (flush_count s.table.waits) hops arcs
 
 -- workqueues with these names are drawn: the flushes on a circle are red, and so are those that lead to a workqueue
--- without a rescuer, and if there are any, this is what hangs; bold red are those of these waits, which are the waits
--- of a shortest run that ends stuck
+-- without a rescuer, and if there are any, this is what hangs; the flushes of `hops`, which are the waits of a shortest
+-- run that ends stuck, are bold red
 pub record DrawsCircles (s : Declared) (comments : List (List ℕ)) (ws : Workqueues) (called : List (List ℕ))
     (hanging : List ℕ) (hops : List Hop) (out : List ℕ) : Type 0 where
   pub components : List (List WaitArc)
@@ -253,7 +253,7 @@ abbrev pub DrawsTexts : {A : Type 0} → Bool → Declared → Given → Found (
 DrawsTexts assigned s texts found end out =
     declaration texts.first ≡ Ok s → DrawsCommented assigned s (comments_of texts.first) texts found end out
 
--- if a drawing is found, its bold red flushes are those of these waits
+-- if a drawing is found, its bold red flushes are the flushes of these waits
 abbrev pub IsFor : {A : Type 0} → List Hop → Found (Drawn A) → Type 0
 IsFor hops (Read drawn) = drawn.waits.items ≡ hops
 IsFor hops (Refused which code line) = Unit {0}

@@ -72,7 +72,7 @@ frame_line name shared bare q =
     ++ codes "]; \"" ++ numbered q ++ codes "\" [" ++ label_text name shared bare q
     ++ codes "shape=plaintext, style=\"\", fontsize=14];"
 
--- workqueue q with this name and these groups: its three lines, with those of the groups before the third one
+-- workqueue q with this name and these groups: its three lines, with the lines of the groups before the third one
 abbrev pub box_lines : List (List ℕ) → List ℕ → List ℕ → Bool → Bool → ℕ → List ℕ → List (List ℕ)
 box_lines names group_of name shared bare q own =
     (codes "  subgraph \"cluster wq " ++ decimal q ++ codes "\" {")

@@ -1,5 +1,5 @@
--- How the flushes of a drawing look: those of some arcs have one look, those of some waits another, and the others are
--- plain.
+-- How the flushes of a drawing look: the flushes of some arcs have one look, the flushes of some waits another, and all
+-- others are plain.
 use Rattle.std.specs.Prelude.{ℕ, ◌<◌, ◌==◌, Bool, true, false, List, map, flat_map, fold, cond, slice_set}
 use Rattle.std.specs.List.{All, count_by, list_any, range_with_len}
 use Rattle.wq_graph.specs.declared.arc.WaitArc.{WaitArc}

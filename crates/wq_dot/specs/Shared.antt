@@ -6,7 +6,7 @@ use Rattle.std.specs.Cmp.Lexicographic.{slice_cmp}
 use Rattle.std.specs.BTreeSet.{BTreeSet, contains}
 use Rattle.wq_dot.specs.Labels.{is_shared}
 
--- names are compared byte by byte, and the set has exactly those that occur more than once among these
+-- names are compared byte by byte, and the set has exactly the names that occur more than once in the list
 abbrev pub HasShared : List (List ℕ) → BTreeSet (Bor (List ℕ)) → Type 0
 HasShared called names =
     (name : Bor (List ℕ)) → contains (λ x y. slice_cmp nat_cmp x.now y.now) names name ≡ is_shared called name.now

@@ -1,7 +1,7 @@
 //! The waits of a shortest run that ends stuck.
 //!
-//! They are those of "The command `hang`" in docs/FORMAT.md: the waits of a circular wait, or the one that leads to a
-//! workqueue without a rescuer. It takes the time and the memory of the search for them.
+//! The waits are those of "The command `hang`" in docs/FORMAT.md: the waits of a circular wait, or the one wait that
+//! leads to a workqueue without a rescuer. It takes the time and the memory of the search for them.
 
 ghost use Rattle.std.specs.Prelude.{IfOk};
 ghost use Rattle.wq_groups.specs.DeclaredGroups.{declared_waits};

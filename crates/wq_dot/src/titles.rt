@@ -1,6 +1,7 @@
 //! The titles of drawings: what is drawn, in words, and the legend of the marks.
 //!
-//! They are those of "The command `dot`" in docs/FORMAT.md. Making a title takes time and memory linear in its length.
+//! The titles are those of "The command `dot`" in docs/FORMAT.md. Making a title takes time and memory linear in its
+//! length.
 
 ghost use Rattle.std.specs.Prelude.{◌≡◌, ◌==◌, ◌++◌, [], codes, cond, IfOk, OnOk};
 ghost use Rattle.wq_dot.specs.Dotting.{awaited, bold_legend, bold_text, circles_title, counted, dashed_legend};

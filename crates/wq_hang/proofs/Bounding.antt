@@ -143,3 +143,19 @@ bounds-more w on lanes found new n cost size are one is q i below there = by (ca
         let at : slice_index new q ≡ slice_index found q =
         ap (λ (l : List ℕ). get_or l q 0) is ∙ get_or_append_left found (cost ∷ []) 0 q (omega (arith, before, size)) in
         subst (IsBelowEach w lanes i) (sym at) (are q i before there)
+
+-- bounds that serve searches from each of these items
+pub record ServeAll (w : Wiring) (few bounds : List ℕ) : Type 0 where
+  pub len : length bounds ≡ w.lanes
+  pub serve : (i : ℕ) → Contains few i → HasRescuer w (lane_of w i) → AreBounds w bounds i
+
+pub ServeAll-made : (w : Wiring) (few bounds : List ℕ) → length bounds ≡ w.lanes
+    → ((i : ℕ) → Contains few i → HasRescuer w (lane_of w i) → AreBounds w bounds i) → ServeAll w few bounds
+ServeAll-made w few bounds len serve = record { len = len; serve = serve }
+
+pub ServeAll-none : (w : Wiring) (few bounds : List ℕ) (n : ℕ) → n ≡ w.lanes → bounds ≡ replicate n 0
+    → ServeAll w few bounds
+ServeAll-none w few bounds n lanes is = record {
+  len = ap (λ (l : List ℕ). length l) is ∙ length-replicate {A = ℕ} n 0 ∙ lanes;
+  serve = λ i there rescuer. AreBounds-none w bounds n i is;
+}

@@ -154,7 +154,9 @@ pub(crate) fn least_round<A: Allocator + Copy>(
                 are_made = true;
             }
             let first = ItemId::new(*i as u16);
-            if let Some((cost, hops)) = better_round(alloc, waits, on, &bounds, search, first, least)? {
+            if let Some((cost, hops)) = better_round(
+                alloc, waits, on, &bounds, search, first, least,
+            )? {
                 least = cost;
                 found = Some(hops);
             }

@@ -281,7 +281,7 @@ impl<A: Allocator + Copy> Search<A> {
         Ok(())
     }
 
-    /// From how many items all searches have gone on.
+    /// How often all searches have gone on.
     pub(crate) fn gone_on(&self) -> usize {
         self.gone_on
     }
@@ -348,6 +348,7 @@ impl<A: Allocator + Copy> Search<A> {
         ensures near_unsure { IfNone result (length self.old.near_unsure ≡ 0) }
         ensures far_unsure { IfNone result (length self.old.far_unsure ≡ 0) }
     {
+        self.gone_on = self.gone_on.saturating_add(1);
         let near = self.comes_first(&self.near, &self.far);
         if self.near_unsure.is_empty() && self.far_unsure.is_empty() {
             return if near {
@@ -386,7 +387,6 @@ pub(crate) fn search_from<A: Allocator + Copy>(
     search.begin(waits.items(), waits.lanes(), limit)?;
     search.expand(waits, on, bounds, first, first, 0)?;
     while let Some(item) = search.take() {
-        search.gone_on = search.gone_on.saturating_add(1);
         let cost = search.cost(item);
         search.expand(waits, on, bounds, first, item, cost)?;
     }

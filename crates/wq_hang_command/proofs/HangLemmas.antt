@@ -52,7 +52,7 @@ needs-help w (Finish q i) is = absurd is
 
 -- ---- without unsure flushes
 
--- all of these flushes are kept, whatever the reading is
+-- sure flushes are kept in every reading
 sure_kept : (ts : List Target) → list_any (λ (t : Target). t.unsure) ts ≡ false → kept_of [] ts ≡ ts
 sure_kept [] none = refl
 sure_kept (t ∷ ts) none = by t.unsure none (sure_kept ts)

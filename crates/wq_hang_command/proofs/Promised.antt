@@ -48,7 +48,7 @@ use Rattle.wq_commands.proofs.DeclaredLemmas.{declared_in-declaration}
 use Rattle.wq_hang_command.specs.Hanging.{Hangs, HangsAssigned}
 use Rattle.wq_hang_command.proofs.HangLemmas.{made_of-shortest, made_of-sure, needs-none}
 
--- an answer that keeps what it promises where it is `safe`, and where it is a run
+-- an answer that keeps its promise in both cases, `safe` and a run
 pub record KeepsBoth (Holds : Wiring → List ℕ → List Step → Type 0) (declared lanes : List ℕ) (end : End)
     (out : List ℕ) : Type 0 where
   pub safe : end ≡ Good → (s : Named) × (ws : Workqueues) × SayBoth declared lanes s ws
@@ -93,7 +93,7 @@ module _ (Holds : Wiring → List ℕ → List Step → Type 0) (declared lanes 
       };
     }
 
-  -- whatever the texts are: what holds of those that are read is enough
+  -- for any texts: it is enough that the promise is kept for texts that are read
   module _ (Assigned : Declared → Workqueues → End → List ℕ → Type 0)
       (each : (s : Declared) → declaration declared ≡ Ok s → IsSound s → (ws : Workqueues)
       → workqueues_of_text s.table.names s.partition lanes ≡ Ok ws → AreWorkqueuesOf s.partition.groups ws

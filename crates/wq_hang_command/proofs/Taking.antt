@@ -51,9 +51,9 @@ hang-kept {A} texts found end out h =
     (AnswersTexts-match (λ s t (f : Found (Hanging A)) e o. HangsText s t.second f e o) (λ s. HangsDeclared s text)
     (kept two_texts texts) found end out (λ s f. HangsText-declared s text f end out) h)
 
--- ---- what was found is told of
+-- ---- what is said of what was found
 
--- these are the workqueues, and this is the answer to them
+-- the workqueues that were found are those of the text, and the answer is the one to them
 pub HangsText-read : {A : Type 0} (s : Declared) (text : List ℕ) (h : Hanging A) (end : End) (out : List ℕ)
     → HangsText s text (Read h) end out
     → (workqueues_of_text s.table.names s.partition text ≡ Ok h.workqueues)

@@ -23,9 +23,9 @@ use Rattle.wq_commands.specs.Declaration.{declaration}
 use Rattle.wq_commands.specs.Found.{AnswersIn}
 use Rattle.wq_hang_command.specs.declared.hanging.Hanging.{Hanging}
 
--- the steps are printed of a shortest run of these workqueues that ends stuck: of the reading that keeps the fewest
--- unsure flushes, which are printed, too, if the declaration has any. It is the run of a walk, and where that costs as
--- much as a flush that leads to a bare lane, of the first such flush
+-- the steps of a shortest run that ends stuck on these workqueues, in the reading that keeps the fewest unsure flushes.
+-- These are printed, too, if the declaration has any. The run is that of a walk; if a flush that leads to a bare lane
+-- costs as little, it is the run of the first such flush
 pub record PrintsHang (s : Declared) (ws : Workqueues) (out : List ℕ) : Type 0 where
   pub steps : List Step
   pub hops : List Hop
@@ -61,7 +61,7 @@ PrintsAnswer s answer.Safe end out = (end ≡ Good) × (out ≡ safe_text)
 PrintsAnswer s (answer.Hang hops steps) end out =
     (end ≡ Bad) × (out ≡ reading_text s.table.names s.table.waits (needs hops.items) steps.items)
 
--- these workqueues are found, and how they hang soonest: the waits of a walk, and its run; and this run is printed
+-- the workqueues are found, and how they hang soonest: the waits of a walk, and its run, which is printed
 pub record FindsHang {A : Type 0} (s : Declared) (ws : Workqueues) (found : Found (Hanging A)) (end : End)
     (out : List ℕ) : Type 0 where
   pub hanging : Hanging A

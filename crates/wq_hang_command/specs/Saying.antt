@@ -13,8 +13,8 @@ use Rattle.wq_voice.specs.Waits.{words_of}
 use Rattle.wq_voice.specs.declared.waits.Wording.TheVariants.{OnWorkqueues}
 use Rattle.wq_hang_command.specs.declared.hanging.Hanging.{Hanging}
 
--- of workqueues with this text: beside `safe` which items are on workqueues without a rescuer; beside a run the waits
--- of the walk whose run it is; and beside both whether unsure flushes matter
+-- what is said of workqueues with this text: beside `safe`, which items are on workqueues without a rescuer; beside a
+-- run, the waits of its walk; and beside both, whether unsure flushes matter
 abbrev pub SaysHang : {A : Type 0} → List ℕ → List ℕ → List ℕ → Declared → Workqueues → Answer A → Option (List ℕ)
     → Type 0
 SaysHang first second lanes s ws Safe said = NotesSafe first second lanes s ws said
@@ -22,7 +22,7 @@ SaysHang first second lanes s ws (Hang hops steps) said =
     (text : List ℕ) × (said ≡ Some text)
     × TellsHang first (λ h. words_of OnWorkqueues s ws (names_of lanes) h) s ws hops.items text
 
--- the same of what was found in the texts, or the diagnosis of the text that is refused
+-- what is said of what `hang` found in the texts, or the diagnosis of the text that is refused
 abbrev pub SaysHangOf : {A : Type 0} → List ℕ → List ℕ → List ℕ → Declared → Given → Found (Hanging A)
     → Option (List ℕ) → Type 0
 SaysHangOf first second third s texts found said =

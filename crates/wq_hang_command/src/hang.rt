@@ -1,7 +1,7 @@
 //! The command `hang`: from what is declared and the bytes of an assignment to the bytes of the answer.
 //!
-//! The answer is built in full before its first byte is written. It takes the time of reading the assignment, of the
-//! search and of writing the answer.
+//! The answer is built in full before its first byte is written. A call takes the time of reading the assignment, of
+//! the search and of writing the answer.
 
 use crate::hanging::{Hanging, hang_declared};
 use std::alloc::{AllocError, Allocator};

@@ -1,6 +1,6 @@
 //! The answer to a declaration and an assignment, built in full in memory.
 //!
-//! The rule is that of "The command `hang`" in docs/FORMAT.md. It takes the time and the memory of reading the
+//! The rule is that of "The command `hang`" in docs/FORMAT.md. A call takes the time and the memory of reading the
 //! assignment and of the search for the shortest run.
 
 ghost use Rattle.std.specs.Prelude.{◌≡◌, length, IfOk};
@@ -24,7 +24,7 @@ pub struct Hanging<A: Allocator> {
     pub answer: Answer<A>,
 }
 
-/// The text of the run of these waits: with the unsure flushes among them, if a flush is unsure.
+/// The text of the run of these waits. If a flush is unsure, the unsure flushes among the waits come first.
 fn hang_text<A: Allocator + Copy>(
     alloc: A,
     assigned: &Assigned<'_, '_, A>,

@@ -1,7 +1,7 @@
-//! The command `hang`: the shortest run that ends stuck, where there is one.
+//! The command `hang`: the shortest run that ends stuck, if there is one.
 //!
-//! What the program relies on: the run that is printed and the waits that are said are of one value, which has a walk
-//! of waits beside the run of this walk. The rule is that of "The command `hang`" in docs/FORMAT.md.
+//! What the program relies on: the run that is printed and the waits that are said come from one value: a walk of
+//! waits, with its run. The rule is that of "The command `hang`" in docs/FORMAT.md.
 #![tactic(auto)]
 
 mod hang;

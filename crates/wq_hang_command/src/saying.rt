@@ -1,5 +1,5 @@
 //! What is said beside the answer of `hang`: beside `safe`, which items are on workqueues without a rescuer; beside a
-//! run, the waits of the walk whose run it is; and beside both whether unsure flushes matter.
+//! run, the waits of its walk; and beside both, whether unsure flushes matter.
 //!
 //! Nothing is searched for: the answer has the walk beside its run. A call takes the time and the memory of the words.
 
@@ -21,7 +21,7 @@ use wq_groups::Declaration;
 use wq_hang::Answer;
 use wq_voice::{CertificateKind, FileNames, assigned_of, say_hops, say_refused_text, say_safe};
 
-/// What is said of this answer to workqueues whose text is the second.
+/// What is said of this answer to the workqueues in the second text.
 fn say_answer<A: Allocator + Copy>(
     alloc: A,
     names: &FileNames<'_>,

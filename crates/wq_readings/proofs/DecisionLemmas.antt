@@ -67,7 +67,7 @@ length-mapped : (f g : List Target → List Target) (waits : List (List Target))
 length-mapped f g [] = refl
 length-mapped f g (ts ∷ waits) = ap suc (length-mapped f g waits)
 
--- the same of wirings, if the flushes of each item are picked so
+-- a wiring picks what another picks, if the flushes of each item are picked so
 module _ (w : Wiring) (f g : List Target → List Target) (c d : Target → Target) (k m : Target → Bool)
     (wider : (t : Target) → k t ≡ true → m t ≡ true)
     (kinds : (j : ℕ) (whole : Bool) (t : Target) → Goes j whole (c t) → Goes j whole (d t))
@@ -197,7 +197,7 @@ module _ (w : Wiring) (p : ℕ) (kept : List ℕ) where
       (DeclaresMore-picked w (kept_of kept) (λ ts. kept_of kept (map (sure_at p) ts)) as_it_is (sure_at p)
       (is_kept kept) (in_confirmed p kept) (kept-sure p kept) (λ j whole t h. h) (plain p kept) (of_confirmed p kept))
 
-  -- and no more than where it is kept
+  -- confirming a flush that is kept declares no more
   fewer-confirmed : DeclaresMore (reading (confirmed p w) kept) (reading w (p ∷ kept))
   fewer-confirmed = subst (λ (v : Wiring). DeclaresMore v (reading w (p ∷ kept))) (sym (reading-confirmed w p kept))
       (DeclaresMore-picked w (λ ts. kept_of kept (map (sure_at p) ts)) (kept_of (p ∷ kept)) (sure_at p) as_it_is
@@ -300,7 +300,7 @@ one_less-confirmed w p kept others steps more was now =
       | inr at_most ↦ at_most
     ]
 
--- ---- one of those that are kept
+-- ---- one of the flushes that are kept
 
 -- the places without this one
 abbrev others_than : ℕ → List ℕ → List ℕ

@@ -151,7 +151,7 @@ module _ (d : Declaration) where
   arc_In (y ∷ arcs) x (zero, lt, at) = inl (ap arc_place (sym at))
   arc_In (y ∷ arcs) x (suc k, lt, at) = inr (arc_In arcs x (k, omega arith, at))
 
-  -- an arc by an unsure flush is one of those
+  -- an arc by an unsure flush is among the unsure arcs
   unsure_In : (arcs : List WaitArc) (x : WaitArc) → Contains arcs x → doubted x.place ≡ true
       → In x.place (map arc_place (unsure_arcs d arcs))
   unsure_In arcs x there is =
@@ -201,7 +201,7 @@ module _ (d : Declaration) (is : IsDeclaration d) where
   group-below : (i : ℕ) → i < length d.group_of → slice_index d.group_of i < d.groups
   group-below i within = is.partition.within i 0 within
 
-  -- arcs of which those by unsure flushes are kept are waits of a reading
+  -- arcs are waits of a reading that keeps the unsure flushes among them
   module _ (kept : List ℕ) where
     abbrev Waits : ℕ → ℕ → Type 0
     Waits = GroupWaits (reading_declared d kept)
@@ -260,7 +260,7 @@ module _ (d : Declaration) (is : IsDeclaration d) where
 
       -- ---- the other way round: a chain of groups in the reading, as a chain down
 
-      -- arcs from group g down, as many as this, of which those by unsure flushes are kept
+      -- this many arcs from group g down; the unsure flushes among them are kept
       abbrev Way : ℕ → ℕ → Type 0
       Way g n = (arcs : List WaitArc) × (length arcs ≡ n) × Follows d g arcs × AllByRecursion (IsStepDown d a) arcs
           × AllByRecursion Keeps arcs

@@ -22,7 +22,7 @@ use Rattle.wq_readings.proofs.Picking.{alike, later, left_out}
 
 -- ---- the flushes of an item in a reading
 
--- one of these flushes that is kept is of the item
+-- a kept flush of the item
 abbrev pub KeptOf : List ℕ → ℕ → Target → Type 0
 KeptOf kept j t = (t.item ≡ j) × (is_kept kept t ≡ true)
 
@@ -83,7 +83,7 @@ kept-wider few many wider t h = by (not t.unsure) h
     by false h = wider t.place h
 
 module _ (d : Declaration) where
-  -- groups that wait in a reading wait in one that keeps more, and where all flushes are made
+  -- groups that wait in a reading wait in one that keeps more, and they wait if all flushes are made
   pub GroupWaits-more : (few many : List ℕ) → ((p : ℕ) → is_among few p ≡ true → is_among many p ≡ true)
       → (g h : ℕ) → GroupWaits (reading_declared d few) g h → GroupWaits (reading_declared d many) g h
   GroupWaits-more few many wider g h waits = record {

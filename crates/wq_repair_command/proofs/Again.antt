@@ -28,7 +28,7 @@ use Rattle.wq_repair_command.proofs.ReadBack.{names_of-text}
 use Rattle.wq_repair_command.proofs.ReadNames.{IsCalled-names_of}
 use Rattle.wq_repair_command.proofs.Shown.{shown-names_of}
 
--- texts of the same lines
+-- texts of equal lines
 same_texts : (f g : ℕ → List ℕ) (xs : List ℕ) → AllByRecursion (λ q. f q ≡ g q) xs → flat_map f xs ≡ flat_map g xs
 same_texts f g [] same = refl
 same_texts f g (x ∷ xs) same = ap (λ (line : List ℕ). line ++ flat_map f xs) same.0 ∙ ap (λ (lines : List ℕ). g x ++ lines) (same_texts f g xs same.1)

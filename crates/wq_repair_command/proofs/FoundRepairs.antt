@@ -74,7 +74,7 @@ Repairs-found names texts (Err refusal) end out (is, prints) =
 
 -- ---- what is found, of which more is said
 
--- workqueues that are found are those of the text, and the answer to them is one
+-- the workqueues that are found are those of the text, and there is one answer to them
 pub record IsFound {A : Type 0} (names : List (List ℕ)) (s : Declared) (text : List ℕ) (r : Repairing A) : Type 0 where
   pub read : workqueues_of_text s.table.names s.partition text ≡ Ok r.workqueues
   pub moving : List ℕ

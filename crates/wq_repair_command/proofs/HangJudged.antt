@@ -29,7 +29,7 @@ use Rattle.wq_repair_command.proofs.ReadBack.{workqueues_of_text-printed}
 use Rattle.wq_commands.proofs.SameRescuers.{same-deadlock, same-run_of}
 use Rattle.wq_repair_command.proofs.Shown.{shown-names_of}
 
--- tests that say the same keep the same
+-- tests that agree on each element keep the same elements
 same_filter : {X : Type 0} (p q : X → Bool) → ((x : X) → p x ≡ q x) → (xs : List X) → filter p xs ≡ filter q xs
 same_filter {X} p q same [] = refl
 same_filter {X} p q same (x ∷ xs) =

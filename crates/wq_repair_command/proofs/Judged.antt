@@ -40,7 +40,7 @@ module _ (ws : Workqueues) (bound : length ws.bare ≤ ws.assignment.lanes) wher
   abbrev each : List Bool
   each = map (λ (q : ℕ). slice_index_or ws.bare q false) (range_with_len 0 ws.assignment.lanes)
 
-  -- both lists say the same of each lane
+  -- both lists agree on each lane
   pub same-bare : (q : ℕ) → slice_index_or each q false ≡ slice_index_or ws.bare q false
   same-bare q = elim (cases_lt q ws.assignment.lanes) [
     | inl within ↦ get_or-map-range_with_len (λ (k : ℕ). slice_index_or ws.bare k false) 0 ws.assignment.lanes q q false within (omega arith)

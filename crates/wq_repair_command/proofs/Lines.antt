@@ -40,7 +40,7 @@ lines-more line q =
     ap (λ (l : List ℕ). flat_map line (range_with_len 0 q) ++ l) (sym (append-nil (line q)))
     ∙ sym (flat_map-append line (range_with_len 0 q) (q ∷ [])) ∙ ap (flat_map line) (sym (range_with_len-push q))
 
--- the same line
+-- equal words make equal lines
 pub same-line : (names : List (List ℕ)) (q : ℕ) (one other : Bool) (is js name called : List ℕ) → one ≡ other → is ≡ js → name ≡ called
     → named_line names q one is name ≡ named_line names q other js called
 same-line names q one other is js name called same_bare same_items same_name = rw (same_bare, same_items, same_name) refl

@@ -23,9 +23,9 @@ unfolding and_more
 one_more i items None = refl
 one_more i items (Some is) = ap (λ (l : List ℕ). Some l) (append_assoc items (i ∷ []) is)
 
--- ---- who may move
+-- ---- which items may move
 
--- these are items
+-- the numbers of movers are numbers of items
 pub movers-below : (items names : List (List ℕ)) (is : List ℕ) → movers items names ≡ Some is → All (λ i. i < length items) is
 movers-below items [] is e =
     let same : range_with_len 0 (length items) ≡ is = cc in

@@ -1,4 +1,5 @@
--- Printed lines of workqueues with their names, read back: each is a line of the text, and its words are those that were printed.
+-- Printed lines of workqueues with their names, read back: each is a line of the text, and has the words that were
+-- printed.
 use Rattle.std.proofs.Common.{◌≡◌, ◌≢◌, ℕ, zero, suc, ◌+◌, ◌-◌, ◌*◌, ◌<◌, ◌≤◌, true, false, not, eqb, List, [], ◌∷◌, ◌++◌, length, map, get_or, refl, sym, ap, subst, ◌∙◌, arith, inl, inr, append_assoc, length-append}
 use Rattle.std.specs.Prelude.{flat_map}
 use Rattle.std.specs.List.{All, AllByRecursion}
@@ -232,7 +233,7 @@ module _ {X : Type 0} (line : X → List ℕ) (words : X → List (List ℕ)) (n
       ∙ ap (λ (ws : List (List ℕ)). ws ∷ words_of_lines (cert_lines (lines_from (n + 1) behind (pieces text)))) read
       ∙ ap (λ (ls : List (List (List ℕ))). words x ∷ ls) (lines_from-printed (n + 1) behind xs h.1)
 
-  -- the words of a printed text are those that were printed
+  -- the words that are read from a printed text are the ones that were printed
   pub words_of-printed : (xs : List X) → AllByRecursion IsFine xs → words_of_lines (cert_lines (lines_of (flat_map line xs))) ≡ map words xs
   words_of-printed xs h = lines_from-printed 1 0 xs h
 

@@ -1,4 +1,4 @@
--- There is one end: workqueues, or a circle or a run, or a refusal.
+-- `repair` ends in one way: with workqueues, with a circle or a run, or with a refusal.
 use Rattle.std.proofs.Common.{◌≡◌, ℕ, inl, inr, List, Result, Ok, Err, Option, Some, None, refl, sym, ap, subst, ◌∙◌}
 use Rattle.std.specs.Prelude.{◌⊎◌, MatchResult}
 use Rattle.wq_text.specs.Refusal.{Refusal}

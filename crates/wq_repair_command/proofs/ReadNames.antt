@@ -29,7 +29,7 @@ pub record IsRead (name : List ℕ) : Type 0 where
 abbrev pub IsCalled : List ℕ → Type 0
 IsCalled name = (name ≡ []) ⊎ IsRead name
 
--- what stands before those at the end that pass doesn't
+-- the element before the longest suffix of passing elements doesn't pass
 suffix_len_stops : (p : ℕ → Bool) (xs : List ℕ) (d : ℕ) → suffix_len p xs < length xs → p (get_or xs (length xs - 1 - suffix_len p xs) d) ≡ false
 suffix_len_stops p xs d lt =
     ap p (sym (get_or-reverse xs (suffix_len p xs) d lt)) ∙ prefix_len_stops p (reverse xs) d (omega (arith, lt, length-reverse xs))
@@ -188,6 +188,6 @@ module _ {X : Type 0} (line : X → List ℕ) (words : X → List (List ℕ)) (n
       ∙ ap (λ (called : List ℕ). called ∷ map name_of_line rest) named
       ∙ ap (λ (names : List (List ℕ)). name x ∷ names) (names_from-printed (n + 1) behind xs h.1)
 
-  -- the names of a printed text are those that were printed
+  -- the names that are read from a printed text are the ones that were printed
   pub names_of-printed : (xs : List X) → AllByRecursion IsFine xs → names_of (flat_map line xs) ≡ map name xs
   names_of-printed xs h = names_from-printed 1 0 xs h

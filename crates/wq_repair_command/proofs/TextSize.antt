@@ -7,7 +7,7 @@ use Rattle.std.proofs.lemmas.List.FromFn.{length-range_with_len}
 use Rattle.wq_items.specs.Table.{items_at}
 
 module _ (lane : List ℕ) where
-  -- the items on workqueue q, and those on q or above, of these
+  -- how many of these items are on workqueue q, and how many are on q or above
   on : ℕ → List ℕ → ℕ
   on q is = length (filter (λ i. slice_index lane i == q) is)
 
@@ -24,7 +24,7 @@ module _ (lane : List ℕ) where
   from-most q [] = omega arith
   from-most q (i ∷ is) = let rest : from q is ≤ length is = from-most q is in grind (arith, nat_tests, rest)
 
-  -- lines that have no more than so many bytes for each item
+  -- lines with a bounded number of bytes for each item
   module _ (line : ℕ → List ℕ) (short : (q : ℕ) → q < 4096 → length (line q) ≤ 196 + 64 * length (items_at lane q)) where
     length-lines : (q n : ℕ) → q + n ≤ 4096 → length (flat_map line (range_with_len q n)) ≤ 196 * n + 64 * from q (range_with_len 0 (length lane))
     unfolding on

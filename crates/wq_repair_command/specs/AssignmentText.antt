@@ -32,7 +32,7 @@ abbrev pub workqueue_text : List (List ℕ) → List ℕ → List Bool → List 
 workqueue_text names lane_of_item bare called q =
     named_line names q (slice_index_or bare q false) (items_at lane_of_item q) (slice_index_or called q [])
 
--- the text of workqueues of a declaration's groups, which are called by these names, from workqueue 0 on
+-- the text of workqueues of a declaration's groups, from workqueue 0 on; the names are those of the workqueues
 abbrev pub assignment_text : List (List ℕ) → Partition → Workqueues → List (List ℕ) → List ℕ
 assignment_text names p ws called =
     flat_map (workqueue_text names (item_lanes ws.assignment p.group_of) ws.bare called)

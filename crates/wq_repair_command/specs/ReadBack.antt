@@ -3,7 +3,7 @@ use Rattle.std.specs.Prelude.{ℕ, false, map, slice_index_or}
 use Rattle.std.specs.List.{range_with_len}
 use Rattle.wq_core.specs.Workqueues.{Workqueues}
 
--- the same workqueues, with a list that says of each, and of no other, whether it is bare
+-- the same workqueues, with a list of exactly one mark for each: whether it is bare
 abbrev pub with_each : Workqueues → Workqueues
 with_each ws = record {
   assignment = ws.assignment;

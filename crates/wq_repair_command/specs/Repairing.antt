@@ -43,8 +43,8 @@ pub record PrintsTooFew (s : Declared) (old : Workqueues) (moving : List ℕ) (o
   pub few : AreNamesTooFew (declared_waits s) old moving start steps
   pub text : out ≡ run_text s.table.names steps
 
--- the circle is printed in which groups wait that need a rescuer, with the run by which all items hang where each group
--- has its own workqueue
+-- a circle is printed in which groups that need a rescuer wait, with the run by which all items hang if each group has
+-- its own workqueue
 pub record PrintsNeededCircle (s : Declared) (old : Workqueues) (out : List ℕ) : Type 0 where
   pub circle : List WaitArc
   pub needed : IsNeededCircle (declared_waits s) old circle
@@ -54,19 +54,18 @@ pub record PrintsNeededCircle (s : Declared) (old : Workqueues) (out : List ℕ)
 
 -- ---- the answer
 
--- the answer where these items may move: workqueues that are safe; or else a circle, or a run, which shows that nothing
--- helps
+-- the answer if these items may move: workqueues that are safe, or else a circle or a run that shows that nothing helps
 abbrev pub RepairsMoving : Declared → Workqueues → List (List ℕ) → List ℕ → End → List ℕ → Type 0
 RepairsMoving s old called moving Good out = PrintsWorkqueues s old called moving out
 RepairsMoving s old called moving Bad out = PrintsNeededCircle s old out ⊎ PrintsTooFew s old moving out
 RepairsMoving s old called moving Refused out = ⊥
 
--- the answer where these items may move, or one of the names that were given is that of no item (8, at no line)
+-- the answer if these items may move; or the refusal (8, at no line), if one of the given names is no item's
 abbrev pub RepairsIf : Declared → Workqueues → List (List ℕ) → Option (List ℕ) → End → List ℕ → Type 0
 RepairsIf s old called None end out = PrintsRefusal (record { code = 8; line = 0 }) end out
 RepairsIf s old called (Some moving) end out = RepairsMoving s old called moving end out
 
--- the answer to workqueues of a declaration's groups, which are called so, where the items with these names may move
+-- the answer to workqueues of a declaration's groups: what they are called, and the names of the items that may move
 abbrev pub RepairsAssigned : Declared → Workqueues → List (List ℕ) → List (List ℕ) → End → List ℕ → Type 0
 RepairsAssigned s old called names end out = RepairsIf s old called (movers s.table.names names) end out
 
@@ -84,14 +83,14 @@ Repairs names declared text end out =
 
 -- ---- what is found, of which the answer is printed
 
--- this circle is printed, with the run by which all items hang where each group has its own workqueue
+-- this circle is printed, with the run by which all items hang if each group has its own workqueue
 abbrev pub PrintsWithRun : Declared → List WaitArc → List ℕ → Type 0
 PrintsWithRun s circle out =
     (steps : List Step) × IsDeadlock (declared_waits s) (own_lanes s.partition.groups) steps
     × (out ≡ text_of_circle s circle steps)
 
--- of this answer to workqueues is printed: the workqueues themselves, or those that are repaired, each by the name that
--- it has here; or the run, or the circle, which shows that nothing helps
+-- what is printed of this answer: the workqueues that were given, or the repaired ones, with these names; or the run or
+-- the circle that shows that nothing helps
 abbrev pub PrintsAnswer : {A : Type 0} → Declared → Workqueues → List (List ℕ) → Answer A → End → List ℕ → Type 0
 PrintsAnswer s old called answer.Safe end out =
     (end ≡ Good) × (out ≡ assignment_text s.table.names s.partition old called)
@@ -101,8 +100,8 @@ PrintsAnswer s old called (answer.TooFewNames start steps) end out =
     (end ≡ Bad) × (out ≡ run_text s.table.names steps.items)
 PrintsAnswer s old called (answer.Circle arcs) end out = (end ≡ Bad) × PrintsWithRun s arcs.items out
 
--- these workqueues are found, and what can be done about them where these items may move; and of that the answer is
--- printed, where the workqueues are called so
+-- these workqueues are found, and what can be done about them if these items may move; and this answer is printed, with
+-- these names of the workqueues
 pub record FindsRepair {A : Type 0} (s : Declared) (old : Workqueues) (called : List (List ℕ)) (moving : List ℕ)
     (found : Found (Option (Repairing A))) (end : End) (out : List ℕ) : Type 0 where
   pub answer : Answer A
@@ -110,16 +109,16 @@ pub record FindsRepair {A : Type 0} (s : Declared) (old : Workqueues) (called : 
   pub answers : IsAnswer (declared_waits s) old moving answer
   pub prints : PrintsAnswer s old called answer end out
 
--- what is found and answered where these items may move; or nothing is found, since one of the names that were given is
--- that of no item (8, at no line)
+-- what is found and answered if these items may move; nothing is found if one of the given names is no item's (8, at no
+-- line)
 abbrev pub FindsIfNamed : {A : Type 0} → Declared → Workqueues → List (List ℕ) → Option (List ℕ)
     → Found (Option (Repairing A)) → End → List ℕ → Type 0
 FindsIfNamed s old called None found end out =
     (found ≡ Read None) × PrintsRefusal (record { code = 8; line = 0 }) end out
 FindsIfNamed s old called (Some moving) found end out = FindsRepair s old called moving found end out
 
--- what `repair` finds in the text of an assignment of what is declared, where the items with these names may move, and
--- what it answers; or its refusal
+-- what `repair` finds in the text of an assignment of what is declared, and what it answers, if the items with these
+-- names may move; or the refusal of the text
 abbrev pub RepairsText : {A : Type 0} → List (List ℕ) → Declared → List ℕ → Found (Option (Repairing A)) → End → List ℕ
     → Type 0
 RepairsText names s text = AnswersIn Certificate (workqueues_of_text s.table.names s.partition text)

@@ -1,7 +1,7 @@
 //! The text of workqueues: a line for each, with its items, and with the name that it has.
 //!
-//! The format is that of "The command `repair`" in docs/FORMAT.md. Printing takes time and memory in the number of
-//! items and the length of the text.
+//! The format is that of "The command `repair`" in docs/FORMAT.md. Printing takes time and memory linear in the number
+//! of items and the length of the text.
 
 ghost use Rattle.std.specs.Prelude.{◌≡◌, ◌<◌, ◌++◌, length, map, flat_map, IfOk, OnOk};
 ghost use Rattle.std.specs.List.{All};
@@ -73,7 +73,7 @@ fn put_line<A: Allocator + Copy>(
 }
 
 /// The text of workqueues of declared groups: a line for each, with its items in the order of their declaration, and
-/// with its name, where it has one among these.
+/// with its name, if it has one.
 ///
 /// The only error is out of memory (20).
 pub fn assignment_text<A: Allocator + Copy>(

@@ -1,7 +1,7 @@
-//! The text of the circle in which groups wait that need a rescuer.
+//! The text of a circle of groups that need a rescuer and wait for each other.
 //!
-//! Its form is that of "Circle texts" in docs/FORMAT.md. It takes the time and the memory of its run, in which each
-//! group has a workqueue of its own.
+//! Its form is that of "Circle texts" in docs/FORMAT.md. A call takes the time and the memory of the run behind the
+//! circle, in which each group has a workqueue of its own.
 
 ghost use Rattle.std.specs.Prelude.{◌≡◌, IfOk, map};
 ghost use Rattle.wq_groups.specs.DeclaredGroups.{declared_waits};
@@ -45,7 +45,7 @@ fn run_of_groups<A: Allocator + Copy>(
         IsDeadlock (declared_waits declared.now) (own_lanes declared.now.partition.groups) steps.items) }
 {
     let run = circle_run(alloc, &declared.table, &declared.groups)?;
-    // `None` would say that these workqueues are safe.
+    // `None` would mean that these workqueues are safe, and they aren't.
     Ok(run.unwrap())
 }
 

@@ -28,7 +28,7 @@ pub fn an_assignment_text_is_read_back()
         workqueues_of_text t.names p (assignment_text t.names p ws (names_of text)) ≡ Ok (with_each ws) }
 {}
 
-/// Where workqueues are printed, `deadlock` says `safe` of what is printed.
+/// If workqueues are printed, `deadlock` answers `safe` to them.
 pub fn what_is_printed_is_judged_safe()
     ensures { (names : List (List ℕ)) (declared text out : List ℕ) → Repairs names declared text Good out →
         Judges declared out Good safe_text }
@@ -43,16 +43,16 @@ pub fn names_are_kept()
         ≡ map (λ (q : ℕ). slice_index_or (names_of text) q []) (range_with_len 0 ws.assignment.lanes) }
 {}
 
-/// What is printed is repaired to itself: where workqueues are printed, the answer to what is printed is the same text,
-/// whichever items may move then, unless a name is refused.
+/// Repaired workqueues are repaired to themselves: if workqueues are printed, `repair` answers to this text with the
+/// text itself, whichever items may move then, unless a name is refused.
 pub fn what_is_printed_is_repaired_to_itself()
     ensures { (names more : List (List ℕ)) (declared text out again : List ℕ) (end : End) →
         Repairs names declared text Good out → Repairs more declared out end again → end ≢ Refused →
         (end ≡ Good) × (again ≡ out) }
 {}
 
-/// There is one end: of workqueues, of a circle or a run, and of a refusal, only one can be printed. A circle that is
-/// printed, with its run, is the only one.
+/// Only one of these can be printed: workqueues, a circle or a run, or a refusal. A printed circle, with its run, is
+/// the only one that can be.
 pub fn repair_has_one_end()
     ensures end { (names : List (List ℕ)) (declared text : List ℕ) (end other : End) (out printed : List ℕ) →
         Repairs names declared text end out → Repairs names declared text other printed → end ≡ other }
@@ -61,7 +61,7 @@ pub fn repair_has_one_end()
         PrintsNeededCircle s old out → PrintsNeededCircle s old printed → out ≡ printed }
 {}
 
-/// A circle that is printed is answered with yes: `check` prints `yes circle N`, where N is the number of its arcs.
+/// `check` says yes to a printed circle: it prints `yes circle N`, where N is the number of its arcs.
 pub fn a_printed_circle_is_checked_with_yes()
     ensures { (declared : List ℕ) (s : Declared) (old : Workqueues) (out : List ℕ) → declaration declared ≡ Ok s →
         PrintsNeededCircle s old out → ChecksYesCircle s out }

@@ -1,6 +1,6 @@
-//! Which items may move: those that are named, or all if none is.
+//! Which items may move: the named ones, or all if no name is given.
 //!
-//! It takes time in the number of names, or of items.
+//! Finding them takes time linear in the number of names, or of items.
 
 ghost use Rattle.std.specs.Prelude.{◌≡◌, ◌<◌, length, map, option_map, IfOk};
 ghost use Rattle.std.specs.List.{range_with_len};
@@ -24,7 +24,7 @@ fn all_items<A: Allocator + Copy>(
     Ok(items)
 }
 
-/// The items with these names. Nothing if one of them is the name of no item.
+/// The items with these names. `None` if one of the names is no item's.
 fn named_items<A: Allocator + Copy>(
     alloc: A,
     table: &ItemTable<'_, A>,
@@ -43,7 +43,8 @@ fn named_items<A: Allocator + Copy>(
     Ok(Some(items))
 }
 
-/// The items that may move: those with these names, or all if there is no name. Nothing if a name is that of no item.
+/// The items that may move: the ones with these names, or all if there is no name. `None` if one of the names is no
+/// item's.
 ///
 /// The only error is out of memory (20).
 pub fn items_that_may_move<A: Allocator + Copy>(

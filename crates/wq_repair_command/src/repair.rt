@@ -2,7 +2,8 @@
 //! to what can be done about the workqueues, and the bytes of the answer.
 //!
 //! The declaration is read first and the assignment next, both before either is judged. The answer is built in full
-//! before the first byte is written. It takes the time of reading the texts, of the search and of writing the answer.
+//! before the first byte is written. A call takes the time of reading the texts, of the search and of writing the
+//! answer.
 
 use crate::repairing::{Repairing, repair_declared};
 use std::alloc::{AllocError, Allocator};

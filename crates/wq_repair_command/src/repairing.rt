@@ -1,8 +1,8 @@
 //! What can be done about the workqueues in the text of an assignment, and what is printed of it, built in full in
 //! memory.
 //!
-//! The rule is that of "The command `repair`" in docs/FORMAT.md. It takes the time and the memory of reading the text,
-//! of the search for a repair and of printing it.
+//! The rule is that of "The command `repair`" in docs/FORMAT.md. A call takes the time and the memory of reading the
+//! text, of the search for a repair and of printing it.
 
 ghost use Rattle.std.specs.Prelude.{◌≡◌, ◌<◌, ℕ, List, IfOk, None, length, map};
 ghost use Rattle.std.specs.List.{All};
@@ -28,7 +28,7 @@ use wq_items::ItemId;
 use wq_names::workqueue_names;
 use wq_repair::{Answer, repair};
 
-/// The number of the refusal where a name is that of no item.
+/// The number of the refusal of a name that is no item's.
 const UNKNOWN_ITEM: u32 = 8;
 
 /// Workqueues, and what can be done about them.
@@ -36,11 +36,11 @@ const UNKNOWN_ITEM: u32 = 8;
 pub struct Repairing<A: Allocator> {
     /// The workqueues.
     pub workqueues: Workqueues<A>,
-    /// What can be done about them, where only some items may move.
+    /// What can be done about these workqueues, if only some items may move.
     pub answer: Answer<A>,
 }
 
-/// What is printed of this answer, where the workqueues have these names.
+/// The printed form of this answer; `called` are the names of the workqueues.
 fn print_answer<A: Allocator + Copy>(
     alloc: A,
     assigned: &Assigned<'_, '_, A>,
@@ -74,7 +74,7 @@ fn print_answer<A: Allocator + Copy>(
     }
 }
 
-/// The answer to workqueues of declared groups, which have these names, where these items may move.
+/// The answer to named workqueues of declared groups, if these items may move.
 fn answer_moving<A: Allocator + Copy>(
     alloc: A,
     declared: &Declaration<'_, A>,
@@ -97,7 +97,7 @@ fn answer_moving<A: Allocator + Copy>(
     })
 }
 
-/// The answer where a name is that of no item.
+/// The answer to a name that is no item's.
 fn refuse_name<A: Allocator + Copy>(
     alloc: A,
 ) -> Result<Answered<A, Found<Option<Repairing<A>>>>, AllocError>
@@ -112,8 +112,7 @@ fn refuse_name<A: Allocator + Copy>(
     })
 }
 
-/// The answer to workqueues of declared groups, which have these names, where the items with these other names may
-/// move.
+/// The answer to named workqueues of declared groups, if the items with these names may move.
 fn answer_named<A: Allocator + Copy>(
     alloc: A,
     declared: &Declaration<'_, A>,
@@ -141,8 +140,8 @@ fn answer_named<A: Allocator + Copy>(
     }
 }
 
-/// The answer to workqueues of declared groups, whose names are in this text, where the items with these other names
-/// may move.
+/// The answer to workqueues of declared groups, if the items with these names may move. The names of the workqueues are
+/// in `text`.
 fn answer_assigned<A: Allocator + Copy>(
     alloc: A,
     declared: &Declaration<'_, A>,
@@ -159,7 +158,7 @@ fn answer_assigned<A: Allocator + Copy>(
     answer_named(alloc, declared, workqueues, &called, names)
 }
 
-/// The answer to the text of an assignment of the declared groups, where the items with these names may move.
+/// The answer to the text of an assignment of the declared groups, if the items with these names may move.
 pub(crate) fn repair_declared<A: Allocator + Copy>(
     alloc: A,
     declared: &Declaration<'_, A>,

@@ -1,6 +1,6 @@
 //! The text of the run that shows that too few items may move.
 //!
-//! Its form is that of "Run texts" in docs/FORMAT.md. It takes time and memory in the length of the text.
+//! Its form is that of "Run texts" in docs/FORMAT.md. A call takes time and memory linear in the length of the text.
 
 ghost use Rattle.std.specs.Prelude.{◌≡◌, IfOk};
 ghost use Rattle.wq_cert.specs.RunText.{run_text};

@@ -30,7 +30,7 @@ use Rattle.wq_history.proofs.LegalRows.{IsLegal-prefix, IsLegal-last, IsSoundSta
 use Rattle.wq_history.proofs.Counting.{count-more}
 use Rattle.wq_run.proofs.ItemsLeft.{entry_left, run_left, lane_left, left, adds, takes, left_effect}
 
--- 1 where it is so
+-- 1 if it is so
 abbrev one_where : Bool → ℕ
 one_where b = cond b 1 0
 
@@ -231,7 +231,7 @@ module _ (w : Wiring) (wiring : IsWiring w) (few : w.helpers ≤ max_helpers) (i
   pub balance : (rows : List Row) → Balance rows
   balance rows = from_front Balance more [] rows (λ none. omega (arith, empty_left (only i) w))
 
-  -- where a queueing wasn't accepted, another one was
+  -- if a queueing wasn't accepted, another one was
   abbrev Accepted : List Row → Type 0
   Accepted rows = IsLegal w rows → 0 < tally rows i QueueKind false → 0 < tally rows i QueueKind true
 
@@ -261,7 +261,7 @@ module _ (w : Wiring) (wiring : IsWiring w) (few : w.helpers ≤ max_helpers) (i
               (state_after w rows) i pending,
         )
 
-  -- what was queued once, and never cancelled, was accepted, and is finished where nothing is unfinished
+  -- an item that was queued once and never cancelled was accepted, and is finished if nothing is unfinished
   pub once : (rows : List Row) → IsLegal w rows → ¬ HasUnfinished (state_after w rows)
       → tally rows i QueueKind true + tally rows i QueueKind false ≡ 1 → tally rows i CancelKind true ≡ 0
       → (tally rows i QueueKind true ≡ 1) × (tally rows i FinishKind true ≡ 1)

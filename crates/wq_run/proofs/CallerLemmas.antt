@@ -1,4 +1,4 @@
--- What the callers of a crew did, caller by caller, where none of them was refused.
+-- What the callers of a crew did, caller by caller, if none of them was refused.
 use Rattle.std.proofs.Common.{◌≡◌, ℕ, zero, suc, ◌<◌, List, [], ◌∷◌, length, get_or, Result, Ok, Err, refl, subst}
 use Rattle.std.proofs.Common.{arith}
 use Rattle.std.specs.Prelude.{Some, slice_get, is_ok, IsTrue}

@@ -148,11 +148,11 @@ queueings counts i = made counts i QueueKind true + made counts i QueueKind fals
 abbrev one_if : Bool → ℕ
 one_if b = cond b 1 0
 
--- how often it is among these items
+-- how often an item is among these items
 abbrev among : ℕ → List ℕ → ℕ
 among i is = count_by (λ (j : ℕ). eqb j i) is
 
--- the counts of queueings and of cancellations are as before, but for so many more queueings
+-- the counts of queueings and of cancellations are as before, except for this number of further queueings
 pub record Counts (n i more : ℕ) (old new : List ℕ) : Type 0 where
   pub enough : HasCountsOf n new
   pub queued : queueings new i ≡ queueings old i + more

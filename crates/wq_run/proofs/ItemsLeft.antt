@@ -1,4 +1,4 @@
--- How many entries are unfinished, where each item counts so much: what each lawful step changes of it.
+-- How many entries are unfinished, each weighted by its item, and how each lawful step changes this sum.
 use Rattle.std.proofs.Common.{◌≡◌, ◌≢◌, ℕ, zero, suc, ◌+◌, ◌<◌, ◌≤◌, inl, not, eqb, List, [], ◌∷◌, length, get_or}
 use Rattle.std.proofs.Common.{Option, Some, None, refl, sym, ap, subst, ◌∙◌, arith, true, false}
 use Rattle.std.specs.Prelude.{AllPairs, Contains, option_map, sum_by}
@@ -105,7 +105,7 @@ put : (f : ℕ → ℕ) (lane : Lane) (c : ℕ) (o : Option Running) → c ≤ l
 put f lane zero o le = omega arith
 put f lane (suc h) o le = omega (arith, sum_by-set (run_left f) lane.helping h o None (omega arith))
 
--- what still runs an entry of the item counts the same
+-- the sum stays the same while an entry of the item still runs
 kept : (f : ℕ → ℕ) (lane : Lane) (c : ℕ) (r new : Running) (o : Option Running) → RunsIn lane c r → o ≡ Some new
     → new.entry ≡ r.entry → lane_left f (with_run_by lane c o) ≡ lane_left f lane
 kept f lane c r new o runs is same =

@@ -1,4 +1,4 @@
--- Lines of a report as they grow word by word, and reports of the same counts.
+-- Lines of a report as they grow word by word, and reports of equal counts.
 use Rattle.std.proofs.Common.{◌≡◌, ℕ, ◌<◌, List, [], ◌∷◌, ◌++◌, length, map, flat_map, sym, ap, ◌∙◌, append_assoc, append-nil, arith}
 use Rattle.std.specs.Prelude.{codes, decimal}
 use Rattle.std.specs.List.{range_with_len}
@@ -50,7 +50,7 @@ pub report_text-parts : (first : List (List ℕ)) (items : List (List (List ℕ)
     → (line_text first ++ flat_map line_text items) ++ line_text last ≡ flat_map line_text (first ∷ (items ++ (last ∷ [])))
 report_text-parts first items last = sym (append-nil ((line_text first ++ flat_map line_text items) ++ line_text last)) ∙ plan_text-parts first items last []
 
--- where each item has the same counts, the same is printed
+-- if each item has the same counts, the same report is printed
 module _ (s : Declared) (a : Assignment) (count other : ℕ → Kind → ℕ) where
   item_line-same : (i : ℕ) → ((kind : Kind) → count i kind ≡ other i kind) → item_line s a count i ≡ item_line s a other i
   item_line-same i same =

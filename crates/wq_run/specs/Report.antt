@@ -13,7 +13,7 @@ abbrev pub workqueues_line : ℕ → List (List ℕ)
 workqueues_line lanes = codes "workqueues" ∷ decimal lanes ∷ []
 
 -- `queued N cancelled N finished N`: how many of its queueings were accepted, how many of its entries were removed, and
--- how many ran, where `count` gives the number of each kind
+-- how many ran; `count` gives the number of each kind
 abbrev pub kind_count_words : (Kind → ℕ) → List (List ℕ)
 kind_count_words count =
     codes "queued" ∷ decimal (count Queue) ∷ codes "cancelled" ∷ decimal (count Cancel) ∷ codes "finished"

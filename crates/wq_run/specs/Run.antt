@@ -1,4 +1,4 @@
--- A run of `run`: a text is taken from a reader, and answered.
+-- What `run` reads: a text is taken from a reader, and answered.
 use Rattle.std.specs.Prelude.{ℕ, ◌+◌, List, [], Option, Result, take}
 use Rattle.wq_meter.specs.Meter.{Meter}
 use Rattle.wq_meter.specs.Input.{GivesText}
@@ -26,8 +26,8 @@ pub record IsRunnableInput {R : Type 0} (remaining : R → Option (List ℕ)) (o
 abbrev pub only : List ℕ → Given
 only text = record { first = text; second = []; third = [] }
 
--- a reader had a text; this is the answer to it, with this many helpers, and this is what is found in what was read of
--- it; these bytes of the answer are written, and this is said of what was found
+-- a reader had a text. This is what is found, with this many helpers, in the part of it that was read, and this is the
+-- answer. These bytes of the answer are written, and this is said of what was found
 pub record IsAnsweredByRun {R : Type 0} (helpers : ℕ) (remaining : R → Option (List ℕ)) (old new : Meter R)
     (end : End) (IsWritten : List ℕ → Type 0) (IsTold : Given → Result End Refusal → Type 0) : Type 0 where
   pub text : List ℕ

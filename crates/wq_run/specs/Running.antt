@@ -30,8 +30,8 @@ use Rattle.wq_commands.specs.Shell.{AnswersTexts}
 use Rattle.wq_diagnosis.specs.Refused.{Diagnoses, NotesNoItem}
 use Rattle.wq_run.specs.Report.{report_text}
 
--- how many rows the history has room for: those that one queueing of each item, its flush by a caller and one execution
--- with all declared flushes write and reserve
+-- how many rows the history has room for: the rows that are written and reserved if each item is queued once, flushed
+-- by a caller, and executed once with all its declared flushes
 abbrev pub rows_for : Declared → ℕ
 rows_for s = 5 * length s.table.names + 2 * flush_count s.table.waits
 
@@ -39,7 +39,7 @@ rows_for s = 5 * length s.table.names + 2 * flush_count s.table.waits
 abbrev pub yes_tally : BookView → ℕ → Kind → ℕ
 yes_tally book i kind = tally book.rows i kind true
 
--- each of so many items was queued once, never cancelled, and executed once
+-- each item was queued once, never cancelled, and executed once
 abbrev pub EachOnce : BookView → ℕ → Type 0
 EachOnce book items = (i : ℕ) → i < items
     → (yes_tally book i Queue ≡ 1) × (yes_tally book i Cancel ≡ 0) × (yes_tally book i Finish ≡ 1)
@@ -61,11 +61,11 @@ HaveMade w (acts ∷ others) (seat ∷ seats) = CountsActs w (no_counts w) seat 
 HaveMade w _ _ = ⊥
 
 -- the plan was run with this many helpers, as far as a text can show it: there is a book, which was closed with all
--- seats. It is idle and a legal history under the plan, and the seats' counts agree with it, item by item and
--- workqueue by workqueue. The last two seats are those of the callers, who between them queued each item once and
--- flushed it once, and weren't refused. So in the book each item was queued once, never cancelled, and executed once.
--- What is printed is the text of the book's tallies, and of the faults that rescuers and helpers counted. It isn't
--- said that the book is that of the threads, nor that no rescuer and no helper was refused
+-- seats. It is idle and a legal history under the plan, and the seats' counts agree with it, item by item and workqueue
+-- by workqueue. The last two seats are those of the callers, which between them queued and flushed each item once, and
+-- weren't refused. So in the book each item was queued once, never cancelled, and executed once. What is printed is the
+-- text of the book's tallies, and of the faults that rescuers and helpers counted. Nothing says that the book is the
+-- one that the threads used, or that no rescuer and no helper was refused
 pub record PrintsRun (helpers : ℕ) (s : Declared) (out : List ℕ) : Type 0 where
   pub assignment : Assignment
   pub plan : IsPlan (declared_waits s) assignment
@@ -109,7 +109,7 @@ pub record HasRuntime (s : Declared) : Type 0 where
   pub plan : IsPlan (declared_waits s) assignment
   pub few : assignment.lanes ≤ max_runtime_lanes
 
--- what the text declares has such a plan
+-- the items that the text declares have a plan that a runtime can have
 abbrev pub IsRunnable : List ℕ → Type 0
 IsRunnable text = MatchResult (declaration text) HasRuntime (λ r. ⊥)
 

@@ -79,7 +79,7 @@ impl From<RunWhy> for RunStop {
     ghost from_gives = { λ why stop. stop ≡ stop_of_run why };
 
     /// Why there is no answer if not everything was run. Each rescuer and each helper is given a body, and there are
-    /// seats for those of 256 workqueues and for two callers, so `BodiesDiffer` and `TooManySeats` never occur.
+    /// seats for all of them on 256 workqueues and for two callers, so `BodiesDiffer` and `TooManySeats` never occur.
     fn from(why: RunWhy) -> RunStop {
         match why {
             RunWhy::OutOfMemory => RunStop::OutOfMemory,

@@ -15,12 +15,12 @@ pub fn a_text_has_one_end()
         RunsPlan helpers text end out → RunsPlan others text end printed → out ≡ printed }
 {}
 
-/// A circle is printed where `plan` prints one, and as `plan` prints it.
+/// If `plan` prints a circle, `run` prints the same text.
 pub fn a_circle_is_printed_as_by_plan()
     ensures { (helpers : ℕ) (text out : List ℕ) → RunsPlan helpers text Bad out ↔ Answers text Bad out }
 {}
 
-/// What `plan` refuses, `run` refuses with the same text.
+/// If `plan` refuses a text, `run` refuses it in the same words.
 pub fn a_refusal_is_printed_as_by_plan()
     ensures { (helpers : ℕ) (text out : List ℕ) → Answers text Refused out → RunsPlan helpers text Refused out }
 {}

@@ -1,4 +1,4 @@
-//! How `run` ended when it was carried out, for callers that need to know no more than its end. It takes constant time.
+//! How `run` ended when it was carried out, for callers that need only its end. Each call takes constant time.
 
 ghost use Rattle.std.specs.Prelude.{◌≡◌, ◌≢◌, Ok, Err, IfOk};
 ghost use Rattle.std.specs.Result.{IsErrAnd};

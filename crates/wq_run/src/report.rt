@@ -1,7 +1,7 @@
 //! What is printed about a plan that was run.
 //!
-//! The format is that of "The command `run`" in docs/FORMAT.md. It takes time and
-//! memory in the number of items and the length of their names.
+//! The format is that of "The command `run`" in docs/FORMAT.md. A call takes time and memory linear in the number of
+//! items and the length of their names.
 
 ghost use Rattle.std.specs.Prelude.{◌≡◌, ◌++◌, ◌<◌, ℕ, length, true, OnOk, IfOk, decimal, flat_map};
 ghost use Rattle.wq_text.specs.LineText.{spaced, line_text};

@@ -1,7 +1,7 @@
-//! The command `run`: from the bytes of a declaration to those of what its plan did when it was run.
+//! The command `run`: from the bytes of a declaration to the bytes that say what its plan did when it was run.
 //!
-//! The answer is built in full before the first byte is written. It takes the time of reading the text, of planning it,
-//! of all executions and of writing the answer.
+//! The answer is built in full before the first byte is written. A call takes the time of reading the text, of planning
+//! it, of all executions and of writing the answer.
 
 ghost use Rattle.std.specs.Prelude.{◌≡◌, ◌≢◌, ◌≤◌, ◌+◌, ℕ, List, Result, Err, IfOk, IfErr, OnErr};
 ghost use Rattle.wq_text.specs.Refusal.{Refusal};
@@ -184,12 +184,12 @@ fn respond<
 /// answer, and then says what there is to be said. `run` is no `Command`: a method of a trait can't start threads that
 /// borrow what its type has.
 ///
-/// Of the declaration at most 1,048,577 bytes are read, in at most as many calls. The errors are `Fault::Read`, where
-/// the read failed, `Fault::Memory`, where memory for the text ran out, `Fault::Write`, where a write of the answer
-/// failed or took no byte, and the reason why there is no answer. After `Fault::Write` a prefix of the answer is
-/// written, and after the others nothing. Something is said only after the whole answer is written. If memory for it
-/// runs out, nothing is said, and where a write of it fails, no more. Neither changes the answer or the end. It isn't
-/// promised that the calls of the threads ever return.
+/// Of the declaration at most 1,048,577 bytes are read, in at most as many calls. The errors are `Fault::Read` if the
+/// read failed, `Fault::Memory` if memory for the text ran out, `Fault::Write` if a write of the answer failed or took
+/// no byte, and the reason why there is no answer. After `Fault::Write` a prefix of the answer is written, and after
+/// the others nothing. Something is said only after the whole answer is written. If memory for it runs out, nothing is
+/// said, and if a write of it fails, no more is. Neither changes the answer or the end. It isn't promised that the
+/// calls of the threads ever return.
 ///
 /// The names are hashed with `seed`. No answer depends on it.
 pub fn carry_out_run<
@@ -248,20 +248,19 @@ pub fn carry_out_run<
     ended
 }
 
-/// Reads a declaration to its end, runs its plan, and writes how often each item was queued, cancelled and finished.
-/// If there is no plan, it writes the text of the circle in which the groups wait, with a run that shows it; where
-/// the text is refused, the refusal.
+/// Reads a declaration to its end, runs its plan, and writes how often each item was queued, cancelled and finished. If
+/// there is no plan, it writes the text of the circle in which the groups wait, with a run that shows it; if the text
+/// is refused, it writes the refusal.
 ///
-/// The plan has a rescuer thread for each workqueue, and this many helper threads, at most 8, for each that isn't
-/// ordered. Their bodies make the declared flushes. There are two callers, one for the items with even numbers and one
-/// for the others. Each queues its items once and then flushes them. A plan of more than 256 workqueues is refused
+/// The plan has a rescuer thread for each workqueue, and this many helper threads, at most 8, for each workqueue that
+/// isn't ordered. The bodies make the declared flushes. There are two callers, one for the items with even numbers and
+/// one for the others. Each queues its items once and then flushes them. A plan of more than 256 workqueues is refused
 /// (69).
 ///
 /// At most 1,048,577 bytes are read, in at most as many calls. The errors are those of `plan_cmd`: a read failed, out
-/// of memory, or a write failed or took no byte; and `Thread`, where a thread couldn't be made, and `Tally`, where the
-/// runtime couldn't be closed with counts that agree, or a caller was refused. After a write that failed, a prefix of
-/// the answer is written, and after the other errors nothing. It isn't promised that the calls of the threads ever
-/// return.
+/// of memory, or a write failed or took no byte; and `Thread` if a thread couldn't be made, and `Tally` if the runtime
+/// couldn't be closed with counts that agree, or a caller was refused. After a write that failed, a prefix of the
+/// answer is written, and after the other errors nothing. It isn't promised that the calls of the threads ever return.
 ///
 /// The names are hashed with `seed`. No answer depends on it.
 pub fn run_cmd<R: Threads + Wait + Sync, D: Read, W: Write, A: Allocator + Copy + Send + Sync>(

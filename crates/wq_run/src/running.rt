@@ -1,8 +1,8 @@
 //! The answer of `run` to a declaration, built in full in memory: the declaration is planned, and its plan is run.
 //!
-//! The runtime is named here, in the call of the function that makes it and works with it. It takes the time of
-//! planning and of all executions, and memory in the number of rescuers and helpers times that of items, besides the
-//! rows of the history: for each item a seat has 176 bytes and a body 4.
+//! The runtime is named here, in the call of the function that makes it and works with it. A call takes the time of
+//! planning and of all executions, and, besides the rows of the history, O((rescuers + helpers) * items) memory: for
+//! each item, a seat has 176 bytes and a body 4.
 
 ghost use Rattle.std.specs.Prelude.{◌≡◌, ◌≢◌, ◌≤◌, ◌+◌, ◌*◌, ℕ, IfOk, IfErr, length};
 ghost use Rattle.wq_core.specs.Wiring.{wiring, with_helpers, max_helpers};
@@ -31,7 +31,7 @@ use wq_groups::{Assignment, Declaration};
 use wq_items::ItemTable;
 use wq_plan::{Answer, solve};
 
-/// How many rows a history needs where each item is queued, flushed by a caller and executed once.
+/// How many rows a history needs if each item is queued, flushed by a caller and executed once.
 fn rows_for<A: Allocator + Copy>(table: &ItemTable<'_, A>) -> u32
     ensures { result ≡ 5 * length table.now.names + 2 * flush_count table.now.waits }
 {

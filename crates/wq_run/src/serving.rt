@@ -1,8 +1,8 @@
 //! Running a plan on a runtime of it: its crew runs, the runtime is closed, and what happened is reported.
 //!
-//! The crew is that of `wq_script`: a body for each rescuer and each helper, which makes
-//! the declared flushes, and two callers. It takes the time of all executions and of
-//! writing the text, and time and memory in the number of bodies times that of items.
+//! The crew is that of `wq_script`: a body for each rescuer and each helper, which makes the declared flushes, and two
+//! callers. A call takes the time of all executions and of writing the text, and O(bodies * items) time and memory
+//! besides.
 
 ghost use Rattle.std.specs.Prelude.{◌≡◌, ◌≤◌, ℕ, List, length, map, take, drop, IfOk, IfErr, is_ok, IsTrue, true};
 ghost use Rattle.std.specs.List.{All};
@@ -34,7 +34,7 @@ use wq_items::ItemTable;
 use wq_rescuer::{Body, Caller, Ran, count_contexts, run_all};
 use wq_script::{ScriptBody, ScriptCaller, script_bodies, script_callers};
 
-/// Who runs a plan.
+/// The threads that run a plan.
 #[derive(Drop)]
 struct Crew<'t, 'a, A: Allocator> {
     /// A body for each rescuer and each helper.
@@ -75,7 +75,7 @@ fn are_answered(results: &[Result<(), CallError>]) -> bool
 }
 
 /// Runs the crew of a plan on the workqueues of a runtime, and hands back what the threads left. The error is `Tally`,
-/// too, where a caller was refused.
+/// too, if a caller was refused.
 fn run_crew<
     't,
     'a,
@@ -106,8 +106,8 @@ fn run_crew<
     Ok(ran)
 }
 
-/// Closes a runtime with all its seats, whose counts agree with its history. The error is `Tally`, where the runtime
-/// can't be closed or they don't agree; then all is dropped.
+/// Closes a runtime with all its seats, whose counts agree with its history. The error is `Tally` if the runtime can't
+/// be closed or they don't agree; then all is dropped.
 fn close<N: Naming, A: Allocator>(
     runtime: WqRuntime<N, A>,
     seats: Vec<Seat<N, A>, A>,

@@ -17,7 +17,7 @@ said_of file what line column more text lines = record {
   plain = subst IsPlain (sym lines) (plain-lines (plain_head file (line ∷ column ∷ []) what ∷ more));
 }
 
--- blocks, and then those
+-- some blocks, and the blocks behind them
 AreSaid-append : (file : List ℕ) (whats more : List (List ℕ)) (one two : List ℕ) → AreSaid file whats one → AreSaid file more two → AreSaid file (whats ++ more) (one ++ two)
 AreSaid-append file [] more one two none said = subst (λ (text : List ℕ). AreSaid file more (text ++ two)) (sym none) said
 AreSaid-append file (what ∷ whats) more one two (block, rest, is, first, others) said =
@@ -31,7 +31,7 @@ AddsSaid-none file out = ([], sym (append-nil out), refl)
 pub AddsSaid-one : (file what old new block : List ℕ) → IsSaidOf file what block → new ≡ old ++ block → AddsSaid file (what ∷ []) old new
 AddsSaid-one file what old new block said is = (block, is, (block, [], sym (append-nil block), said, refl))
 
--- blocks are, and then those
+-- first some blocks are added, and then the blocks behind them
 pub AddsSaid-then : (file : List ℕ) (whats more : List (List ℕ)) (old middle new : List ℕ) → AddsSaid file whats old middle → AddsSaid file more middle new → AddsSaid file (whats ++ more) old new
 AddsSaid-then file whats more old middle new (one, first, said) (two, then, others) =
     (one ++ two, then ∙ ap (λ (text : List ℕ). text ++ two) first ∙ append_assoc old one two, AreSaid-append file whats more one two said others)
@@ -44,7 +44,7 @@ AddsSaid-next {X = X} file what xs k x old middle new within is some one =
     ap (map what) (take_more xs k x within) ∙ map_push what (take k xs) (get_or xs k x) ∙ ap (λ (y : X). map what (take k xs) ++ (what y ∷ [])) (sym is) in
     subst (λ (whats : List (List ℕ)). AddsSaid file whats old new) (sym on) (AddsSaid-then file (map what (take k xs)) (what x ∷ []) old middle new some one)
 
--- the block of the first wait of a walk, and then those of the further ones
+-- the block of the first wait of a walk, and behind it the blocks of the further waits
 pub AddsSaid-told : (file : List ℕ) (lead : Lead) (words : Hop → List ℕ) (hops : List Hop) (h : Hop)
     (old middle new : List ℕ) → 0 < length hops → h ≡ get_or hops 0 h
     → AddsSaid file ((lead_for lead h ++ words h) ∷ []) old middle

@@ -38,7 +38,7 @@ unsure_flush-item waits i target t is =
 
 -- ---- lines
 
--- those of some waits, and then that of the next
+-- the lines of some waits, and then the line of the next one
 pub lines-next : {X Y : Type 0} (f : X → Option Y) (g : Y → List ℕ) (xs : List X) (k : ℕ) (x : X)
     (old middle new : List ℕ) → k < length xs → x ≡ get_or xs k x
     → middle ≡ old ++ flat_map g (filter_map f (take k xs)) → new ≡ middle ++ flat_map g (filter_map f (x ∷ []))

@@ -18,7 +18,7 @@ use Rattle.wq_voice.specs.Components.{are_some}
 
 -- ---- whether there are some
 
--- without a component, those flushes are all
+-- without a component, the flushes to no rescuer are all flushes
 pub are_some-waits : {X : Type 0} (f : X → List WaitArc) (xs : List X) (waits : List WaitArc)
     → (length xs == 0) ≡ true → are_some (map f xs) waits ≡ not (length waits == 0)
 are_some-waits f [] [] none = refl

@@ -18,7 +18,7 @@ use Rattle.wq_voice.specs.Reasons.{can_hang_lead, told, AddsSaid}
 use Rattle.wq_voice.proofs.Blocks.{AddsSaid-none, AddsSaid-then}
 
 module _ (s : Declared) (ws : Workqueues) where
-  -- the rounds of components, and then those of more
+  -- the rounds of some components, and then of more components
   AreRounds-append : (some more : List (List WaitArc)) (rounds others : List (List Hop)) → AreRounds s ws some rounds → AreRounds s ws more others → AreRounds s ws (some ++ more) (rounds ++ others)
   AreRounds-append [] more rounds others none rest = subst (λ (r : List (List Hop)). AreRounds s ws more (r ++ others)) (sym none) rest
   AreRounds-append (arcs ∷ some) more rounds others (inl (hops, after, is, least, begins, found)) rest =
@@ -63,7 +63,7 @@ module _ (s : Declared) (ws : Workqueues) where
           old middle new first then),
     )
 
-    -- those of some components were added, and then that of the next
+    -- the rounds of some components are added, and then the round of the next one
     pub AddsRounds-next : {X : Type 0} (arcs_of : X → List WaitArc) (xs : List X) (k : ℕ) (x : X) (old middle new : List ℕ) → k < length xs → x ≡ get_or xs k x
         → AddsRounds file words s ws (map arcs_of (take k xs)) old middle → AddsRounds file words s ws (arcs_of x ∷ []) middle new
         → AddsRounds file words s ws (map arcs_of (take (k + 1) xs)) old new
@@ -89,7 +89,7 @@ at-All : (P : WaitArc → Type 0) (waits : List WaitArc) (a : WaitArc) → All P
 at-All P [] a all is = absurd cc
 at-All P (b ∷ waits) a all is = let same : b ≡ a = cc in subst P same (all 0 b (omega arith))
 
--- and of the one that is told
+-- what holds of all flushes holds of the one that is named
 pub first_of-All : (P : WaitArc → Type 0) (s : Declared) (waits : List WaitArc) (a : WaitArc) → All P waits
     → Some a ≡ first_of s waits → P a
 first_of-All P s waits a all is = by (find sure waits) refl (sym is)
@@ -111,7 +111,7 @@ pub first_told-some : (words : Hop → List ℕ) (s : Declared) (waits : List Wa
 first_told-some words s waits a is =
     ap (λ (o : Option WaitArc). option_map_or (λ b. told can_hang_lead words (hop_of s b ∷ [])) o []) is
 
--- the first that passes, where none before it does
+-- the first element that passes, if no element before it does
 pub found-here : (p : WaitArc → Bool) (waits : List WaitArc) (k : ℕ) (a : WaitArc) → k < length waits
     → a ≡ get_or waits k a → find p (take k waits) ≡ None → p a ≡ true → Some a ≡ find p waits
 found-here p [] k a within is none passes = absurd (omega (arith, within))

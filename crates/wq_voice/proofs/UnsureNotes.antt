@@ -28,7 +28,7 @@ unsure_places-append (ts ∷ waits) more =
     ap (λ (l : List ℕ). map (λ (t : Target). t.place) (unsure_of ts) ++ l) (unsure_places-append waits more)
     ∙ sym (append_assoc (map (λ (t : Target). t.place) (unsure_of ts)) (unsure_places waits) (unsure_places more))
 
--- those of some items, and then those of the next
+-- the places of some items, and then of the next item
 pub unsure_places-next : (waits : List (List Target)) (n : ℕ) (ts : List Target) → n < length waits
     → ts ≡ get_or waits n [] → unsure_places (take (n + 1) waits)
     ≡ unsure_places (take n waits) ++ map (λ (t : Target). t.place) (unsure_of ts)
@@ -94,7 +94,7 @@ places-of arcs_of (x ∷ xs) =
     ap (λ (l : List ℕ). map (λ (a : WaitArc). a.place) (arcs_of x) ++ l) (places-of arcs_of xs)
     ∙ sym (map-append (λ (a : WaitArc). a.place) (arcs_of x) (flat_map (λ arcs. arcs) (map arcs_of xs)))
 
--- marks of unsure flushes, without those of components, and then without those of flushes to no rescuer
+-- marks of unsure flushes, of which the marks of components and then those of flushes to no rescuer are taken away
 pub are_idle : (waits : List (List Target)) (components : List (List WaitArc)) (bare : List WaitArc)
     (marks middle new : List Bool)
     → marks ≡ map (is_among (unsure_places waits)) (range_with_len 0 (flush_count waits))
@@ -134,7 +134,7 @@ marks-filtered f (n ∷ ns) = by (f n) (marks-filtered f ns)
 pub marks-count : (f : ℕ → Bool) (ns : List ℕ) → count_by (λ (mark : Bool). mark) (map f ns) ≡ length (filter f ns)
 marks-count f ns = sym (length-filter (λ (mark : Bool). mark) (map f ns)) ∙ marks-filtered f ns
 
--- where no flush is unsure none does
+-- if no flush is unsure, no flush makes no difference
 pub idle_places-none : (waits : List (List Target)) (components : List (List WaitArc)) (bare : List WaitArc)
     → unsure_count waits ≡ 0 → length (idle_places waits components bare) ≡ 0
 idle_places-none waits components bare none = over (range_with_len 0 (flush_count waits))

@@ -35,7 +35,7 @@ walk_found : {A : Type 0} (s : Declared) (ws : Workqueues) (found : Option (Vec 
 walk_found s ws (Some hops) end out by = JudgesBy-walk s ws hops.items end out by
 walk_found s ws None end out by = tt
 
--- these are the workqueues that the verdict is on, and by the walk that was found they hang
+-- the verdict is on these workqueues, and they hang by the walk that was found
 pub JudgesText-read : {A : Type 0} (s : Declared) (text : List ℕ) (v : Verdict A) (end : End) (out : List ℕ)
     → JudgesText s text (Read v) end out
     → (workqueues_of_text s.table.names s.partition text ≡ Ok v.workqueues)
@@ -55,7 +55,7 @@ JudgesText-read {A} s text v end out judged =
           (sym workqueues) by),
     )
 
--- these are the workqueues that the run was made on, and what it keeps, and its steps
+-- the run was made on these workqueues; the unsure flushes that it keeps, and its steps
 pub ReplaysTexts-read : {A : Type 0} (s : Declared) (lanes text : List ℕ) (r : Replayed A) (end : End) (out : List ℕ)
     → ReplaysTexts s lanes text (Read r) end out
     → (workqueues_of_text s.table.names s.partition lanes ≡ Ok r.workqueues)

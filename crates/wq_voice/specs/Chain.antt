@@ -27,28 +27,29 @@ abbrev pub unsure_wait : List (List ℕ) → List (List Target) → ℕ × ℕ �
 unsure_wait names waits (i, target) =
     option_map (λ (t : Target). unsure_line names (i, t)) (unsure_flush waits i target)
 
--- so many workqueues are enough without unsure flushes: those of the plan of this reading; nothing if it has none
+-- this many workqueues are enough without unsure flushes: the plan of that reading has so many; nothing if the reading
+-- has no plan
 abbrev pub IsFewestWithout : Declared → Option ℕ → Type 0
 IsFewestWithout s (Some fewer) =
     (a : Assignment) × IsPlan (declared_waits (reading_with_names s [])) a × (a.lanes ≡ fewer)
 IsFewestWithout s None =
     HasCircle (GroupWaits (declared_waits (reading_with_names s []))) s.partition.groups
 
--- so many workqueues are needed, and so many are enough without unsure flushes
+-- the words for how many workqueues are needed, and how many are enough without unsure flushes
 abbrev pub needed_words : List ℕ → ℕ → ℕ → List ℕ
 needed_words file count fewer =
     if fewer == 1 then are_needed_not_one file (decimal count) else are_needed file (decimal count) (decimal fewer)
 
--- if fewer workqueues are enough without unsure flushes: both numbers in one line, and below it these lines; nothing if
--- as many are needed
+-- if fewer workqueues are enough without unsure flushes: one line with both numbers, and these lines below it; nothing
+-- if as many are needed
 abbrev pub IsNeededNote : List ℕ → Declared → ℕ → List ℕ → List ℕ → Type 0
 IsNeededNote file s count lines note =
     ((note ≡ []) × (IsFewestWithout s (Some count) ⊎ IsFewestWithout s None))
     ⊎ ((fewer : ℕ) × (fewer ≢ count) × IsFewestWithout s (Some fewer)
     × (note ≡ shown_lines (needed_words file count fewer ∷ []) ++ lines))
 
--- what is said of a plan of so many workqueues, whose chain follows these waits: this, with the lines of those of these
--- waits that are by unsure flushes; nothing if there are none
+-- what is said of a plan with this number of workqueues and these waits along its chain: the note, with the lines of
+-- the waits by unsure flushes; nothing if there are no such waits
 abbrev pub IsChainNote : List ℕ → Declared → ℕ → List (ℕ × ℕ) → List ℕ → Type 0
 IsChainNote file s count arcs note =
     ((note ≡ []) × (filter_map (unsure_wait s.table.names s.table.waits) arcs ≡ []))

@@ -1,4 +1,5 @@
--- What is said beside components of workqueues: how those of each can hang, and then by which flush to no rescuer.
+-- What is said beside components of workqueues: how the workqueues of each can hang, and then by which flush to no
+-- rescuer.
 use Rattle.std.specs.Prelude.{◌≡◌, ◌⊎◌, ◌==◌, ◌&&◌, ℕ, Bool, false, true, List, [], ◌∷◌, ◌++◌, filter, flat_map}
 use Rattle.std.specs.Prelude.{not, Option, slice_get}
 use Rattle.std.specs.List.{find, list_any, range_with_len}
@@ -23,8 +24,8 @@ begins_on s ws arcs q = list_any (λ (a : WaitArc). workqueue_of s ws a.src == q
 abbrev pub lanes_of : Declared → Workqueues → List WaitArc → List ℕ
 lanes_of s ws arcs = filter (begins_on s ws arcs) (range_with_len 0 ws.assignment.lanes)
 
--- for each component in turn a round of waits on its workqueues, such that no other round on them has fewer unsure
--- flushes, nor as many and fewer steps; and if it has any, it begins with one. Of a component without a round, none
+-- for each component in turn a round of waits on its workqueues, with as few unsure flushes as possible, and of such
+-- rounds with as few steps; if it has unsure flushes, it begins with one. A component without a round adds none
 abbrev pub AreRounds : Declared → Workqueues → List (List WaitArc) → List (List Hop) → Type 0
 AreRounds s ws [] rounds = rounds ≡ []
 AreRounds s ws (arcs ∷ more) rounds =
@@ -36,7 +37,7 @@ AreRounds s ws (arcs ∷ more) rounds =
     ⊎ (((hops : List Hop) → ¬ IsRoundOn (wiring_of (declared_waits s) ws) (lanes_of s ws arcs) hops)
     × AreRounds s ws more rounds)
 
--- what is said of such rounds was added to a text
+-- the words for such rounds were added to a text
 abbrev pub AddsRounds : List ℕ → (Hop → List ℕ) → Declared → Workqueues → List (List WaitArc) → List ℕ → List ℕ → Type 0
 AddsRounds file words s ws components old new =
     (rounds : List (List Hop)) × AreRounds s ws components rounds
@@ -65,7 +66,7 @@ hop_of s a = record {
   next = a.dst;
 }
 
--- of these flushes the first that is sure, or if none is, the first
+-- the first sure flush among these, or if none is sure, the first one
 abbrev pub first_of : Declared → List WaitArc → Option WaitArc
 first_of s waits =
     option_or (find (λ (a : WaitArc). not (is_unsure s.table.waits a.src a.place)) waits) (slice_get waits 0)
@@ -81,8 +82,8 @@ abbrev pub are_some : List (List WaitArc) → List WaitArc → Bool
 are_some [] [] = false
 are_some _ _ = true
 
--- how the workqueues of each of these components can hang is said in this file, in their order; and then, if there are
--- flushes to no rescuer, of which the first is
+-- the reasons of this file: how the workqueues of each of these components can hang, in order; and then, if there are
+-- flushes to no rescuer, the first of them
 pub record GivesReasons (file : List ℕ) (words : Hop → List ℕ) (s : Declared) (ws : Workqueues)
     (components : List (List WaitArc)) (waits : List WaitArc) (text : List ℕ) : Type 0 where
   pub rounds : List (List Hop)

@@ -1,4 +1,4 @@
--- What is said where workqueues can hang: by which waits, one after another.
+-- What is said if workqueues can hang: by which waits, one after another.
 use Rattle.std.specs.Prelude.{◌≡◌, ℕ, if◌then◌else◌, List, [], ◌∷◌, ◌++◌, Option, Some, None, MatchResult, map}
 use Rattle.wq_groups.specs.Declaration.{Declaration}
 use Rattle.wq_core.specs.declared.step.Step.{Step}
@@ -31,13 +31,13 @@ pub record IsSaidOf (file what text : List ℕ) : Type 0 where
   pub lines : text ≡ shown_lines (plain_head file (line ∷ column ∷ []) what ∷ more)
   pub plain : IsPlain text
 
--- one block of lines for each of these, in this order: it has this file, and says that
+-- one block of lines for each of these words, in their order; each block begins with this file and says the words
 abbrev pub AreSaid : List ℕ → List (List ℕ) → List ℕ → Type 0
 AreSaid file [] text = text ≡ []
 AreSaid file (what ∷ more) text =
     (block : List ℕ) × (rest : List ℕ) × (text ≡ block ++ rest) × IsSaidOf file what block × AreSaid file more rest
 
--- these blocks were added to a text
+-- the blocks of `AreSaid` were added to a text
 abbrev pub AddsSaid : List ℕ → List (List ℕ) → List ℕ → List ℕ → Type 0
 AddsSaid file whats old new = (added : List ℕ) × (new ≡ old ++ added) × AreSaid file whats added
 
@@ -47,7 +47,7 @@ AddsSaid file whats old new = (added : List ℕ) × (new ≡ old ++ added) × Ar
 abbrev pub Lead : Type 0
 Lead = List ℕ × List ℕ
 
--- those before this wait
+-- the words that come before this wait
 abbrev pub lead_for : Lead → Hop → List ℕ
 lead_for lead h = if h.flush.unsure then lead.1 else lead.0
 
@@ -55,7 +55,7 @@ lead_for lead h = if h.flush.unsure then lead.1 else lead.0
 abbrev pub can_hang_lead : Lead
 can_hang_lead = (can_hang, can_hang_if)
 
--- the same of groups, on any workqueues
+-- the words before a wait of groups, on any workqueues
 abbrev pub can_hang_on_any_lead : Lead
 can_hang_on_any_lead = (can_hang_on_any, can_hang_on_any_if)
 
@@ -68,25 +68,25 @@ abbrev pub told : Lead → (Hop → List ℕ) → List Hop → List (List ℕ)
 told lead words [] = []
 told lead words (h ∷ hops) = (lead_for lead h ++ words h) ∷ map (λ (g : Hop). lead_for and_lead g ++ words g) hops
 
--- how these workqueues hang soonest is said in this file: the waits of a walk whose run is a shortest of all that end
+-- how these workqueues hang soonest, said in this file: the waits of a walk whose run is a shortest of all that end
 -- stuck; nothing is said if no run does
 abbrev pub GivesReason : List ℕ → Lead → (Hop → List ℕ) → Declaration → Workqueues → Option (List ℕ) → Type 0
 GivesReason file lead words d ws None = IsSafe (wiring_of d ws)
 GivesReason file lead words d ws (Some text) =
     (hops : List Hop) × (steps : List Step) × IsHangOf d ws hops steps × AreSaid file (told lead words hops) text
 
--- the same of workqueues with this text, in words of workqueues
+-- `GivesReason` of workqueues with this text, in words of workqueues
 abbrev pub GivesReasonOn : List ℕ → List ℕ → Declared → Workqueues → Option (List ℕ) → Type 0
 GivesReasonOn first lanes s ws said =
     GivesReason first can_hang_lead (λ h. words_of OnWorkqueues s ws (names_of lanes) h) (declared_waits s) ws said
 
--- the same of the workqueues with this text; nothing if it is refused
+-- `GivesReasonOn` of the workqueues in this text; nothing if the text is refused
 abbrev pub GivesReasonOf : List ℕ → List ℕ → Declared → Option (List ℕ) → Type 0
 GivesReasonOf first lanes s said =
     MatchResult (workqueues_of_text s.table.names s.partition lanes)
     (λ ws. GivesReasonOn first lanes s ws said) (λ _. said ≡ None)
 
--- the same where each group has a workqueue of its own, in words of groups
+-- `GivesReason` if each group has a workqueue of its own, in words of groups
 abbrev pub GivesReasonOfGroups : List ℕ → Declared → Option (List ℕ) → Type 0
 GivesReasonOfGroups first s said =
     let ws = all_rescued (own_lanes s.partition.groups) in

@@ -29,7 +29,7 @@ use Rattle.wq_voice.specs.declared.waits.Wording.TheVariants.{OfGroups, OnWorkqu
 abbrev pub unsure_count : List (List Target) → ℕ
 unsure_count waits = length (unsure_places waits)
 
--- so many unsure lines, in words
+-- a number of unsure lines, in words
 abbrev pub all_words : ℕ → List ℕ
 all_words n = if n == 1 then unsure_line else unsure_lines (decimal n)
 
@@ -40,11 +40,11 @@ above (byte ∷ note) said = Some ((byte ∷ note) ++ unwrap_or said [])
 
 -- ---- beside `safe`
 
--- beside `safe`: that it is so whatever so many unsure flushes turn out to be
+-- beside `safe`: it holds whatever this many unsure flushes turn out to be
 abbrev pub safe_words : List ℕ → ℕ → List ℕ
 safe_words file n = if n == 1 then safe_whatever_one file else safe_whatever file (decimal n)
 
--- the same as a line; nothing if no flush is unsure
+-- `safe_words` as a line; nothing if no flush is unsure
 abbrev pub safe_note : List ℕ → Declared → List ℕ
 safe_note file s =
     if unsure_count s.table.waits == 0 then [] else shown_lines (safe_words file (unsure_count s.table.waits) ∷ [])
@@ -55,25 +55,25 @@ abbrev pub NotesSafe : List ℕ → List ℕ → List ℕ → Declared → Workq
 NotesSafe first second lanes s ws said =
     (rest : Option (List ℕ)) × NotesBare first second lanes s ws rest × (said ≡ above (safe_note first s) rest)
 
--- the same where each group has a workqueue of its own
+-- the note beside `safe` if each group has a workqueue of its own
 abbrev pub NotesSafeGroups : List ℕ → Declared → Option (List ℕ) → Type 0
 NotesSafeGroups first s said =
     (rest : Option (List ℕ)) × NotesNoItem first s rest × (said ≡ above (safe_note first s) rest)
 
 -- ---- flushes that make no difference
 
--- the flush at this place is unsure, and `circles` doesn't print it: it is in none of these components, and isn't among
+-- the flush at this place is unsure, and `circles` doesn't print it: it is neither in one of these components nor among
 -- these flushes to no rescuer
 abbrev pub is_idle : List (List Target) → List (List WaitArc) → List WaitArc → ℕ → Bool
 is_idle waits components bare place =
     is_among (unsure_places waits) place
     && not (is_among (map (λ (a : WaitArc). a.place) (flat_map (λ arcs. arcs) components ++ bare)) place)
 
--- the places of these flushes
+-- the places of the flushes that `is_idle` marks
 abbrev pub idle_places : List (List Target) → List (List WaitArc) → List WaitArc → List ℕ
 idle_places waits components bare = filter (is_idle waits components bare) (range_with_len 0 (flush_count waits))
 
--- of so many unsure lines those with these numbers make no difference there; nothing if there are none
+-- the note that the unsure lines with these numbers make no difference there; nothing if there are no such lines
 abbrev pub no_difference_note : List ℕ → List ℕ → ℕ → List ℕ → List ℕ
 no_difference_note file place all [] = []
 no_difference_note file place all (line ∷ []) =
@@ -90,19 +90,19 @@ IsNoDifference file place s components bare note =
     (lines : List ℕ) × (length lines ≡ length (idle_places s.table.waits components bare))
     × (note ≡ no_difference_note file place (unsure_count s.table.waits) lines)
 
--- the same of these workqueues
+-- the note on the unsure flushes that make no difference on these workqueues
 abbrev pub MakeNoDifference : List ℕ → Declared → Workqueues → List ℕ → Type 0
 MakeNoDifference file s ws note =
     (components : List (List WaitArc)) × AreComponents (declared_waits s) ws components
     × IsNoDifference file on_these s components (bare_waits (declared_waits s) ws) note
 
--- where they make none: on these workqueues, or where none are named to whether there is a plan
+-- what they make no difference to: these workqueues, or, if no workqueues are named, whether there is a plan
 abbrev pub idle_place : Wording → List ℕ
 idle_place OnWorkqueues = on_these
 idle_place OfGroups = to_a_plan
 
--- how the workqueues of each of these components can hang is said in this file, and then by which of the flushes to no
--- rescuer; and behind that, which unsure flushes make no difference there
+-- the words of this file: how the workqueues of each of these components can hang; then the flush to no rescuer; and
+-- behind that, which unsure flushes make no difference there
 abbrev pub TellsComponents : List ℕ → List ℕ → (Hop → List ℕ) → Declared → Workqueues → List (List WaitArc)
     → List WaitArc → List ℕ → Type 0
 TellsComponents file place words s ws components waits text =
@@ -112,28 +112,28 @@ TellsComponents file place words s ws components waits text =
 
 -- ---- beside a run
 
--- so many waits aren't decided
+-- the words that this many waits aren't decided
 abbrev pub undecided_words : List ℕ → ℕ → List ℕ
 undecided_words file n = if n == 1 then isnt_decided file else arent_decided file (decimal n)
 
--- the same as a line
+-- `undecided_words` as a line
 abbrev pub undecided_note : List ℕ → ℕ → List ℕ
 undecided_note file n = shown_lines (undecided_words file n ∷ [])
 
--- of a run that needs these unsure flushes: that it hangs for sure if there are none; else how many aren't decided, and
--- which make no difference
+-- the notes beside a run that needs these unsure flushes. If there are none, that it hangs for sure; else how many
+-- aren't decided, and which unsure flushes make no difference
 abbrev pub AreNotesOf : List ℕ → Declared → Workqueues → List ℕ → List ℕ → Type 0
 AreNotesOf file s ws [] notes = notes ≡ shown_lines (hangs_for_sure file ∷ [])
 AreNotesOf file s ws (place ∷ kept) notes =
     (idle : List ℕ) × MakeNoDifference file s ws idle
     × (notes ≡ undecided_note file (length (place ∷ kept)) ++ idle)
 
--- the same of the waits of a run; nothing if no flush is unsure
+-- `AreNotesOf` for the waits of a run; nothing if no flush is unsure
 abbrev pub AreHangNotes : Bool → List ℕ → Declared → Workqueues → List Hop → List ℕ → Type 0
 AreHangNotes false file s ws hops notes = notes ≡ []
 AreHangNotes true file s ws hops notes = AreNotesOf file s ws (needs hops) notes
 
--- the waits of a walk are said in this file, and behind them these notes
+-- the words of this file: the waits of a walk, and behind them these notes
 abbrev pub TellsHang : List ℕ → (Hop → List ℕ) → Declared → Workqueues → List Hop → List ℕ → Type 0
 TellsHang file words s ws hops text =
     (reason : List ℕ) × (notes : List ℕ) × (text ≡ reason ++ notes)

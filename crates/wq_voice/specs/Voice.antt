@@ -79,7 +79,7 @@ SaysPlan first s end said = NotesPlan first s said
 
 -- ---- `check`
 
--- the diagnosis of a plan whose flushes don't all fall, and behind it how its workqueues can hang, if they can
+-- the diagnosis of a plan with a flush that doesn't fall, and behind it how its workqueues can hang, if they can
 pub record SaysNotFalling (first second lanes : List ℕ) (s : Declared) (why : No) (said : Option (List ℕ))
     : Type 0 where
   pub diagnosis : List ℕ
@@ -89,8 +89,8 @@ pub record SaysNotFalling (first second lanes : List ℕ) (s : Declared) (why : 
   pub gives : GivesReasonOf first lanes s reason
   pub both : said ≡ Some (diagnosis ++ unwrap_or reason [])
 
--- what is said of a certificate to which the checker answered this `no`: its diagnosis, and behind that of a plan whose
--- flushes don't all fall how its workqueues can hang
+-- what is said of a certificate to which the checker answered this `no`: its diagnosis; and if it is a plan with a
+-- flush that doesn't fall, how its workqueues can hang
 abbrev pub SaysLacking : List ℕ → List ℕ → List ℕ → Declared → No → Option (List ℕ) → Type 0
 SaysLacking first second lanes s (no.NotFalling item target) said =
     SaysNotFalling first second lanes s (no.NotFalling item target) said
@@ -102,13 +102,13 @@ abbrev pub IsCertNote : List ℕ → Declared → Certificate → List ℕ → T
 IsCertNote first s (OfPlan c) note = IsChainNote first s c.assignment.lanes c.arcs note
 IsCertNote first s (OfCircle c) note = note ≡ []
 
--- the same of the certificate with this text; nothing if no flush is unsure
+-- the note of the certificate with this text; nothing if no flush is unsure
 abbrev pub IsYesNote : List ℕ → Declared → List ℕ → List ℕ → Type 0
 IsYesNote first s text note =
     ((note ≡ []) × (has_unsure s.table.waits ≡ false))
     ⊎ MatchResult (answer_of s.table.names s.partition text) (λ c. IsCertNote first s c note) (λ _. note ≡ [])
 
--- the same; or what is said of a declaration without an item
+-- `IsYesNote`, or what is said of a declaration without an item
 abbrev pub NotesYes : List ℕ → Declared → List ℕ → Option (List ℕ) → Type 0
 NotesYes first s text said =
     (rest : Option (List ℕ)) × (note : List ℕ) × NotesNoItem first s rest × IsYesNote first s text note
@@ -119,7 +119,7 @@ abbrev pub SaysAnswer : List ℕ → List ℕ → Declared → List ℕ → Resu
 SaysAnswer first second s lanes (Ok _) said = NotesYes first s lanes said
 SaysAnswer first second s lanes (Err why) said = SaysLacking first second lanes s why said
 
--- the same of what was found, or of the text that is refused
+-- what is said of what `check` found, or of the text that is refused
 abbrev pub SaysCheck : List ℕ → List ℕ → List ℕ → Declared → Given → Found (Result Yes No) → Option (List ℕ) → Type 0
 SaysCheck first second third s texts found said =
     SaysFound second third (λ answer said. SaysAnswer first second s texts.second answer said) found said
@@ -141,7 +141,7 @@ abbrev pub SaysVerdict : List ℕ → List ℕ → List ℕ → Declared → Wor
 SaysVerdict first second lanes s ws walk Bad said = SaysWalk first lanes s ws walk said
 SaysVerdict first second lanes s ws walk end said = NotesSafe first second lanes s ws said
 
--- the same of the verdict that was found, or of the text that is refused
+-- what is said of the verdict that was found, or of the text that is refused
 abbrev pub SaysVerdictOf : {A : Type 0} → List ℕ → List ℕ → List ℕ → Declared → Given → Found (Verdict A)
     → Option (List ℕ) → Type 0
 SaysVerdictOf first second third s texts found said =
@@ -164,7 +164,7 @@ SaysEnd first third lanes s ws kept steps (NotLawful n) said =
     SaysStep third (declared_read s kept) ws (names_of lanes) steps n said
 SaysEnd first third lanes s ws kept steps end said = GivesReasonOn first lanes s ws said
 
--- the same of the run that was made, or of the text that is refused
+-- what is said of the end of the run that was made, or of the text that is refused
 abbrev pub SaysEndOf : {A : Type 0} → List ℕ → List ℕ → List ℕ → Declared → Given → Found (Replayed A)
     → Option (List ℕ) → Type 0
 SaysEndOf first second third s texts found said =
@@ -188,7 +188,7 @@ SaysCircles first second lanes s ws components waits said =
     (TellsComponents first on_these (λ h. words_of OnWorkqueues s ws (names_of lanes) h) s ws components waits)
     (NotesSafe first second lanes s ws) said
 
--- the same where each group has a workqueue of its own, in words of groups
+-- what is said of the components if each group has a workqueue of its own, in words of groups
 abbrev pub SaysOwnCircles : List ℕ → Declared → Workqueues → List (List WaitArc) → List WaitArc → Option (List ℕ)
     → Type 0
 SaysOwnCircles first s ws components waits said =
@@ -204,7 +204,7 @@ SaysCircling first second true s texts c said =
 SaysCircling first second false s texts c said =
     SaysOwnCircles first s c.workqueues (map (λ l. l.items) c.components.items) c.waits.items said
 
--- the same of what was found, or of the text that is refused
+-- what is said of what `circles` found, or of the text that is refused
 abbrev pub SaysCirclesOf : {A : Type 0} → List ℕ → List ℕ → List ℕ → Bool → Declared → Given → Found (Circling A)
     → Option (List ℕ) → Type 0
 SaysCirclesOf first second third assigned s texts found said =

@@ -1,4 +1,4 @@
--- The words of waits that hold one another up: who waits, for what, and why that doesn't go on.
+-- The words of waits that hold one another up: which item waits, for what, and why that makes no progress.
 use Rattle.std.specs.Prelude.{◌==◌, if◌then◌else◌, ℕ, List, cond}
 use Rattle.wq_core.specs.Workqueues.{Workqueues}
 use Rattle.wq_deadlock.specs.Judging.{is_on_bare}
@@ -39,7 +39,7 @@ to_all_words s ws names h =
     else waits_for_all (item_words s h.item) (home_words s ws names h.item) (home_words s ws names h.flush.item)
     (item_words s h.next)
 
--- an item waits for one that waits itself
+-- an item waits for an item that waits, too
 abbrev pub to_next_words : Declared → Workqueues → List (List ℕ) → Hop → List ℕ
 to_next_words s ws names h =
     if h.next == h.item then waits_for_itself (item_words s h.item) (home_words s ws names h.item)
@@ -54,7 +54,8 @@ to_behind_words s ws names h =
     else waits_for_behind (item_words s h.item) (home_words s ws names h.item) (item_words s h.flush.item)
     (item_words s h.next) (home_words s ws names h.flush.item)
 
--- who waits, and for what: of a whole workqueue for all of it, else for the item that waits next or for one behind that
+-- which item waits, and for what: for all of a workqueue, or for the item that waits next, or for an item that is
+-- queued behind that one
 abbrev pub wait_words : Declared → Workqueues → List (List ℕ) → Hop → List ℕ
 wait_words s ws names h =
     if is_on_bare ws s.partition.group_of h.flush.item then to_bare_words s ws names h
@@ -70,7 +71,7 @@ group_to_all_words s h =
     if h.next == h.item then group_waits_for_all_of_its_own (item_words s h.item)
     else group_waits_for_all (item_words s h.item) (item_words s h.flush.item) (item_words s h.next)
 
--- an item waits for one that waits itself
+-- an item waits for an item that waits, too
 abbrev pub group_to_next_words : Declared → Hop → List ℕ
 group_to_next_words s h =
     if h.next == h.item then group_waits_for_itself (item_words s h.item)
@@ -82,7 +83,7 @@ group_to_behind_words s h =
     if h.next == h.item then group_waits_for_behind_it (item_words s h.item) (item_words s h.flush.item)
     else group_waits_for_behind (item_words s h.item) (item_words s h.flush.item) (item_words s h.next)
 
--- who waits, and for what
+-- which group waits, and for what
 abbrev pub group_wait_words : Declared → Hop → List ℕ
 group_wait_words s h =
     if h.flush.whole then group_to_all_words s h

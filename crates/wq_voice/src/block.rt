@@ -2,7 +2,7 @@
 //! there is to say, and the line with its marks.
 //!
 //! The form is that of "Diagnoses" in docs/FORMAT.md. A line is sought in the time of reading the text, and a block
-//! takes time and memory in its length.
+//! takes time and memory linear in its length.
 
 ghost use Rattle.std.specs.Prelude.{◌≡◌, ◌∷◌, IfOk, map};
 ghost use Rattle.wq_diagnosis.specs.Diagnosis.{shown_lines};
@@ -41,7 +41,7 @@ pub(crate) struct Spot<'a> {
 }
 
 impl<'a> Spot<'a> {
-    /// These bytes of a line with this number.
+    /// The line with this number and these bytes, of which the marked ones are meant.
     pub(crate) fn new(no: u32, bytes: &'a [u8], mark: Mark) -> Spot<'a> {
         Spot {
             line: no,
@@ -74,10 +74,10 @@ impl<'a> Spot<'a> {
     }
 }
 
-/// The bytes for which such lines have room, so that they seldom grow.
+/// How many bytes a text of such lines has room for at first, so that it seldom grows.
 const ROOM: usize = 256;
 
-/// Lines of which the first says this, and then these.
+/// A first line with these words, and then the other lines.
 fn whole_text<A: Allocator + Copy>(
     alloc: A,
     file: &str,
@@ -95,7 +95,7 @@ fn whole_text<A: Allocator + Copy>(
     Ok(out)
 }
 
-/// The same, of this line and column.
+/// As `said`, with a line and a column.
 pub fn said_at<A: Allocator + Copy>(
     alloc: A,
     file: &str,

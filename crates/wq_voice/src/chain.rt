@@ -1,7 +1,7 @@
 //! The note beside a plan whose chain follows unsure flushes: how many workqueues are enough without them.
 //!
-//! The words are those of "What isn't sure" in docs/FORMAT.md. A call takes time in the number of items and flushes,
-//! the time and the memory of the words, and where the chain follows an unsure flush that of another plan.
+//! The words are those of "What isn't sure" in docs/FORMAT.md. A call takes time linear in the number of items and
+//! flushes, the time and the memory of the words, and, if the chain follows an unsure flush, the time of another plan.
 
 ghost use Rattle.std.specs.Prelude.{◌≡◌, ◌==◌, ◌&&◌, ◌++◌, ◌∷◌, ◌<◌, [], ℕ, not, length, filter_map, find, flat_map};
 ghost use Rattle.std.specs.Prelude.{IfOk, OnOk};
@@ -29,7 +29,7 @@ fn has_sure(flushes: &[Target], target: ItemId) -> bool
         .any(|flush| flush.item == target && !flush.unsure)
 }
 
-/// The first of these flushes of a target.
+/// The first of these flushes whose target this is.
 fn first_flush(flushes: &[Target], target: ItemId) -> Option<Target>
     ensures { result ≡ find (λ (t : Target). t.item == target) flushes.now }
 {
@@ -100,7 +100,7 @@ fn fewest_without<A: Allocator + Copy>(
     }
 }
 
-/// That this many workqueues are needed, and so many are enough without unsure flushes.
+/// Says how many workqueues are needed, and how many are enough without unsure flushes.
 fn needed_words<A: Allocator + Copy>(
     alloc: A,
     file: &str,
@@ -117,8 +117,7 @@ fn needed_words<A: Allocator + Copy>(
     messages::are_needed(alloc, file.as_bytes(), count.as_bytes(), fewer.as_bytes())
 }
 
-/// That this many workqueues are needed, and below it these lines; nothing if as many are needed without unsure
-/// flushes.
+/// Says how many workqueues are needed, with these lines below; nothing if as many are needed without unsure flushes.
 fn needed_note<A: Allocator + Copy>(
     alloc: A,
     file: &str,
@@ -140,8 +139,8 @@ fn needed_note<A: Allocator + Copy>(
     Ok(note)
 }
 
-/// What is said in this file of a plan of so many workqueues whose chain follows these waits; nothing if none of these
-/// is unsure, or if as many workqueues are needed without unsure flushes.
+/// What is said in this file of a plan with this number of workqueues and these waits along its chain; nothing if none
+/// of the waits is unsure, or if as many workqueues are needed without unsure flushes.
 pub(crate) fn chain_note<A: Allocator + Copy>(
     alloc: A,
     file: &str,

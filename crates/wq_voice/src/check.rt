@@ -1,10 +1,10 @@
-//! What is said beside the answer of `check`: of a certificate to which it says no the diagnosis of what it lacks; and
-//! behind that of a plan with a flush that doesn't fall how the plan's workqueues can hang. Of a plan whose chain
-//! follows unsure flushes, how many workqueues are enough without them.
+//! What is said beside the answer of `check`: beside a `no`, the diagnosis of what the certificate lacks, and, if it is
+//! a plan with a flush that doesn't fall, how its workqueues can hang; beside a `yes` to a plan whose chain follows
+//! unsure flushes, how many workqueues are enough without them.
 //!
-//! Where flushes don't fall, workqueues may be safe nevertheless, if their numbers alone are wrong. A call takes the
-//! time and the memory of the diagnosis; behind it, of reading the plan's workqueues, and of the search for a shortest
-//! run.
+//! If flushes don't fall, the workqueues may be safe all the same: perhaps only their numbers are wrong. A call takes
+//! the time and the memory of the diagnosis; behind it, of reading the plan's workqueues, and of the search for a
+//! shortest run.
 
 ghost use Rattle.std.specs.Prelude.{◌≡◌, ◌++◌, [], IfOk, MatchResult, Some, option_map, unwrap_or};
 ghost use Rattle.wq_cert.specs.Texts.{answer_of};
@@ -23,7 +23,7 @@ use wq_diagnosis::{CertificateKind, Source, of_lack, of_no_item};
 use wq_groups::Declaration;
 use wq_text::put;
 
-/// A text, and behind it another one, where there is one.
+/// A text, and behind it the other one, if there is one.
 fn followed<A: Allocator + Copy>(
     text: Vec<u8, A>,
     more: Option<Vec<u8, A>>,

@@ -102,7 +102,7 @@ fn first_sure<A: Allocator + Copy>(
     None
 }
 
-/// Of these flushes the first that is sure, or if none is, the first.
+/// The first sure flush among these, or if none is sure, the first one.
 fn first_of<A: Allocator + Copy>(
     assigned: &Assigned<'_, '_, A>,
     waits: &[WaitArc],
@@ -113,8 +113,8 @@ fn first_of<A: Allocator + Copy>(
     first_sure(assigned, waits).or(waits.first().copied())
 }
 
-/// Adds what is said of the first of these flushes, which lead to no rescuer, where there is one: of a sure one, if
-/// there is one.
+/// Adds what is said of the first of these flushes to no rescuer, if there are any. A sure flush comes before an unsure
+/// one.
 fn put_first<A: Allocator + Copy>(
     alloc: A,
     out: &mut Vec<u8, A>,
@@ -135,7 +135,7 @@ fn put_first<A: Allocator + Copy>(
     }
 }
 
-/// Where it is said that unsure flushes make no difference.
+/// What unsure flushes make no difference to, in words.
 fn idle_place(wording: Wording) -> &'static [u8]
     ensures { result.now ≡ idle_place wording }
 {
@@ -176,7 +176,7 @@ fn of_components<A: Allocator + Copy>(
     Ok(said)
 }
 
-/// How these workqueues, whose text is that one, can hang, by components.
+/// How these workqueues can hang, by components. `assignment` is their text.
 fn of_read<'a, A: Allocator + Copy>(
     alloc: A,
     declaration: Source<'a>,
@@ -208,7 +208,7 @@ fn of_read<'a, A: Allocator + Copy>(
     of_components(alloc, &subject, &circling.components, &circling.waits)
 }
 
-/// How these groups can hang, by components, where each has a workqueue of its own.
+/// How these groups can hang, by components, if each has a workqueue of its own.
 fn of_own<'a, A: Allocator + Copy>(
     alloc: A,
     declaration: Source<'a>,
@@ -249,7 +249,7 @@ fn are_some<A: Allocator>(components: &[Vec<WaitArc, A>], waits: &[WaitArc]) -> 
     true
 }
 
-/// What is said of these components and flushes to no rescuer, on workqueues whose text is the second.
+/// What is said of these components and flushes to no rescuer, on the workqueues in the second text.
 fn say_read<A: Allocator + Copy>(
     alloc: A,
     names: &FileNames<'_>,
@@ -283,7 +283,7 @@ fn say_read<A: Allocator + Copy>(
     Ok(Some(said))
 }
 
-/// What is said of these components, where each group has a workqueue of its own.
+/// What is said of these components, if each group has a workqueue of its own.
 fn say_own<A: Allocator + Copy>(
     alloc: A,
     names: &FileNames<'_>,

@@ -1,8 +1,8 @@
 //! What is said beside the verdict of `deadlock`: beside `safe`, which items are on workqueues without a rescuer;
-//! beside a run, how the workqueues hang soonest; and beside both whether unsure flushes matter.
+//! beside a run, how the workqueues hang soonest; and beside both, whether unsure flushes matter.
 //!
-//! Beside a run with unsure flushes it is said of the walk whose flushes are printed, which was found with them. Beside
-//! another run a shortest one is searched for. A call takes the time and the memory of that search and of the words.
+//! Beside a run with unsure flushes, the words are about the walk that was found with them. Beside any other run, a
+//! shortest one is searched for. A call takes the time and the memory of that search and of the words.
 
 ghost use Rattle.std.specs.Prelude.{◌≡◌, ℕ, IfOk, IfSome, List, Ok, option_map};
 ghost use Rattle.wq_cert.specs.Texts.{workqueues_of_text};
@@ -25,8 +25,8 @@ use wq_diagnosis::{CertificateKind, Source};
 use wq_groups::Declaration;
 use wq_hang::Hop;
 
-/// How these workqueues, whose text is the second, hang by the waits of this walk; or if none was found, how they hang
-/// soonest.
+/// How these workqueues hang by the waits of this walk, or, if no walk was found, how they hang soonest. The second
+/// text is theirs.
 fn say_walk<A: Allocator + Copy>(
     alloc: A,
     names: &FileNames<'_>,
@@ -59,7 +59,7 @@ fn say_walk<A: Allocator + Copy>(
     }
 }
 
-/// What is said of this verdict on workqueues, whose text is the second.
+/// What is said of this verdict on the workqueues in the second text.
 fn say_verdict<A: Allocator + Copy>(
     alloc: A,
     names: &FileNames<'_>,

@@ -1,7 +1,7 @@
 //! Which line of a declaration declares each of its flushes.
 //!
 //! A reason may have thousands of waits, so the lines are gone through once. That takes the time of reading the text,
-//! and memory in the number of flushes. A flush is then found in the time of reading its line.
+//! and memory linear in the number of flushes. A flush is then found in the time of reading its line.
 
 use crate::block::Spot;
 use std::alloc::{AllocError, Allocator};
@@ -12,11 +12,11 @@ use wq_text::{Line, Span};
 /// A line that declares flushes.
 #[derive(Clone, Copy)]
 struct FlushLine {
-    /// Its number.
+    /// The number of the line.
     no: u32,
     /// The place of its first flush among all that are declared.
     first: u32,
-    /// Where it is in the text.
+    /// Where the line is in the text.
     span: Span,
 }
 
@@ -48,7 +48,7 @@ fn flushes_on(line: &Line<'_>) -> usize {
 }
 
 impl<'a, A: Allocator + Copy> FlushLines<'a, A> {
-    /// Those of the text of a declaration.
+    /// The lines of flushes in the text of a declaration.
     pub fn new(alloc: A, text: &'a [u8]) -> Result<Self, AllocError> {
         let mut lines = Vec::new(alloc);
         let mut line_of = Vec::new(alloc);

@@ -30,7 +30,7 @@ fn group_to_all_words<A: Allocator + Copy>(
     messages::group_waits_for_all(alloc, &item, &target, &next)
 }
 
-/// That an item waits for one that waits itself.
+/// That an item waits for an item that waits, too.
 fn group_to_next_words<A: Allocator + Copy>(
     alloc: A,
     declared: &Declaration<'_, A>,
@@ -63,7 +63,7 @@ fn group_to_behind_words<A: Allocator + Copy>(
     messages::group_waits_for_behind(alloc, &item, &target, &next)
 }
 
-/// Who waits, and for what.
+/// Which group waits, and for what.
 pub(crate) fn group_wait_words<A: Allocator + Copy>(
     alloc: A,
     declared: &Declaration<'_, A>,

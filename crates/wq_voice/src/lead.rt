@@ -1,4 +1,4 @@
-//! What stands before the words of a wait: other words where its flush is unsure.
+//! What stands before the words of a wait: other words if its flush is unsure.
 //!
 //! The words are those of "Where workqueues can hang" in tests/DIAGNOSES.md. Nothing is computed here.
 
@@ -9,7 +9,7 @@ use std::marker::Model;
 use wq_hang::Hop;
 use wq_names::messages;
 
-/// What stands before a wait. Contracts see the words before a sure flush, and those before an unsure one.
+/// What stands before a wait. Contracts see both: the words before a sure flush, and before an unsure one.
 #[derive(Drop)]
 pub struct Lead {
     sure: &'static [u8],
@@ -25,7 +25,7 @@ impl Model for Lead {
 }
 
 impl Lead {
-    /// These words before a sure flush, and those before an unsure one.
+    /// The words before a sure flush, and the words before an unsure one.
     pub fn new(sure: &'static [u8], unsure: &'static [u8]) -> Self
         ensures { result ≡ (sure.now, unsure.now) }
     {

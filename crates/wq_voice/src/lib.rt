@@ -1,12 +1,11 @@
 //! What is said on standard error beside the answer of a command: diagnoses, notes, and how workqueues can hang.
 //!
-//! What the program relies on: what is said is said of what the command found, and nothing is searched for twice. Of a
-//! text that is refused, of a `no` and of a step that isn't lawful it is the diagnosis (wq_diagnosis); the note beside
-//! `safe` has each item whose workqueue has no rescuer; and where workqueues can hang, the waits that are said are
-//! those of a walk whose run is a shortest of all that end stuck, one after another. `FileNames` is the voice of all
-//! commands: of those below here, and of each command above beside that. The forms are those of "Diagnoses" in
-//! docs/FORMAT.md. A call takes the time and the memory of the diagnosis, of the note, or of the search for a shortest
-//! run.
+//! What the program relies on: the words are about what the command found, and nothing is searched for twice. A text
+//! that is refused, a `no`, and a step that isn't lawful have a diagnosis (wq_diagnosis). The note beside `safe` has
+//! each item whose workqueue has no rescuer. And if workqueues can hang, the waits that are said are those of a walk
+//! whose run is a shortest of all that end stuck, one after another. `FileNames` is the voice of all commands: of those
+//! below here, and of each command above beside that. The forms are those of "Diagnoses" in docs/FORMAT.md. A call
+//! takes the time and the memory of the diagnosis, of the note, or of the search for a shortest run.
 #![tactic(auto)]
 
 mod block;

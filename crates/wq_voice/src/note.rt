@@ -1,7 +1,8 @@
 //! The note beside `safe`: which items are on workqueues without a rescuer.
 //!
-//! Nothing guarantees that such items run while memory is short, and `safe` says nothing of them. The form is that of
-//! "Diagnoses" in docs/FORMAT.md. A call takes time in the number of items, and the time and the memory of the words.
+//! Nothing guarantees that such items run while memory is short, and `safe` says nothing about them. The form is that
+//! of "Diagnoses" in docs/FORMAT.md. A call takes time linear in the number of items, and the time and the memory of
+//! the words.
 
 ghost use Rattle.std.specs.Prelude.{◌≡◌, ◌++◌, ◌<◌, IfOk, OnOk, codes, flat_map, length, map, option_map};
 ghost use Rattle.std.specs.List.{All};
@@ -72,7 +73,7 @@ pub(crate) fn placed_items<A: Allocator + Copy>(
     Ok(placed)
 }
 
-/// Adds these, each after a comma.
+/// Adds the texts, each after a comma.
 fn put_others<A: Allocator + Copy>(
     out: &mut Vec<u8, A>,
     others: &[Vec<u8, A>],
@@ -87,7 +88,7 @@ fn put_others<A: Allocator + Copy>(
     Ok(())
 }
 
-/// Adds these, with a comma between each two.
+/// Adds the texts, with a comma between each two.
 fn put_listed<A: Allocator + Copy>(
     out: &mut Vec<u8, A>,
     items: &[Vec<u8, A>],
@@ -103,7 +104,7 @@ fn put_listed<A: Allocator + Copy>(
     }
 }
 
-/// These, with a comma between each two.
+/// The texts, with a comma between each two.
 pub(crate) fn listed<A: Allocator + Copy>(
     alloc: A,
     items: &[Vec<u8, A>],
@@ -115,7 +116,7 @@ pub(crate) fn listed<A: Allocator + Copy>(
     Ok(words)
 }
 
-/// The note of these items.
+/// The note about these items.
 fn bare_note<A: Allocator + Copy>(
     alloc: A,
     file: &str,
@@ -132,7 +133,7 @@ fn bare_note<A: Allocator + Copy>(
     Ok(out)
 }
 
-/// What is said of these items in the second of these files; of none what is said of a declaration without an item.
+/// What is said of these items in the second file; if there are none, what is said of a declaration without an item.
 pub(crate) fn of_items<A: Allocator + Copy>(
     alloc: A,
     declared: &Declaration<'_, A>,

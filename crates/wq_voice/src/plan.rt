@@ -34,7 +34,7 @@ fn waits_of<A: Allocator + Copy>(
     Ok(arcs)
 }
 
-/// What is said of a plan whose groups these are: how many workqueues are enough without unsure flushes.
+/// What is said of a plan of these groups: how many workqueues are enough without unsure flushes.
 fn plan_note<A: Allocator + Copy>(
     alloc: A,
     declared: &Declaration<'_, A>,

@@ -1,7 +1,7 @@
 //! How workqueues can hang: the waits of a walk whose run is a shortest of all that end stuck.
 //!
-//! The rule is that of "Reasons" in docs/FORMAT.md. A call takes the time and the memory of the words and, where the
-//! walk isn't given, of the search for it.
+//! The rule is that of "Reasons" in docs/FORMAT.md. A call takes the time and the memory of the words and, if the walk
+//! isn't given, of the search for it.
 
 ghost use Rattle.std.specs.Prelude.{◌≡◌, IfOk, List, Ok, map, option_map};
 ghost use Rattle.wq_core.specs.declared.step.Step.{Step};
@@ -51,7 +51,7 @@ fn of_hops<A: Allocator + Copy>(
     Ok(said)
 }
 
-/// What is said of this answer; nothing where no run ends stuck.
+/// What is said of this answer; nothing if no run ends stuck.
 fn of_answer<A: Allocator + Copy>(
     alloc: A,
     subject: &Subject<'_, '_, '_, A>,
@@ -76,7 +76,7 @@ fn of_answer<A: Allocator + Copy>(
     }
 }
 
-/// How these workqueues hang soonest; nothing where they can't.
+/// How these workqueues hang soonest; nothing if they can't.
 pub fn of_subject<A: Allocator + Copy>(
     alloc: A,
     subject: &Subject<'_, '_, '_, A>,
@@ -92,7 +92,8 @@ pub fn of_subject<A: Allocator + Copy>(
     of_answer(alloc, subject, lead, &answer)
 }
 
-/// How these workqueues, whose text is that one, hang by these waits; and which of the unsure flushes matter.
+/// How these workqueues hang by these waits, and which unsure flushes matter. `assignment` is the text of the
+/// workqueues.
 ///
 /// The only error is out of memory (20).
 pub fn say_hops<'a, A: Allocator + Copy>(
@@ -126,7 +127,7 @@ pub fn say_hops<'a, A: Allocator + Copy>(
     Ok(said)
 }
 
-/// How these workqueues, whose text is that one, hang soonest; nothing where they can't.
+/// How these workqueues hang soonest; nothing if they can't. `assignment` is their text.
 pub(crate) fn say_reason<'a, A: Allocator + Copy>(
     alloc: A,
     declaration: Source<'a>,
@@ -151,7 +152,7 @@ pub(crate) fn say_reason<'a, A: Allocator + Copy>(
     of_subject(alloc, &subject, &Lead::can_hang())
 }
 
-/// How the workqueues with this text hang soonest; nothing where they can't, or where it is refused.
+/// How the workqueues with this text hang soonest; nothing if they can't, or if the text is refused.
 pub(crate) fn of_declared<'a, A: Allocator + Copy>(
     alloc: A,
     declaration: Source<'a>,
@@ -171,7 +172,7 @@ pub(crate) fn of_declared<'a, A: Allocator + Copy>(
     }
 }
 
-/// How these groups hang soonest, where each has a workqueue of its own; nothing where they can't.
+/// How these groups hang soonest if each has a workqueue of its own; nothing if they can't.
 pub(crate) fn of_groups<'a, A: Allocator + Copy>(
     alloc: A,
     declaration: Source<'a>,

@@ -1,4 +1,4 @@
-//! What is said of a text that is refused: its diagnosis. Of a declaration it is the same for all commands.
+//! What is said of a text that is refused: its diagnosis. The diagnosis of a declaration is the same for all commands.
 //!
 //! The form is that of "Diagnoses" in docs/FORMAT.md. A call takes the time and the memory of the diagnosis.
 

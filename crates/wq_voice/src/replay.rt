@@ -25,7 +25,7 @@ use wq_diagnosis::{CertificateKind, Source, of_no_item, of_unlawful};
 use wq_groups::Declaration;
 use wq_names::workqueue_names;
 
-/// Why the step of this number, on workqueues whose text is that one, isn't lawful.
+/// Why the step with this number isn't lawful on the workqueues in this text.
 fn say_unlawful<A: Allocator + Copy>(
     alloc: A,
     assigned: &Assigned<'_, '_, A>,
@@ -45,7 +45,7 @@ fn say_unlawful<A: Allocator + Copy>(
     of_unlawful(alloc, assigned, &names, steps, run, number)
 }
 
-/// The same of a run that was made in a reading, or with all flushes.
+/// Why a step of a run isn't lawful, if the run was made in a reading, or with all flushes.
 fn say_unlawful_in_reading<A: Allocator + Copy>(
     alloc: A,
     assigned: &Assigned<'_, '_, A>,
@@ -73,7 +73,7 @@ fn say_unlawful_in_reading<A: Allocator + Copy>(
     }
 }
 
-/// What is said of a run that was made, of workqueues whose text is the second and of steps whose text is the third.
+/// What is said of a run that was made. The workqueues are in the second text, and the steps in the third.
 fn say_replayed<A: Allocator + Copy>(
     alloc: A,
     names: &FileNames<'_>,

@@ -1,5 +1,5 @@
 //! How the workqueues of each component can hang: by a round of waits on them with the fewest unsure flushes, and of
-//! those with the fewest steps.
+//! such rounds, one with the fewest steps.
 //!
 //! The rule is that of "Reasons" in docs/FORMAT.md. A component takes the time of a search from each of its items, and
 //! that of going through its flushes and all workqueues once.
@@ -20,7 +20,7 @@ use wq_diagnosis::workqueue_of;
 use wq_graph::WaitArc;
 use wq_hang::Rounds;
 
-/// For each workqueue whether an item of one of these flushes is on it.
+/// For each workqueue, whether an item of one of these flushes is on it.
 fn marks_of<A: Allocator + Copy>(
     alloc: A,
     assigned: &Assigned<'_, '_, A>,
@@ -60,7 +60,7 @@ fn lanes_of<A: Allocator + Copy>(
     Ok(lanes)
 }
 
-/// Adds the waits of a least round on the workqueues of a component, where there is one.
+/// Adds the waits of a least round on the workqueues of a component, if there is one.
 pub fn put_round<A: Allocator + Copy>(
     alloc: A,
     out: &mut Vec<u8, A>,
@@ -87,7 +87,7 @@ pub fn put_round<A: Allocator + Copy>(
     }
 }
 
-/// Adds those of each component in turn.
+/// Adds the rounds of each component in turn.
 pub(crate) fn put_rounds<A: Allocator + Copy>(
     alloc: A,
     out: &mut Vec<u8, A>,

@@ -1,7 +1,7 @@
 //! What is said beside `safe` of workqueues.
 //!
-//! A call takes the time and the memory of reading the names of the workqueues, and of the words; and time in the
-//! number of items.
+//! A call takes the time and the memory of reading the names of the workqueues, and of the words; and time linear in
+//! the number of items.
 
 ghost use Rattle.std.specs.Prelude.{◌≡◌, IfOk, Ok, option_map};
 ghost use Rattle.wq_cert.specs.Texts.{workqueues_of_text};
@@ -31,8 +31,8 @@ pub(crate) fn say_safe_groups<A: Allocator + Copy>(
     above(note, said)
 }
 
-/// Which items of these workqueues, whose text is that one, are on workqueues without a rescuer; where there are none,
-/// what is said in this file of a declaration without an item.
+/// Which items are on workqueues without a rescuer; if there are none, what is said of a declaration without an item.
+/// `assignment` is the text of the workqueues.
 fn say_bare<A: Allocator + Copy>(
     alloc: A,
     file: &str,
@@ -50,9 +50,9 @@ fn say_bare<A: Allocator + Copy>(
     of_items(alloc, assigned.declared, file, assignment.file, &placed)
 }
 
-/// What is said beside `safe` of these workqueues, whose text is that one: which items are on workqueues without a
-/// rescuer; where there are none, what is said in this file of a declaration without an item. Above that it is said
-/// that they are safe whatever the unsure flushes turn out to be, if there are any.
+/// What is said beside `safe`: which items are on workqueues without a rescuer; if there are none, what is said of a
+/// declaration without an item. If some flushes are unsure, a line above says that the workqueues are safe whatever
+/// these turn out to be. `assignment` is the text of the workqueues.
 ///
 /// The only error is out of memory (20).
 pub fn say_safe<A: Allocator + Copy>(

@@ -1,4 +1,4 @@
-//! What is spoken of, and what is said of a walk: a block of lines for each wait, in its order.
+//! What the words are about, and what is said of a walk: a block of lines for each wait, in its order.
 //!
 //! The words are those of "Where workqueues can hang" in tests/DIAGNOSES.md. A wait takes the time and the memory of
 //! its lines.
@@ -24,7 +24,7 @@ use wq_text::put;
 pub struct Subject<'a, 's, 't, A: Allocator> {
     /// The text of the declaration.
     pub declaration: Source<'a>,
-    /// The text of the workqueues; without a byte where each group has one of its own.
+    /// The text of the workqueues; empty if each group has a workqueue of its own.
     pub assignment: Source<'a>,
     /// Which of the two it is.
     pub wording: Wording,
@@ -59,8 +59,8 @@ fn push_bare<A: Allocator + Copy>(
     spot.push(alloc, lines)
 }
 
-/// The lines below the first one: that of the flush, and, where its target is on a
-/// workqueue without a rescuer, that of this workqueue.
+/// The lines below the first one: the line of the flush and, if its target is on a workqueue without a rescuer, the
+/// line of this workqueue.
 fn below<A: Allocator + Copy>(
     alloc: A,
     subject: &Subject<'_, '_, '_, A>,

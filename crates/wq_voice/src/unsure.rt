@@ -1,8 +1,8 @@
 //! The notes on unsure flushes: whether they matter, and which don't.
 //!
-//! The words are those of "What isn't sure" in docs/FORMAT.md. A call takes time in the number of items and flushes,
-//! the time and the memory of the words, and where flushes may make no difference that of finding all that lie on
-//! circles.
+//! The words are those of "What isn't sure" in docs/FORMAT.md. A call takes time linear in the number of items and
+//! flushes, the time and the memory of the words, and, if flushes may make no difference, the time of finding all
+//! flushes on circles.
 
 ghost use Rattle.std.specs.Prelude.{◌≡◌, ◌∷◌, ◌++◌, [], ◌<◌, ◌≤◌, ◌&&◌, ◌||◌, ℕ, false, not, length, map, filter};
 ghost use Rattle.std.specs.Prelude.{flat_map, decimal, slice_index_or, IfOk, option_map};
@@ -72,7 +72,7 @@ pub(crate) fn line_of<A: Allocator + Copy>(alloc: A, line: &[u8]) -> Result<Vec<
     Ok(out)
 }
 
-/// That workqueues are safe whatever so many unsure flushes turn out to be.
+/// Says that workqueues are safe whatever this many unsure flushes turn out to be.
 fn safe_words<A: Allocator + Copy>(
     alloc: A,
     file: &str,
@@ -103,7 +103,7 @@ pub(crate) fn safe_note<A: Allocator + Copy>(
     line_of(alloc, &words)
 }
 
-/// This note, and below it what else is said.
+/// This note, and below it the rest of what is said.
 pub(crate) fn above<A: Allocator + Copy>(
     note: Vec<u8, A>,
     said: Option<Vec<u8, A>>,
@@ -121,7 +121,7 @@ pub(crate) fn above<A: Allocator + Copy>(
     Ok(Some(both))
 }
 
-/// Takes the marks of the places of these flushes away.
+/// Clears the marks at the places of these flushes.
 fn unmark(marks: &mut [bool], arcs: &[WaitArc])
     ensures len { length marks.new ≡ length marks.old }
     ensures marks { (p : ℕ) → slice_index_or marks.new p false
@@ -135,7 +135,7 @@ fn unmark(marks: &mut [bool], arcs: &[WaitArc])
     }
 }
 
-/// Takes the marks of the places of the flushes in these components away.
+/// Clears the marks at the places of the flushes in these components.
 fn unmark_components<A: Allocator>(marks: &mut [bool], components: &[Vec<WaitArc, A>])
     ensures len { length marks.new ≡ length marks.old }
     ensures marks { (p : ℕ) → slice_index_or marks.new p false
@@ -176,8 +176,8 @@ fn unsure_marks<A: Allocator + Copy>(
     Ok(marks)
 }
 
-/// For each place whether the flush there is unsure, and `circles` doesn't print it: it is in none of these components,
-/// and isn't one of these flushes to no rescuer.
+/// For each place, whether the flush there is unsure and `circles` doesn't print it: it is neither in one of these
+/// components nor one of these flushes to no rescuer.
 fn idle_marks<A: Allocator + Copy>(
     alloc: A,
     table: &ItemTable<'_, A>,
@@ -212,7 +212,7 @@ fn marked_lines<A: Allocator + Copy>(
     Ok(lines)
 }
 
-/// The lines of the unsure flushes that are in none of these components, and aren't among these flushes to no rescuer.
+/// The lines of the unsure flushes that are neither in one of these components nor among these flushes to no rescuer.
 fn idle_lines<A: Allocator + Copy>(
     alloc: A,
     table: &ItemTable<'_, A>,
@@ -241,7 +241,7 @@ fn listed_numbers<A: Allocator + Copy>(alloc: A, numbers: &[u32]) -> Result<Vec<
     listed(alloc, words.as_slice())
 }
 
-/// That of so many unsure flushes the one of this line makes no difference there.
+/// Says that the one unsure flush on this line makes no difference there; `count` is how many flushes are unsure.
 fn one_idle_note<A: Allocator + Copy>(
     alloc: A,
     file: &str,
@@ -264,7 +264,7 @@ fn one_idle_note<A: Allocator + Copy>(
     line_of(alloc, &words)
 }
 
-/// That of so many unsure flushes those of these lines make no difference there.
+/// Says that the unsure flushes on these lines make no difference there; `count` is how many flushes are unsure.
 fn idle_note<A: Allocator + Copy>(
     alloc: A,
     file: &str,
@@ -290,7 +290,7 @@ fn idle_note<A: Allocator + Copy>(
     line_of(alloc, &words)
 }
 
-/// That so many unsure flushes as there are such lines make no difference there; nothing if there are none.
+/// Says that the unsure flushes on these lines make no difference there; nothing if there are no such lines.
 fn no_difference_note<A: Allocator + Copy>(
     alloc: A,
     file: &str,
@@ -333,7 +333,7 @@ pub(crate) fn of_idle<A: Allocator + Copy>(
     )
 }
 
-/// That so many waits aren't decided, in words.
+/// The words that this many waits aren't decided.
 fn undecided_words<A: Allocator + Copy>(
     alloc: A,
     file: &str,
@@ -348,7 +348,7 @@ fn undecided_words<A: Allocator + Copy>(
     messages::arent_decided(alloc, file.as_bytes(), count.as_bytes())
 }
 
-/// That so many waits aren't decided.
+/// The note that this many waits aren't decided.
 fn undecided_note<A: Allocator + Copy>(
     alloc: A,
     file: &str,
@@ -360,7 +360,7 @@ fn undecided_note<A: Allocator + Copy>(
     line_of(alloc, &words)
 }
 
-/// That these workqueues hang for sure.
+/// The note that these workqueues hang for sure.
 fn sure_note<A: Allocator + Copy>(alloc: A, file: &str) -> Result<Vec<u8, A>, AllocError>
     ensures { IfOk result (λ note. note.items ≡ shown_lines (hangs_for_sure file.now ∷ [])) }
 {
@@ -406,8 +406,8 @@ fn of_needed<A: Allocator + Copy>(
     Ok(notes)
 }
 
-/// What is said of unsure flushes beside a run by which these workqueues hang: that none is needed; or how many waits
-/// aren't decided, and which flushes make no difference. Nothing is said where no flush is unsure.
+/// What is said of unsure flushes beside a run by which these workqueues hang: that none is needed, or how many waits
+/// aren't decided and which flushes make no difference. Nothing if no flush is unsure.
 pub(crate) fn of_hang<A: Allocator + Copy>(
     alloc: A,
     subject: &Subject<'_, '_, '_, A>,

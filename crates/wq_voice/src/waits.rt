@@ -1,4 +1,4 @@
-//! The words of waits that hold one another up: who waits, for what, and why that doesn't go on.
+//! The words of waits that hold one another up: which item waits, for what, and why that makes no progress.
 //!
 //! The words are those of "Where workqueues can hang" in tests/DIAGNOSES.md. A call
 //! takes the time and the memory of the words.
@@ -16,12 +16,12 @@ use wq_hang::Hop;
 use wq_items::ItemId;
 use wq_names::messages;
 
-/// Whose workqueues are spoken of.
+/// Which workqueues the words are about.
 #[derive(Clone, Copy, Debug, PartialEq, Eq)]
 pub enum Wording {
-    /// Those of an assignment, by number and name.
+    /// The workqueues of an assignment, by number and name.
     OnWorkqueues,
-    /// Whichever these are: each group has one.
+    /// Any workqueues: each group has one.
     OfGroups,
 }
 
@@ -99,7 +99,7 @@ fn to_all_words<A: Allocator + Copy>(
     messages::waits_for_all(alloc, &item, &workqueue, &other, &next)
 }
 
-/// That an item waits for one that waits itself.
+/// That an item waits for an item that waits, too.
 fn to_next_words<A: Allocator + Copy>(
     alloc: A,
     assigned: &Assigned<'_, '_, A>,
@@ -144,7 +144,7 @@ fn to_behind_words<A: Allocator + Copy>(
     messages::waits_for_behind(alloc, &item, &workqueue, &target, &next, &other)
 }
 
-/// Who waits on workqueues with these names, and for what.
+/// Which item waits, and for what, on workqueues with these names.
 fn wait_words<A: Allocator + Copy>(
     alloc: A,
     assigned: &Assigned<'_, '_, A>,

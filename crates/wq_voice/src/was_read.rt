@@ -1,6 +1,6 @@
 //! A declaration, and workqueues of its groups that were read from a text.
 //!
-//! It takes constant time.
+//! Each call takes constant time.
 
 ghost use Rattle.std.specs.Prelude.{◌≡◌, ℕ, List, Ok};
 ghost use Rattle.wq_cert.specs.Texts.{workqueues_of_text};

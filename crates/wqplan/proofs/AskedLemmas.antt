@@ -34,7 +34,7 @@ pub first_limit : (assigned : Bool) → (one_or_two_texts assigned).first ≡ ma
 first_limit false = refl
 first_limit true = refl
 
--- no more helpers are asked for than 8, where some are
+-- at most 8 helpers are asked for, if any
 pub few_helpers : (behind : Behind) → HasFew behind → helpers_asked behind ≤ 8
 few_helpers nothing few = omega arith
 few_helpers (names given) few = omega arith
@@ -46,7 +46,7 @@ module _ (Holds : Text → List ℕ → Type 0) (Input : List ℕ → Type 0) (v
     (have : (t : Given) → HaveTexts Holds Input limits files t → HasTexts Holds Input verb files t)
     (ends : (t : Given) (found : Result F Refusal) (end : End) (out : List ℕ)
     → AnswersTexts Answers (kept limits t) found end out → EndsOn verb files behind t end out) where
-  -- this command on these files
+  -- what is asked for: this command on these files
   abbrev pub on : Verb → Asked
   on v = record { verb = v; files = files; behind = behind }
 
@@ -66,7 +66,7 @@ module _ (Holds : Text → List ℕ → Type 0) (Input : List ℕ → Type 0) (v
         → SaysOn A (names_of_files files) verb files behind (kept (limits_of verb files) t) end out said)
         (n : Names) (named : n ≡ names_of_files files) {E : Type 0} (told : E → Option (List ℕ))
         (teller told_by : Meter E) where
-      -- a voice with these names says so much of what is found
+      -- what a voice with these names says of what is found
       abbrev pub By : Names → Given → Result F Refusal → Option (List ℕ) → Type 0
       By m t found = SaysOfTexts (Says m) (λ _ r words. Diagnoses m.declaration (Some r) words) t found
 
@@ -108,7 +108,7 @@ module _ (Holds : Text → List ℕ → Type 0) (Input : List ℕ → Type 0) (v
           IsToldAsAsked A Holds Input (on w) end (WritesWhole contents old new) (Tells told teller told_by))) (sym is)
           (of_ok result h)
 
--- what is told of an answer is told of it, however it is written
+-- what is said of an answer doesn't depend on how the answer is written
 pub IsToldAsAsked-written : {A : Type 0} {Holds : Text → List ℕ → Type 0} {Input : List ℕ → Type 0} {asked : Asked}
     {end : End} {IsWritten IsPut : List ℕ → Type 0} {IsTold : (Option (List ℕ) → Type 0) → Type 0}
     → ((out : List ℕ) → IsWritten out → IsPut out) → IsToldAsAsked A Holds Input asked end IsWritten IsTold

@@ -34,7 +34,7 @@ module _ {F : Type 0} (Seeds : Option ℕ → Type 0) (Opens : Text → Option F
     caused (Err Write) may_fail = ready
     caused (Err Memory) may_fail = ready
 
-    -- it is `fault read` only where a read may have failed
+    -- the fault is `fault read` only if a read may have failed
     pub caused_by : (ended : Result End Fault) (result : Result End CommandFault) → result ≡ end_or_common ended
         → (ended ≡ Err Read → Fails) → EndsReady Seeds Opens files Fails ⊥ result
     caused_by ended result is may_fail =

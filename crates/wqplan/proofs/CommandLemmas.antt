@@ -31,7 +31,7 @@ pub range_given : (o : Option ValueRange) → IsSomeAnd o (λ r. r ≡ many) →
 range_given None is = absurd is
 range_given (Some r) is = ap Some is
 
--- the names that a getter returns are those of its rows; if it returns none, there is none
+-- the names that a getter returns are those of its rows; if it returns none, its rows have none
 pub names_given : {S : Type 0} (names : S → List Text) (r : Option S) (s : S) (f : Found)
     → option_map names r ≡ option_map raw_values (matched_of f (codes "NAME")) → r ≡ Some s
     → names s ≡ names_of (rows_of f)
@@ -53,7 +53,7 @@ third_is_not true true true w all = cc
 third_is_not true false true w all = cc
 third_is_not false y true w all = cc
 
--- where no text was given, there is none
+-- if no text was given, there is none
 pub no_text : (r : Option (Bor Text)) (o : Option Text) → option_map (λ b. b.now) r ≡ o → r ≡ None → o ≡ None
 no_text r o read is = sym read ∙ ap (option_map (λ (b : Bor Text). b.now)) is
 
@@ -166,13 +166,13 @@ pub asks_verb : (met : Option (Text × List Row)) (rows : List Row) (verb : Verb
 asks_verb met rows verb wanted is asked =
     let of = asked_of met (command_name verb) rows wanted is asked in (same_verb wanted.verb verb of.0, of.1)
 
--- two that are the same in all parts are the same
+-- values that agree in all parts are equal
 same_asked : (a b : Asked) → a.verb ≡ b.verb → a.files ≡ b.files → a.behind ≡ b.behind → a ≡ b
 same_asked a b v f t =
     let made : Verb → Files Text → Behind → Asked = λ v f t. record { verb = v; files = f; behind = t } in
     ap (λ x. made x a.files a.behind) v ∙ ap (λ x. made b.verb x a.behind) f ∙ ap (λ x. made b.verb b.files x) t
 
--- the same matches give one command the same arguments
+-- equal matches give a command equal arguments
 same_given : (rows : List Row) (verb : Verb) (a b : Asked) → a.verb ≡ verb → b.verb ≡ verb → GivesArguments rows a
     → GivesArguments rows b → a ≡ b
 same_given rows verb a b va vb ga gb =
@@ -191,7 +191,7 @@ pub AsksFor-unique : (met : Option (Text × List Row)) (a b : Asked) → AsksFor
 AsksFor-unique met a b (rows, is, given) asked =
     let of = asks_verb met rows a.verb b is asked in same_given rows a.verb a b refl of.0 given of.1
 
--- who asks for helpers asks for few
+-- at most 8 helpers are asked for
 few_in : (word : Option Text) → IsHelpers word → helpers_in word ≤ 8
 few_in None is = omega arith
 few_in (Some text) is = is.3

@@ -46,7 +46,7 @@ module _ {F : Type 0} (Opens : Text → Option F → Type 0) where
   all_opened (Three first second third) (One a) opened = absurd opened
   all_opened (Three first second third) (Two a b) opened = absurd opened
 
-  -- where none is opened, none is named; where some are opened, some are named
+  -- if no file is opened, none is named; if some are opened, some are named
   pub none_named : (paths : Files Text) → AreOpened Opens paths Unnamed → paths ≡ Unnamed
   none_named Unnamed opened = refl
   none_named (One first) opened = absurd opened
@@ -152,7 +152,7 @@ module _ {F : Type 0} (Opens : Text → Option F → Type 0) where
       have_only paths files opened a m first is given =
           have_first paths files opened a first (subst (λ f. IsInput (remaining f) text) is given)
 
--- where there is a first one, some are named; where there is none, none is
+-- if there is a first file, some are named; if there is none, none is named
 pub AreNamed-first : {T : Type 0} (files : Files T) (a : T) → first_if files ≡ Some a → AreNamed files
 AreNamed-first Unnamed a is = cc
 AreNamed-first (One first) a is = tt

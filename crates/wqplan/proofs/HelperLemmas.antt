@@ -59,14 +59,14 @@ module _ {E : Type 0} (gives : List ℕ → Result ℕ E → Type 0)
       go false few = said word n read (ltb-false 8 n few)
   number_said word (Err e) read = tt
 
-  -- the same of what is known to have been read so
+  -- `number_said` of a result that is known to be read from this word
   pub number_given : (word : Option Text) (r : Result (Option ℕ) E) (o : Option ℕ) → Reads gives word r → o ≡ few_read r
       → IfSome o (λ n. helpers_in word ≡ n) × IfSome o (λ _. IsHelpers word)
   number_given word r o read is =
       both o (λ n. helpers_in word ≡ n) (IsHelpers word)
       (subst (λ x. IfSome x (λ n. (helpers_in word ≡ n) × IsHelpers word)) (sym is) (number_said word r read))
 
-  -- where a word is a number of helpers, it is read
+  -- if a word is a number of helpers, it is read
   pub helpers_read : (word : Option Text) (r : Result (Option ℕ) E) → Reads gives word r → IsHelpers word
       → IsSome (few_read r)
   helpers_read word (Ok None) read is = refl

@@ -1,4 +1,4 @@
--- The numbers that the program prints, and those that have an explanation.
+-- The numbers that the program prints, and the numbers that have an explanation.
 use Rattle.std.proofs.Common.{◌≡◌, ℕ, Bool, true, false, cond, List, [], ◌∷◌, Option, Some, None, refl, subst}
 use Rattle.std.specs.List.{cons_option, filter_map}
 use Rattle.std.proofs.lemmas.Bool.{eqb-true}
@@ -51,7 +51,7 @@ abbrev AllPrinted : List ℕ → Type 0
 AllPrinted [] = Unit {0}
 AllPrinted (code ∷ codes) = IsPrintedByProgram code × AllPrinted codes
 
--- so are the number that a row has, if it has one, and those of the rows after it
+-- the number of a row, if it has one, is printed, and so are the numbers of the rows after it
 printed_at : (own : Option ℕ) (codes : List ℕ) (code : ℕ) → AllPrinted (cons_option own codes)
     → numbered own code ≡ true → IsPrintedByProgram code
 printed_at (Some own) codes code printed is = subst IsPrintedByProgram (eqb-true own code is) printed.0

@@ -97,7 +97,7 @@ module _ (Holds : Text → List ℕ → Type 0) (Input : List ℕ → Type 0) (f
       pub run_told : IfOk ended Answered → IfOk result TellsRun
       run_told answered = of_run ended result is TellsRun (IfOk-weaker ended Answered TellsRun told_so answered)
 
--- ---- as it is asked for
+-- ---- `run` as it is asked for
 
 -- `run` with this many helpers is what is asked for
 module _ (Holds : Text → List ℕ → Type 0) (Input : List ℕ → Type 0) (files : Files Text) (behind : Behind)

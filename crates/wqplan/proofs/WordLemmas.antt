@@ -75,7 +75,7 @@ subs = labels_of (built wqplan)
 abbrev pub leaf : Text → FileForm → TailForm → Shape
 leaf name files tail = built_leaf (inherited (with_leaf_noted (marked_built wqplan.top)) (formed name files tail).top)
 
--- the walk over the words where it has met a command, and the words behind that
+-- the walk over the words once it has met a command, and the words behind the command
 abbrev stopped_at : Text → List Text → Walk
 stopped_at name seen = record {
   held = nothing_held;
@@ -95,7 +95,7 @@ unfolding walk_passes walked
 passes_on name seen [] = refl
 passes_on name seen (x ∷ xs) = passes_on name (seen ++ x ∷ []) xs
 
--- the words of a command are taken where its own parse passes
+-- the words of a command are taken if its own parse passes
 abbrev told : Walk → Bool → Bool
 told walk passes = is_simple wqplan && (entered_passes (built wqplan) walk.stopped
     && (passes && (settle_passes top.rules top.args_override_self walk.held && (list_all default_passes top.rules
@@ -139,14 +139,14 @@ met_by verb program words =
 
 -- ---- arguments
 
--- a command of this name and form takes these words, and they give it these files, and this behind them
+-- a command of this name and form takes these words: they give it these files, and `behind`
 abbrev Reads : Text → FileForm → TailForm → Files Text → Behind → List Text → Type 0
 Reads name fs ts files behind words =
     let rows = rows_after (leaf name fs ts).rules [] words in
     (level_passes (leaf name fs ts) [] nothing_held words false ≡ true) × (files_in fs rows ≡ Some files)
     × (behind_in ts rows ≡ behind) × IsRead ts rows
 
--- the same of words that follow the files, where no word looks like an option
+-- `Reads` for the words behind the files, if no word looks like an option
 abbrev ReadsBehind : Text → FileForm → TailForm → Files Text → Behind → List Text → Type 0
 ReadsBehind name fs ts files behind words =
     list_all is_no_option (listed files ++ words) ≡ true → Reads name fs ts files behind (listed files ++ words)
@@ -324,7 +324,7 @@ module _ (P : Behind → List Text → Type 0) where
 
 -- ---- the forms that commands have
 
--- a command has these files, and this behind them. Another form has to be read here first
+-- a command has these files, and this behind them. A form that isn't here has to be added first
 abbrev is_form : FileForm → TailForm → Bool
 is_form file_forms.Nothing tail_forms.Word = true
 is_form file_forms.Input tail_forms.Nothing = true

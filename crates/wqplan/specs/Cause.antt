@@ -29,7 +29,7 @@ abbrev pub IsUnready : {F : Type 0} → (Option ℕ → Type 0) → (Text → Op
 IsUnready Seeds Opens files = Seeds None ⊎ Any (λ path. Opens path None) files
 
 -- a command with these files ended like this: `fault read` if it wasn't ready, or if a read may have failed; anything
--- else only after it was ready; and what stops only `run`, only if threads may be started
+-- else only after it was ready; and the faults that only `run` has, only if threads may be started
 abbrev pub EndsReady : {F : Type 0} → (Option ℕ → Type 0) → (Text → Option F → Type 0) → List Text → Type 0 → Type 0
     → Result End CommandFault → Type 0
 EndsReady Seeds Opens files MayFail MayStart (Ok end) = IsReady Seeds Opens files
@@ -54,8 +54,8 @@ abbrev pub Unless : Option ℕ → Type 0 → Type 0
 Unless None Holds = Holds
 Unless (Some limit) Holds = Unit {0}
 
--- a read may have failed: of standard input, where no file is named and the command has one text, if `InputFailed`
--- holds. A read of anything else may always have failed, since no clause sees it
+-- a read may have failed: a read of standard input, if `InputFailed` holds, no file is named and the command has one
+-- text. Any other read may always have failed, since no clause sees it
 abbrev pub MayFail : Type 0 → Limits → Files Text → Type 0
 MayFail InputFailed limits Unnamed = Unless limits.second (Unless limits.third InputFailed)
 MayFail InputFailed limits _ = Unit {0}
@@ -77,14 +77,14 @@ abbrev pub IsCaused : {F : Type 0} → (Option ℕ → Type 0) → (Text → Opt
     → Result End CommandFault → Type 0
 IsCaused Seeds Opens InputFailed asked result = EndsBy Seeds Opens InputFailed asked.verb asked.files result
 
--- what is taken from standard input where no file is named: a text up to the first byte past this limit, in at most as
+-- what is taken from standard input if no file is named: a text up to the first byte past this limit, in at most as
 -- many calls; else nothing
 abbrev pub TakesInput : {I : Type 0} → (I → Option (List ℕ)) → Meter I → Meter I → ℕ → Files Text → Type 0
 TakesInput remaining old new limit Unnamed =
     LosesPrefix remaining old new (limit + 1) × (new.calls ≤ old.calls + (limit + 1))
 TakesInput remaining old new limit _ = new ≡ old
 
--- what a command takes from standard input: a declaration, where no file is named; `explain` nothing
+-- what a command takes from standard input: a declaration, if no file is named; `explain` takes nothing
 abbrev pub ReadsBy : {I : Type 0} → (I → Option (List ℕ)) → Meter I → Meter I → Verb → Files Text → Type 0
 ReadsBy remaining old new Explain files = new ≡ old
 ReadsBy remaining old new verb files = TakesInput remaining old new max_declaration files

@@ -94,7 +94,7 @@ pub data Behind : Type 0 where
   helpers : ℕ → Behind
   word : Option Text → Behind
 
--- a command, the paths of its files, and what stands behind these
+-- a command, the paths of its files, and the words behind them
 pub record Asked : Type 0 where
   pub verb : Verb
   pub files : Files Text
@@ -159,7 +159,7 @@ abbrev pub HasFew : Behind → Type 0
 HasFew (helpers count) = count ≤ 8
 HasFew _ = Unit {0}
 
--- the same of all that is asked for
+-- `HasFew` of a whole command line
 abbrev pub HasFewHelpers : Asked → Type 0
 HasFewHelpers asked = HasFew asked.behind
 
@@ -215,7 +215,7 @@ behind_in tail_forms.Names rows = names (names_of rows)
 behind_in tail_forms.Helpers rows = helpers (helpers_in (one_of (codes "HELPERS") rows))
 behind_in tail_forms.Word rows = word (first_of (codes "CODE") rows)
 
--- where a number of helpers is due, there is one
+-- if a number of helpers is due, there is one
 abbrev pub IsRead : TailForm → List Row → Type 0
 IsRead tail_forms.Helpers rows = IsHelpers (one_of (codes "HELPERS") rows)
 IsRead _ rows = Unit {0}
@@ -244,7 +244,7 @@ is_no_option (x ∷ xs) = not (x == 45)
 abbrev pub digit : ℕ → Text
 digit n = (48 + n) ∷ []
 
--- so many files fit a command
+-- a command can have this many files
 abbrev pub Fits : FileForm → Files Text → Type 0
 Fits file_forms.Nothing Unnamed = Unit {0}
 Fits file_forms.Input Unnamed = Unit {0}
@@ -256,7 +256,7 @@ Fits file_forms.OneOrTwo (Two first second) = Unit {0}
 Fits file_forms.Three (Three first second third) = Unit {0}
 Fits _ _ = ⊥
 
--- these words stand behind the files: one name at most, maybe the number of helpers, or the word to explain
+-- the words behind the files: one name at most, maybe the number of helpers, or the word to explain
 abbrev pub Spells : TailForm → Behind → List Text → Type 0
 Spells tail_forms.Nothing nothing words = words ≡ []
 Spells tail_forms.Names (names []) words = words ≡ []
@@ -267,8 +267,8 @@ Spells tail_forms.Word (word None) words = words ≡ []
 Spells tail_forms.Word (word (Some code)) words = words ≡ code ∷ []
 Spells _ _ words = ⊥
 
--- the words are the program's name, a command, and after it its files and what stands behind them. None of these looks
--- like an option
+-- the words are the program's name, a command, and after it its files and what stands behind them. None of these words
+-- looks like an option
 pub record Calls (words : List Text) (asked : Asked) : Type 0 where
   pub program : Text
   pub behind : List Text

@@ -101,7 +101,7 @@ Ended contents old new Ends (Err Write) =
 Ended contents old new Ends (Err Read) = new ≡ old
 Ended contents old new Ends (Err Memory) = new ≡ old
 
--- the same of a command that may also be stopped by what stops only `run`
+-- how a command ends that may also have the faults that only `run` has
 abbrev pub EndedBy : {W : Type 0} → (W → Option (List ℕ)) → Meter W → Meter W → (End → List ℕ → Type 0)
     → Result End CommandFault → Type 0
 EndedBy contents old new Ends (Ok end) = Ended contents old new Ends (Ok end)

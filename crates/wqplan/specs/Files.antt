@@ -26,7 +26,7 @@ first_if (One first) = Some first
 first_if (Two first second) = Some first
 first_if (Three first second third) = Some first
 
--- a text is that of the file at this path, if the command has such a text, and else empty
+-- a text is that of the file at this path if the command has such a text, and empty if not
 abbrev pub HoldsIf : (Text → List ℕ → Type 0) → Option ℕ → Text → List ℕ → Type 0
 HoldsIf Holds None path text = text ≡ []
 HoldsIf Holds (Some limit) path text = Holds path text
@@ -42,7 +42,7 @@ HaveTexts Holds Input limits (Three first second third) texts =
     Holds first texts.first × HoldsIf Holds limits.second second texts.second
     × HoldsIf Holds limits.third third texts.third
 
--- a command with these limits ends like this with this answer to what is kept of texts that it has
+-- a command with these limits ends like this, with this answer, on the kept part of its texts
 abbrev pub EndsIn : {F : Type 0} → (Given → Type 0) → Limits → (Declared → Given → F → End → List ℕ → Type 0) → End
     → List ℕ → Type 0
 EndsIn {F} Have limits Answers end out =

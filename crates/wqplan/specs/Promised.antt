@@ -19,8 +19,8 @@ abbrev pub KeepsAllCircles : Bool → Given → End → List ℕ → Type 0
 KeepsAllCircles false texts end out = KeepsOwnCircles texts.first end out
 KeepsAllCircles true texts end out = KeepsCircles texts.first texts.second end out
 
--- what an answer to these texts keeps: that of `plan` its promise; a yes of `check` is true; those of `deadlock`,
--- `hang` and `circles` their promises. What the other commands promise is how they end
+-- what holds of an answer to these texts: the answers of `plan`, `deadlock`, `hang` and `circles` keep their promises,
+-- and a yes of `check` is true. The other commands promise how they end
 abbrev pub Keeps : Verb → Files Text → Given → End → List ℕ → Type 0
 Keeps Plan files texts end out = KeepsPromise texts.first end out
 Keeps Check files texts end out = end ≡ Good → YesIsTrue texts.first texts.second out

@@ -43,7 +43,7 @@ abbrev pub end_or_common : Result End Fault → Result End CommandFault
 end_or_common (Ok end) = Ok end
 end_or_common (Err fault) = Err (Common fault)
 
--- the same of `explain`
+-- how a run of `explain` ends
 abbrev pub explained_or_common : Result Explained Fault → Result End CommandFault
 explained_or_common (Ok explained) = Ok (explain_end explained)
 explained_or_common (Err fault) = Err (Common fault)

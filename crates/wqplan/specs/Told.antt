@@ -33,17 +33,17 @@ use Rattle.wqplan.specs.Ended.{EndsOn, HasTexts, has_second, limits_of}
 abbrev pub shown_name : Text → Text
 shown_name path = if bytes_eq path (codes "-") then codes "<stdin>" else path
 
--- the names of the files of a declaration, of the second text, and of a run; empty, where there is none
+-- the names of the files of a declaration, of the second text, and of a run; empty if there is no such file
 pub record Names : Type 0 where
   pub declaration : Text
   pub second : Text
   pub run : Text
 
--- those that a voice was given
+-- the names of files that a voice was given
 abbrev pub names_given : FileNames → Names
 names_given names = record { declaration = names.declaration.now; second = names.second.now; run = names.run.now }
 
--- those of the files that are named
+-- the names of the files on the command line
 abbrev pub names_of_files : Files Text → Names
 names_of_files Unnamed = record { declaration = codes "<stdin>"; second = []; run = [] }
 names_of_files (One first) = record { declaration = shown_name first; second = []; run = [] }
@@ -54,16 +54,16 @@ names_of_files (Three first second third) =
 
 -- ---- what is said
 
--- of texts this is found and answered, and of what was found this is said, or of the refusal of the declaration in the
--- file of this name
+-- what is found in texts and answered to them, and what is said of what was found, or of the refusal of the declaration
+-- in the file of this name
 abbrev pub IsSaidOf : {F : Type 0} → Text → (Declared → Given → F → End → List ℕ → Type 0)
     → (Declared → Given → F → Option (List ℕ) → Type 0) → Given → End → List ℕ → Option (List ℕ) → Type 0
 IsSaidOf {F} first Answers Says texts end out said = (found : Result F Refusal)
     × AnswersTexts Answers texts found end out
     × SaysOfTexts Says (λ _ r words. Diagnoses first (Some r) words) texts found said
 
--- what is said of the answer of a command to these texts, which it found with vectors that have such an allocator;
--- `explain` says nothing
+-- what is said of the answer of a command to these texts; `A` is the allocator of the vectors in what the command
+-- found. Nothing is said beside `explain`
 abbrev pub SaysOn : Type 0 → Names → Verb → Files Text → Behind → Given → End → List ℕ → Option (List ℕ) → Type 0
 SaysOn A n Plan files behind = IsSaidOf n.declaration (λ s _ found end out. FindsPlan s found end out)
     (λ s _ end said. SaysPlan n.declaration s end said)
@@ -93,7 +93,7 @@ SaysOn A n Run files behind = IsSaidOf n.declaration
 SaysOn A n Explain files behind = λ texts end out said. said ≡ None
 
 -- the command that is asked for ends like this with this answer to the texts of its files; the answer is written, and
--- this is told of it, with the names of these files
+-- this is said of it, with the names of these files
 pub record IsToldAsAsked (A : Type 0) (Holds : List ℕ → List ℕ → Type 0) (Input : List ℕ → Type 0) (asked : Asked)
     (end : End) (IsWritten : List ℕ → Type 0) (IsTold : (Option (List ℕ) → Type 0) → Type 0) : Type 0 where
   pub texts : Given

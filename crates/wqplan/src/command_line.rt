@@ -52,7 +52,7 @@ impl Second {
 pub(crate) enum FileForm {
     /// None.
     Nothing,
-    /// A declaration, which is standard input where no file is named.
+    /// A declaration; if no file is named, it is standard input.
     Input,
     /// A declaration.
     One,
@@ -84,9 +84,9 @@ pub(crate) enum Files<T> {
     Unnamed,
     /// That of a declaration.
     One(T),
-    /// Those of a declaration, and of a certificate or an assignment.
+    /// The files of a declaration and of a certificate or an assignment.
     Two(T, T),
-    /// Those of a declaration, an assignment and a run.
+    /// The files of a declaration, an assignment and a run.
     Three(T, T, T),
 }
 
@@ -135,7 +135,7 @@ impl<'a> Tail<'a> {
     }
 }
 
-/// What a command line asks for: a command, the paths of its files, and what stands behind these.
+/// What a command line asks for: a command, the paths of its files, and the words behind them.
 #[derive(Debug, Drop)]
 pub(crate) struct Request<'a> {
     pub(crate) verb: Verb,
@@ -298,7 +298,7 @@ fn text_given<'a>(given: &ArgMatches<'a>, name: &str) -> Option<&'a str>
     given.get_str(name)
 }
 
-/// The files that a parse gave a command. Those that it needs are in all matches that a parse gives.
+/// The files that a parse gave a command. The files that it needs are in all matches that a parse gives.
 fn files_given<'a>(form: FileForm, given: &ArgMatches<'a>) -> Option<Files<&'a str>>
     ensures { option_map paths result ≡ files_in form (rows_of (found_of given.now)) }
 {

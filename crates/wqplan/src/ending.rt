@@ -1,4 +1,4 @@
-//! How the process ends: its exit status, and what it prints where a run has no answer.
+//! How the process ends: its exit status, and what it prints if a run has no answer.
 //!
 //! The statuses are those of docs/FORMAT.md: 0 to 2 as `End` has them, 2 for a wrong command line too, 3 for a fault,
 //! and 141 if nobody reads standard output any more. A line that can't be written to standard error is lost, but the
@@ -54,7 +54,7 @@ fn unwritten<R: Eprint + AllocGlobal>(rt: &R, why: Unwritten) -> u8
     }
 }
 
-/// The status of a command that ran. If standard output couldn't be written, this is the reason.
+/// The status of a command that ran. The reason is given if standard output couldn't be written.
 pub(crate) fn answered<R: Eprint + AllocGlobal>(
     rt: &R,
     outcome: Result<End, CommandFault>,

@@ -1,4 +1,4 @@
-//! The texts of help: for the program and for arguments. Those of commands are in `commands`.
+//! The texts of help: for the program and for arguments. The texts of commands are in `commands`.
 
 /// What the program is for.
 pub(crate) const PROGRAM: &str = "\

@@ -1,4 +1,4 @@
-//! Laws about the numbers that are printed and those that are explained, and about the faults of a command.
+//! Laws about the numbers that are printed and the numbers that are explained, and about the faults of a command.
 //!
 //! Each law is a function that does nothing. Its contract is the law.
 
@@ -39,7 +39,7 @@ pub fn what_cannot_be_opened_is_not_read<'a, O: World<'a>, I: Read>()
         → result ≡ Err (Common ReadFault) }
 {}
 
-/// By the same clause only `run` ends with `fault thread` or `fault tally`.
+/// By the clause of the law above, only `run` ends with `fault thread` or `fault tally`.
 pub fn only_run_is_stopped_by_threads<'a, O: World<'a>, I: Read>()
     ensures { (world : O) (old new : Meter I) (asked : Asked) (result : Result End CommandFault) →
         IsCaused (O.seeds world) (O.opens world) (HasFailed old new) asked result →

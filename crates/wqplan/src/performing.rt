@@ -173,7 +173,7 @@ fn end_of_explain(ended: Result<Explained, Fault>) -> Result<End, CommandFault>
 }
 
 /// Carries out a command on the files at these paths, which are opened before any of them is read, or on standard
-/// input. If a file can't be opened, it is `fault read`.
+/// input. A file that can't be opened is `fault read`.
 fn carry_out_files<
     'a,
     O: World<'a>,
@@ -243,7 +243,7 @@ fn carry_out_files<
     }
 }
 
-/// What reads the first of these files, if there is one. All others are closed.
+/// The reader of the first of these files, if there is one. The others are closed.
 fn first_if<T: Drop>(files: Files<T>) -> Option<T>
     ensures { result ≡ first_if files }
 {
@@ -255,7 +255,7 @@ fn first_if<T: Drop>(files: Files<T>) -> Option<T>
     }
 }
 
-/// Carries out `run` on the first of these files, or on standard input. If one can't be opened, it is `fault read`.
+/// Carries out `run` on the first of these files, or on standard input. A file that can't be opened is `fault read`.
 fn run<'a, O: World<'a>, R: Threads + Wait + Sync, I: Read, W: Write, E: Write>(
     world: &O,
     rt: &R,
@@ -497,8 +497,8 @@ pub(crate) fn perform<'a, O: World<'a>, R: Threads + Wait + Sync, I: Read, W: Wr
         (spelled request.entry) end out
         × WritesWhole W.contents writer.old writer.new out) }
 
-    // What is said is said of this answer, with the names of these files: of what was found, of which the answer is
-    // printed, or of the text that is refused.
+    // Standard error is about this answer, with the names of these files: about what was found and printed, or about
+    // the text that is refused.
     ensures told { IfOk result (λ end. IsToldAsAsked Global (Has (O.opens world.now) O.File.Read.remaining)
         (IsInput (I.remaining input.old.device)) (spelled request.entry) end
         (WritesWhole W.contents writer.old writer.new) (Tells E.contents teller.old teller.new)) }
@@ -511,7 +511,7 @@ pub(crate) fn perform<'a, O: World<'a>, R: Threads + Wait + Sync, I: Read, W: Wr
     carry_out_asked(world, rt, alloc, request, input, writer, teller)
 }
 
-/// The same, but the answer is written once everything else is said: on a terminal a diagnosis is above it.
+/// As `perform`, but the answer is written after everything else is said: on a terminal, a diagnosis stands above it.
 pub(crate) fn perform_above<
     'a,
     O: World<'a>,
@@ -537,8 +537,8 @@ pub(crate) fn perform_above<
         (spelled request.entry) end out
         × WritesWhole W.contents writer.old writer.new out) }
 
-    // What is said is said of this answer, even where a write of the answer, which comes after it, fails. After any
-    // other fault nothing is said.
+    // Standard error is about this answer, even if the write of the answer, which comes later, fails. After any other
+    // fault nothing is said.
     ensures told { IfOk result (λ end. IsToldAsAsked Global (Has (O.opens world.now) O.File.Read.remaining)
         (IsInput (I.remaining input.old.device)) (spelled request.entry) end
         (WritesWhole W.contents writer.old writer.new) (Tells E.contents teller.old teller.new)) }
@@ -562,7 +562,7 @@ pub(crate) fn perform_above<
     }
 }
 
-/// What stops a command whose answer is held in memory: where that can't take the answer, memory ran out.
+/// What stops a command whose answer is held in memory: if that can't take the answer, memory ran out.
 fn unheld(fault: CommandFault) -> CommandFault
     ensures { result ≡ unheld fault }
 {

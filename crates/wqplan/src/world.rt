@@ -1,10 +1,10 @@
-//! What the program asks of the system: files by their paths, of which `-` is standard input, a seed, and where its
-//! answer goes.
+//! What the program asks of the system: files by their paths (`-` is standard input), a seed, and a place for its
+//! answer.
 //!
-//! `perform` is proved for whatever does this. The files and the seed of a process are the only ones that the program
-//! knows; their few lines are read and tested. If a file can't be opened, or a read of it fails, standard error
-//! names it and says why, before the line of the fault. An opening takes the time of one system call, and so do a read
-//! and a seed.
+//! `perform` is proved for anything that does this. The program itself knows only the files and the seed of a process;
+//! these few lines are read and tested, and not proved. If a file can't be opened, or a read of it fails, standard
+//! error names it and says why, before the line of the fault. An opening takes the time of one system call, and so do a
+//! read and a seed.
 
 ghost use Rattle.std.specs.Prelude.{◌≡◌};
 ghost use Rattle.std.specs.Io.{ReadsAtMost};
@@ -44,8 +44,8 @@ pub(crate) trait World<'a> {
     fn open(&self, path: &'a str) -> Option<Self::File>
         ensures { opens self.now path.now result };
 
-    /// Draws the number with which the names of a declaration are hashed. Nothing if there is none. It is drawn anew
-    /// for each command, so that whoever writes a declaration can't know which names have the same hash.
+    /// Draws the number with which the names of a declaration are hashed. `None` if the system gives no number. It is
+    /// drawn anew for each command, so that the author of a declaration can't know which names have the same hash.
     fn seed(&self) -> Option<u64>
         ensures { seeds self.now result };
 }

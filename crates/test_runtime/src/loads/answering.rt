@@ -1,4 +1,4 @@
-//! The answer to a declaration and an assignment: they are judged, and then a load is run. It takes the time of both.
+//! The answer to a declaration and an assignment: they are judged, and then a load is run. This takes the time of both.
 
 use crate::loads::load::Load;
 use crate::loads::running::run;
@@ -38,8 +38,8 @@ fn answer_declared<R: Threads + Wait + Clock + Sync>(
     }
 }
 
-/// Runs a load on a runtime of these texts, this many rows and this many helpers, and adds what came of it; or the
-/// refusal of the first text that has to be refused. Returns the status.
+/// Runs a load on a runtime of these texts, with this many rows and helpers, and adds its results; or adds the refusal
+/// of the first text that has to be refused. Returns the status.
 pub fn answer<R: Threads + Wait + Clock + Sync>(
     rt: &R,
     alloc: Global,

@@ -1,4 +1,4 @@
-//! A caller. It takes the time of its calls, including what they wait for, and no memory.
+//! A caller. A caller takes the time of its calls, including what they wait for, and no memory.
 
 use crate::loads::load::{CallerTask, Load};
 use crate::loads::random::Random;

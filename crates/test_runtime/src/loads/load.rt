@@ -8,16 +8,16 @@ const STRESSING: u16 = 4;
 /// What each caller does.
 #[derive(Clone, Copy, PartialEq, Eq)]
 pub(crate) enum CallerTask {
-    /// It makes pseudo-random calls, and the last one to end destroys the runtime.
-    /// The bodies make pseudo-random calls too.
+    /// Each caller makes pseudo-random calls, and the last one to end destroys the runtime. The bodies make
+    /// pseudo-random calls too.
     Stress,
-    /// It queues its own item and flushes it, again and again.
+    /// Each caller queues its own item and flushes it, again and again.
     Rounds,
-    /// It queues a pseudo-random item and flushes it, again and again.
+    /// Each caller queues a pseudo-random item and flushes it, again and again.
     Storm,
-    /// It queues its own item and flushes it until the history is full, and then fills the last rows.
+    /// Each caller queues its own item and flushes it until the history is full, and then fills the last rows.
     Fill,
-    /// It queues all items and then flushes each of them, again and again. The bodies sleep.
+    /// Each caller queues all items and then flushes each of them, again and again. The bodies sleep.
     Sleep,
 }
 

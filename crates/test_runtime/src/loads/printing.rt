@@ -1,4 +1,4 @@
-//! What is printed once all threads have ended. It takes time in the number of seats, items and rows.
+//! What is printed once all threads have ended. A call takes time linear in the number of seats, items and rows.
 
 use crate::loads::client::Client;
 use crate::loads::load::{CallerTask, Load};
@@ -90,7 +90,7 @@ fn put_seat_of_lane<N: Naming>(
     Ok(())
 }
 
-/// Prints what each seat counted, of each item and of each of so many lanes.
+/// Prints what each seat counted, of each item and of each lane.
 fn put_seats<N: Naming>(
     out: &mut String,
     table: &ItemTable<'_, Global>,
@@ -108,7 +108,7 @@ fn put_seats<N: Naming>(
     Ok(())
 }
 
-/// Prints what a closed runtime hands back: of a stress each row too. Returns the status.
+/// Prints what a closed runtime hands back, with each row after a stress. Returns the status.
 fn put_closed<N: Naming>(
     out: &mut String,
     table: &ItemTable<'_, Global>,

@@ -31,7 +31,7 @@ impl Random {
         (self.numbers.next_u64() % limit as u64) as usize
     }
 
-    /// An item. There are this many items; where there is none, it is one that doesn't exist.
+    /// An item. `items` is how many there are; if that is 0, the item doesn't exist.
     pub(crate) fn item(&mut self, items: u16) -> ItemId {
         if items == 0 {
             return ItemId::new(0);

@@ -1,4 +1,4 @@
-//! Makes a runtime, in which rescuers and helpers serve the lanes and callers call. It takes the time of the calls.
+//! Makes a runtime, in which rescuers and helpers serve the lanes and callers call. This takes the time of the calls.
 
 ghost use Rattle.std.specs.Prelude.{◌≡◌, length, vec_len, slice_index, IfOk};
 ghost use Rattle.std.specs.List.{All};

@@ -1,8 +1,8 @@
-//! The body of a rescuer or a helper. In a load that is measured it counts its runs, and sleeps where it is to. In a
-//! stress it makes some calls at random.
+//! The body of a rescuer or a helper. In a measured load it counts its runs, and sleeps if it should. In a stress it
+//! makes some calls at random.
 //!
-//! A run takes constant time in a load that is measured, and a millisecond where it sleeps; in a stress it takes the
-//! time of the calls, whose number is that of the item's flushes at most, and two more.
+//! A run takes constant time in a measured load, and a millisecond if it sleeps; in a stress it takes the time of the
+//! calls, whose number is that of the item's flushes at most, and two more.
 
 ghost use Rattle.std.specs.Prelude.{◌≡◌, vec_len, replicate, length, IfOk};
 ghost use Rattle.wq_rescuer.specs.Executing.{SameFinished};

@@ -1,5 +1,5 @@
-//! The answer to a declaration and an assignment: they are judged, and then what is
-//! asked is done with them. It takes the time of these.
+//! The answer to a declaration and an assignment: they are judged, and then what is asked is done with them. A call
+//! takes the time of both.
 
 use crate::sessions::requests::TaskText;
 use crate::testbed::{Bed, SEED, SettingTexts, refuse_text};
@@ -41,8 +41,8 @@ fn answer_declared<R: Threads + Wait + Clock + Sync>(
     }
 }
 
-/// Does what is asked with what these texts say, with so many rows and so many helpers, or refuses the first text that
-/// has to be refused. Returns the status.
+/// Does what is asked with what these texts say, with this many rows and helpers, or refuses the first text that has to
+/// be refused. Returns the status.
 pub fn answer<R: Threads + Wait + Clock + Sync>(
     rt: &R,
     alloc: Global,

@@ -1,4 +1,4 @@
-//! The calls of a runtime that a text asks for, line by line. Reading a line takes time in its length.
+//! The calls of a runtime that a text asks for, line by line. Reading a line takes time linear in its length.
 
 use crate::testbed::{helper_of, item_of, lane_of};
 use std::alloc::Global;
@@ -28,7 +28,7 @@ pub(crate) enum RuntimeCall {
     Counted(Counted),
     /// One seat more.
     Seat,
-    /// So many seats more.
+    /// This many more seats.
     Seats(u32),
     /// The calls that follow count in the seat with this number.
     Use(u32),

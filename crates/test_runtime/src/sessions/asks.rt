@@ -31,7 +31,7 @@ fn put_back(slot: &mut Option<Asked>, asked: Asked) {
     }
 }
 
-/// Hands in the ask of a slot. It returns false if the slot has none.
+/// Hands in the ask of a slot. Returns false if the slot has none.
 fn tell_slot(
     book: &mut Book<Global>,
     slot: &mut Option<Asked>,
@@ -54,7 +54,7 @@ fn tell_slot(
     Ok(true)
 }
 
-/// Hands in the ask with this number. It returns false if there is none.
+/// Hands in the ask with this number. Returns false if there is no such ask.
 pub(crate) fn tell(
     book: &mut Book<Global>,
     asks: &mut [Option<Asked>],
@@ -67,7 +67,7 @@ pub(crate) fn tell(
     }
 }
 
-/// Gives up those that are left.
+/// Gives up the asks that are left.
 pub(crate) fn give_up_all(mut asks: Vec<Option<Asked>>) {
     while let Some(slot) = asks.pop() {
         match slot {

@@ -1,5 +1,5 @@
-//! The calls of a book that a text asks for, made line by line. It takes the time of
-//! the calls, and for each line that of printing each lane.
+//! The calls of a book that a text asks for, made line by line. This takes the time of the calls, and for each line
+//! that of printing each lane.
 
 use crate::sessions::asks::{ask, give_up_all, tell};
 use crate::sessions::lane_asks;
@@ -140,7 +140,7 @@ fn put_started(
     }
 }
 
-/// Adds what the rescuer of a lane runs and waits for, and then so many helpers.
+/// Adds what the rescuer of a lane runs and waits for, and then what each helper does.
 fn put_lane(
     out: &mut String,
     table: &ItemTable<'_, Global>,
@@ -167,7 +167,7 @@ fn put_lane(
     Ok(())
 }
 
-/// Adds the state of a book with so many helpers, after an answer, and the end of the line.
+/// Adds the state of a book with this many helpers, after an answer, and the end of the line.
 fn put_state(
     out: &mut String,
     table: &ItemTable<'_, Global>,
@@ -192,7 +192,7 @@ struct Desk {
 }
 
 impl Desk {
-    /// Makes a call, and adds the answer. It returns false if the call hands in an ask that isn't there.
+    /// Makes a call, and adds the answer. Returns false if the call hands in an ask that isn't there.
     fn make(
         &mut self,
         table: &ItemTable<'_, Global>,

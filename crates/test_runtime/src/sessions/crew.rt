@@ -1,6 +1,6 @@
 //! A rescuer for each lane, its helpers, and a thread for each caller. Their bodies and callers do what a text says.
 //!
-//! It takes the time of the bodies and the callers, and then that of printing the history that they leave.
+//! This takes the time of the bodies and the callers, and then that of printing the history that they leave.
 
 ghost use Rattle.std.specs.Prelude.{◌≡◌, vec_len, slice_index, IfOk};
 ghost use Rattle.std.specs.List.{All};

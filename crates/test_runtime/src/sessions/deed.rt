@@ -26,14 +26,14 @@ pub(crate) enum Deed {
     Meet,
     /// Looks for the end, and goes on for a while.
     Linger,
-    /// Goes on for a while, and counts itself among those that did.
+    /// Goes on for a while, and counts itself among the doers that did so.
     Dawdle,
-    /// Sees whether so many have dawdled.
+    /// Sees whether this many doers have dawdled.
     Seen(u32),
     /// A body goes on for a while, and sees whether its item is run only once at a time. A caller skips this.
     Alone,
-    /// A caller says that the end has come, destroys the runtime, and looks whether
-    /// those that lingered have ended. A body skips this.
+    /// A caller says that the end has come, destroys the runtime, and looks whether the lingering doers have ended. A
+    /// body skips this.
     Destroy,
 }
 
@@ -134,7 +134,7 @@ impl Plot {
         Ok(())
     }
 
-    /// Adds a deed. It returns false if nobody has begun.
+    /// Adds a deed. Returns false if no doer has begun.
     fn add(&mut self, deed: Deed) -> Result<bool, AllocError> {
         match self.begun().last_mut() {
             Some(deeds) => {

@@ -1,6 +1,6 @@
 //! A body or a caller that does what a text says, one deed after the other, up to the first that is refused.
 //!
-//! It takes the time of its deeds, which may wait for other threads.
+//! This takes the time of its deeds, which may wait for other threads.
 
 ghost use Rattle.std.specs.Prelude.{◌≡◌, vec_len, replicate, IfOk};
 ghost use Rattle.wq_rescuer.specs.Executing.{SameFinished};
@@ -28,7 +28,7 @@ pub(crate) struct Doer<'a> {
 }
 
 impl<'a> Doer<'a> {
-    /// Makes one that does these things, and can count this many items.
+    /// Makes a doer that does these things, and can count this many items.
     pub(crate) fn new(
         alloc: Global,
         flags: &'a Flags,

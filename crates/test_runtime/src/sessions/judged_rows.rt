@@ -22,7 +22,7 @@ fn without_blanks(alloc: Global, text: &[u8]) -> Result<Vec<u8>, AllocError> {
     Ok(digits)
 }
 
-/// The bytes that a text of hexadecimal digits stands for; none if it isn't such a text, or is too long.
+/// The bytes that a text of hexadecimal digits stands for; `None` if it isn't such a text, or is too long.
 fn bytes_of(alloc: Global, text: &[u8]) -> Result<Option<Vec<u8>>, AllocError> {
     let digits = without_blanks(alloc, text)?;
     match hex::decode(alloc, digits) {
@@ -71,7 +71,7 @@ fn put_lane(
     out.push('\n')
 }
 
-/// Adds the state of so many helpers of a lane.
+/// Adds the state of the helpers of a lane.
 fn put_helpers(
     out: &mut String,
     table: &ItemTable<'_, Global>,
@@ -91,7 +91,7 @@ fn put_helpers(
     Ok(())
 }
 
-/// Adds the state of a machine, with so many helpers for each lane.
+/// Adds the state of a machine, with this many helpers for each lane.
 fn put_replay(
     out: &mut String,
     table: &ItemTable<'_, Global>,

@@ -33,7 +33,7 @@ fn put_back(slot: &mut Option<LaneAsked>, asked: LaneAsked) {
     }
 }
 
-/// Hands in the ask of a slot. It returns false if the slot has none.
+/// Hands in the ask of a slot. Returns false if the slot has none.
 fn tell_slot(
     book: &mut Book<Global>,
     slot: &mut Option<LaneAsked>,
@@ -56,7 +56,7 @@ fn tell_slot(
     Ok(true)
 }
 
-/// Hands in the ask with this number. It returns false if there is none.
+/// Hands in the ask with this number. Returns false if there is no such ask.
 pub(crate) fn tell(
     book: &mut Book<Global>,
     asks: &mut [Option<LaneAsked>],
@@ -69,7 +69,7 @@ pub(crate) fn tell(
     }
 }
 
-/// Gives up those that are left.
+/// Gives up the asks that are left.
 pub(crate) fn give_up_all(mut asks: Vec<Option<LaneAsked>>) {
     while let Some(slot) = asks.pop() {
         match slot {

@@ -1,15 +1,15 @@
-//! A text that says line by line what is to be done. Reading one takes time in its
-//! length, besides that of what is done.
+//! A text that says line by line what is to be done. Reading one takes time linear in its length, besides that of what
+//! is done.
 
 use crate::testbed::{MAX_CERTIFICATE, MAX_CERTIFICATE_LINE};
 use std::alloc::{AllocError, Global};
 use wq_items::ItemTable;
 use wq_text::{Text, Words};
 
-/// Who is told what the lines of a text say.
+/// A listener is told what the lines of a text say.
 pub(crate) trait Listener {
-    /// Takes in what a line says by its first word and the words after it, and may add to what is printed. It returns
-    /// false where the line is a mistake.
+    /// Takes in what a line says by its first word and the words after it, and may add to what is printed. Returns
+    /// false if the line is a mistake.
     fn hear(
         &mut self,
         table: &ItemTable<'_, Global>,
@@ -38,8 +38,8 @@ fn tell_lines<L: Listener>(
     Ok(None)
 }
 
-/// Tells what a text says. Returns the number of the first line that is a mistake, if there is one; where a line, or
-/// the text, is too long, nothing is told.
+/// Tells what a text says. Returns the number of the first line that is a mistake, if there is one; if a line or the
+/// text is too long, nothing is told.
 pub(crate) fn tell_text<L: Listener>(
     to: &mut L,
     table: &ItemTable<'_, Global>,

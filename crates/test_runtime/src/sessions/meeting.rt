@@ -1,5 +1,5 @@
-//! How threads see each other: a flag for each, one for the end, a count of those that dawdled, and for each item how
-//! many run it. Looking takes as long as the others let it wait, but at most 1,000,000,000 looks for each.
+//! How threads see each other: a flag for each, one for the end, a count of the doers that dawdled, and for each item,
+//! how many doers run it. Looking takes as long as the others let it wait, but at most 1,000,000,000 looks for each.
 
 use std::alloc::{AllocError, Global};
 use std::sync::atomic::{AtomicBool, AtomicU32, Ordering};
@@ -56,7 +56,7 @@ impl Flags {
         })
     }
 
-    /// Says that this thread is here, and looks for all others. It returns whether it has seen all of them.
+    /// Says that this thread is here, and looks for all others. Returns whether it has seen all of them.
     pub(crate) fn meet(&self, own: usize) -> bool {
         if let Some(flag) = self.here.get(own) {
             flag.store(true, Ordering::SeqCst);
@@ -68,7 +68,7 @@ impl Flags {
         all
     }
 
-    /// Looks for the end, goes on for a while, and says that it has. It returns whether it has seen the end.
+    /// Looks for the end, goes on for a while, and says that it has. Returns whether it has seen the end.
     pub(crate) fn linger(&self) -> bool {
         let has_seen = look(&self.is_ending);
         let mut seen = 0u32;
@@ -93,8 +93,8 @@ impl Flags {
         true
     }
 
-    /// Counts a run of this item as under way, goes on for a while, and counts it no
-    /// more. It returns whether no other one was under way meanwhile.
+    /// Counts a run of this item as under way, goes on for a while, and counts it no more. Returns whether no other run
+    /// of the item was under way meanwhile.
     pub(crate) fn run_alone(&self, item: ItemId) -> bool {
         let Some(count) = self.under_way.get(usize::from(item.get())) else {
             return false;

@@ -1,4 +1,5 @@
-//! What is printed once all rescuers, helpers and callers have ended. It takes time in the length of what is printed.
+//! What is printed once all rescuers, helpers and callers have ended. A call takes time linear in the length of what is
+//! printed.
 
 use crate::testbed::{Bed, fault, put_closed, put_context, put_done};
 use std::alloc::{AllocError, Global};
@@ -126,7 +127,7 @@ fn put_unrun<N: Naming, B: Body + Drop, C: Caller + Drop>(
     Ok(1)
 }
 
-/// Closes a runtime, and adds what is handed back. Returns the status.
+/// Closes a runtime, and adds what it hands back. Returns the status.
 fn close<N: Naming>(
     out: &mut String,
     table: &ItemTable<'_, Global>,

@@ -1,4 +1,4 @@
-//! What is asked: a task, and the text that says what is to be done in it. It takes the time of the task.
+//! What is asked: a task, and the text that says what is to be done in it. This takes the time of the task.
 
 ghost use Rattle.std.specs.Prelude.{◌≡◌};
 ghost use Rattle.wq_core.specs.Wiring.{wiring, with_helpers};
@@ -26,11 +26,11 @@ pub enum Task {
     Book,
     /// The rows of a history are judged, which the text has in hexadecimal digits. There are 8 helpers at most.
     Check,
-    /// The calls of a text are made of a runtime, in one thread but for those that sleep.
+    /// The calls of a text are made of a runtime, in one thread, except the calls that sleep.
     Calls,
     /// Rescuers and callers of a runtime do what a text says.
     Crew,
-    /// They do so, and the report that `run` prints is printed of it.
+    /// As `Calls`, and the report that `run` prints is printed of the runtime.
     Report,
     /// Rescuers of a runtime make the declared flushes, and two callers queue and flush all items. There is no text.
     Script,

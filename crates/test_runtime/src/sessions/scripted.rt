@@ -1,7 +1,7 @@
 //! A rescuer for each lane and its helpers, whose bodies make the declared flushes of their items, and two callers that
 //! queue all items and then flush them, or one caller that makes the calls of a text.
 //!
-//! It takes the time of the bodies and the callers, and then that of printing the history that they leave.
+//! A run takes the time of the bodies and the callers, and then that of printing the history that they leave.
 
 ghost use Rattle.std.specs.Prelude.{◌≡◌};
 ghost use Rattle.wq_core.specs.Wiring.{wiring, with_helpers};

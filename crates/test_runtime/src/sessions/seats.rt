@@ -1,6 +1,6 @@
 //! Seats of a runtime, the calls that count in them, and the answers of these calls.
 //!
-//! Each takes the time of its call, and that of printing the answer.
+//! A line takes the time of its call and of printing the answer.
 
 use crate::sessions::asking::{Counted, RuntimeCall};
 use crate::testbed::{put_code, put_done, put_item};
@@ -93,7 +93,7 @@ impl<N: Naming> Seats<N> {
         }
     }
 
-    /// Makes this many more seats. It returns false if the runtime doesn't make all of them.
+    /// Makes this many more seats. Returns false if the runtime doesn't make all of them.
     pub(crate) fn add<R: Wait>(
         &mut self,
         rt: &R,
@@ -115,7 +115,7 @@ impl<N: Naming> Seats<N> {
         Ok(true)
     }
 
-    /// Takes the seats of somebody else, which come after these.
+    /// Takes over other seats, which come after these.
     pub(crate) fn take(&mut self, mut other: Seats<N>) -> Result<(), AllocError> {
         self.made.append(&mut other.made)
     }

@@ -1,8 +1,8 @@
-//! The calls of a text, made on one runtime in one thread, with its seats, but for
-//! those that are to sleep until another call wakes them.
+//! The calls of a text, made on one runtime in one thread, with its seats, except the calls that sleep until another
+//! call wakes them.
 //!
-//! It takes the time of the calls. A call that would wait for another thread never
-//! ends, unless it is one of those that sleep.
+//! A session takes the time of the calls. A call that would wait for another thread never ends, unless it is one of the
+//! sleeping calls.
 
 use crate::sessions::asking::{RuntimeCall, read_call};
 use crate::sessions::seats::Seats;
@@ -56,7 +56,7 @@ impl<N: Naming, R: Wait> Session<'_, N, R> {
         appended
     }
 
-    /// Closes this runtime with these seats, and adds what is handed back.
+    /// Closes this runtime with these seats, and adds what the runtime hands back.
     fn close_with(
         &mut self,
         runtime: WqRuntime<N, Global>,
@@ -118,8 +118,8 @@ impl<N: Naming, R: Wait> Session<'_, N, R> {
 }
 
 impl<N: Naming + Send + Sync, R: Threads + Wait + Clock + Sync> Session<'_, N, R> {
-    /// Hears of a call that is to sleep, with a seat of its own. It returns false
-    /// where the words have the form of none.
+    /// Hears of a call that is to sleep, with a seat of its own. Returns false if the words have the form of no such
+    /// call.
     fn hear_sleeper(
         &mut self,
         table: &ItemTable<'_, Global>,
@@ -143,8 +143,8 @@ impl<N: Naming + Send + Sync, R: Threads + Wait + Clock + Sync> Session<'_, N, R
         Ok(true)
     }
 
-    /// Makes a call that wakes those that sleep, and adds the answers of all and the
-    /// ends of their lines. Their seats come after the others.
+    /// Makes a call that wakes the sleeping ones, and adds the answers of all calls and the ends of their lines. Their
+    /// seats come after the others.
     fn wake(
         &mut self,
         table: &ItemTable<'_, Global>,
@@ -173,8 +173,8 @@ impl<N: Naming + Send + Sync, R: Threads + Wait + Clock + Sync> Session<'_, N, R
         out.push('\n')
     }
 
-    /// Hears of a call, and makes it. It returns false if the words have the form of none, or if the runtime
-    /// can't be closed, since calls sleep.
+    /// Hears of a call, and makes it. Returns false if the words have the form of no call, or if the runtime can't be
+    /// closed because calls sleep.
     fn hear_call(
         &mut self,
         table: &ItemTable<'_, Global>,
@@ -198,8 +198,8 @@ impl<N: Naming + Send + Sync, R: Threads + Wait + Clock + Sync> Session<'_, N, R
         Ok(true)
     }
 
-    /// Hears of a line by its first word and the words after it. It returns false
-    /// where the line is a mistake; once the runtime is closed, none is.
+    /// Hears of a line by its first word and the words after it. Returns false if the line is a mistake; once the
+    /// runtime is closed, no line is.
     fn hear(
         &mut self,
         table: &ItemTable<'_, Global>,

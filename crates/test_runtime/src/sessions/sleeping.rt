@@ -1,8 +1,7 @@
 //! Calls that sleep, each in a thread of its own, until a call of this thread wakes them.
 //!
-//! It takes a tenth of a second, in which they fall asleep, and the time of the
-//! calls. If nobody wakes them, it never ends. No call is made before all
-//! threads are there: so it ends where one can't be made.
+//! A session takes a tenth of a second, in which the calls fall asleep, and the time of the calls. If nothing wakes
+//! them, it never ends. No call is made before all threads exist, so it ends if one can't be made.
 
 use crate::sessions::asking::RuntimeCall;
 use crate::sessions::seats::Seats;

@@ -1,5 +1,5 @@
 //! What every command line has: the files of a declaration and an assignment, a number of rows, and a number of
-//! helpers. It takes time in the number of words.
+//! helpers. A call takes time linear in the number of words.
 
 use std::rt::Env;
 use std::{env, io};

@@ -1,4 +1,5 @@
-//! What is printed of a closed runtime: its counts and its rows. It takes time in the number of items, lanes and rows.
+//! What is printed of a closed runtime: its counts and its rows. A call takes time linear in the number of items, lanes
+//! and rows.
 
 use crate::testbed::printing::put_item;
 use std::alloc::{AllocError, Global};

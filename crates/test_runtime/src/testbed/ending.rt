@@ -1,4 +1,4 @@
-//! How a program ends: what it prints, its status, and what it says where there is no answer.
+//! How a program ends: what it prints, its status, and what it says if there is no answer.
 
 use std::io;
 use wq_commands::{Fault, Metered, write_text};

@@ -1,4 +1,4 @@
-//! Files. Reading one takes time in the number of its bytes.
+//! Files. Reading one takes time linear in the number of its bytes.
 
 use crate::testbed::command_line::Setting;
 use std::fs;
@@ -16,7 +16,7 @@ pub struct SettingTexts {
     pub assigned: Vec<u8>,
 }
 
-/// Reads the bytes of the file at this path, or the first `limit + 1` where it has more than `limit`.
+/// Reads the bytes of the file at this path, or the first `limit + 1` if it has more than `limit`.
 pub fn read_file<R: Files + AllocGlobal>(rt: &R, path: &str, limit: u32) -> Result<Vec<u8>, Fault> {
     let file = fs::open(rt, path).map_err(|_| Fault::Read)?;
     read_text(rt.alloc(), &mut Metered::new(file), limit)

@@ -5,7 +5,7 @@ use wq_groups::LaneId;
 use wq_items::{ItemId, ItemTable};
 use wq_text::number;
 
-/// The item of this name; where there is none, the first number past the items.
+/// The item of this name; if there is none, the first number past the items.
 pub fn item_of(table: &ItemTable<'_, Global>, name: &[u8]) -> ItemId {
     table.find(name).unwrap_or(ItemId::new(table.len()))
 }

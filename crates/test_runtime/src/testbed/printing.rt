@@ -46,7 +46,7 @@ pub fn put_context(out: &mut String, context: &Context) -> Result<(), AllocError
     write!(out, " helper {}", context.number)
 }
 
-/// Adds the name of an item, or `-` where it has none.
+/// Adds the name of an item, or `-` if it has none.
 pub fn put_item(
     out: &mut String,
     table: &ItemTable<'_, Global>,
@@ -59,7 +59,7 @@ pub fn put_item(
     }
 }
 
-/// Adds the name of an item, or `-` where there is none.
+/// Adds the name of an item, or `-` if there is no item.
 pub fn put_item_or_none(
     out: &mut String,
     table: &ItemTable<'_, Global>,

@@ -7,7 +7,7 @@ use Rattle.std.specs.BTreeSet.{contains}
 use Rattle.std.specs.List.{count_by}
 use Rattle.wq_dot.proofs.shared.shared_names.Given as goal
 
--- of the names so far the one set has those that stand at least once, and the other those that stand at least twice
+-- of the names so far, one set has those that occur at least once, and the other set those that occur at least twice
 abbrev pub invariant-loop-name : goal.invariant-loop-name
 invariant-loop-name g l =
     ((q : Bor (List ℕ)) → contains (λ x y. slice_cmp nat_cmp x.now y.now) l.seen q ≡ nat_le 1 (count_by (λ v. bytes_eq q.now v.now) (take l.name-index l.called)))

@@ -6,7 +6,7 @@ use Rattle.wq_dot.specs.Dotting.{bold_text, counted}
 use Rattle.wq_dot.proofs.Pieces.{put_more}
 use Rattle.wq_dot.proofs.titles.put_bold.Goals as goal
 
--- so many waits are bold
+-- the words that this many waits are bold
 abbrev waits_text : ℕ → List ℕ
 waits_text bold = codes "," ++ counted bold (codes "wait") ++ codes " in bold"
 

@@ -6,7 +6,7 @@ use Rattle.wq_dot.specs.Dotting.{counted, leading_text, red_text, shortest_text}
 use Rattle.wq_dot.proofs.Pieces.{put_line, put_more}
 use Rattle.wq_dot.proofs.titles.put_red.Goals as goal
 
--- what is said where waits are red
+-- what is said if waits are red
 abbrev said_text : List ℕ → ℕ → ℕ → ℕ → List ℕ
 said_text hanging leading red bold =
     hanging ++ codes "," ++ counted red (codes "wait") ++ codes " in red" ++ leading_text leading

@@ -5,7 +5,7 @@ use Rattle.wq_dot.specs.Dotting.{red_legend, red_legends, shortest_legend}
 use Rattle.wq_dot.proofs.Pieces.{put_more}
 use Rattle.wq_dot.proofs.titles.put_red_legends.Goals as goal
 
--- what is said where waits are red
+-- what is said if waits are red
 abbrev said_text : ℕ → ℕ → ℕ → List ℕ
 said_text leading red bold = red_legend leading red ++ shortest_legend red bold
 

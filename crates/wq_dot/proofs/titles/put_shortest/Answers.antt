@@ -7,7 +7,7 @@ use Rattle.wq_dot.specs.Dotting.{shortest_text}
 use Rattle.wq_dot.proofs.Pieces.{put_line}
 use Rattle.wq_dot.proofs.titles.put_shortest.Goals as goal
 
--- what is said of so many bold waits
+-- what is said of this many bold waits
 abbrev waits_text : ℕ → List ℕ
 waits_text bold = codes "," ++ spaced (decimal bold) ++ codes " in bold"
 

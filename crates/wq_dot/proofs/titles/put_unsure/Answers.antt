@@ -7,7 +7,7 @@ use Rattle.wq_dot.specs.Dotting.{unsure_text}
 use Rattle.wq_dot.proofs.Pieces.{put_line}
 use Rattle.wq_dot.proofs.titles.put_unsure.Goals as goal
 
--- so many flushes are unsure
+-- the words that this many flushes are unsure
 abbrev waits_text : ℕ → List ℕ
 waits_text unsure = codes "," ++ spaced (decimal unsure) ++ codes " not sure"
 

@@ -3,7 +3,7 @@ use Rattle.std.specs.Prelude.{option_map}
 use Rattle.wq_cert.specs.Forms.{items_of}
 use Rattle.wq_repair_command.proofs.movers.named_items.Given as goal
 
--- the items so far, and those of the names that are left
+-- the items so far, and the items of the names that are left
 abbrev pub invariant-loop-name : goal.invariant-loop-name
 invariant-loop-name g l =
     option_map (λ (is : List ℕ). l.items.items ++ is) (items_of l.table.names (map (λ n. n.now) (drop l.name-index l.names)))

@@ -7,7 +7,7 @@ use Rattle.wq_cert.proofs.LineLemmas.{lines}
 use Rattle.wq_run.specs.Report.{workqueues_line, item_line}
 use Rattle.wq_run.proofs.report.report_text.Given as goal
 
--- the first line, and those of the items below i
+-- the first line, and the lines of the items below i
 abbrev pub invariant-loop-i : goal.invariant-loop-i
 invariant-loop-i g l =
     l.out.items ≡ line_text (workqueues_line l.assignment.lanes)

@@ -1,4 +1,4 @@
--- It refuses some requests, and answers the others as the inner allocator does. Assumes `Logic`.
+-- The heap refuses some requests, and answers the others as the inner allocator does. Assumes `Logic`.
 use Rattle.std.proofs.Common.{◌≡◌, ℕ, ◌+◌, ◌^◌, ◌<◌, true, false, List, [], ◌∷◌, Ok, Err, refl, w64, Bor}
 use seplogic.Ra.Ura.{Ura}
 use mir.Syntax.{Ty, Args, Fn, a_type, dnil, dcons}

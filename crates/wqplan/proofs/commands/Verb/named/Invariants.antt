@@ -4,7 +4,7 @@ use Rattle.std.specs.Str.{bytes_eq}
 use Rattle.wqplan.specs.Commands.{command_name, verb_named, verbs}
 use Rattle.wqplan.proofs.commands.Verb.named.Given as goal
 
--- it is none of those before
+-- the command is none of the earlier ones
 abbrev pub invariant-loop-verb : goal.invariant-loop-verb
 invariant-loop-verb l =
     (l.verb-items ≡ verbs)
