@@ -1,9 +1,7 @@
 -- Jobs, and what came back of them, place by place.
-use Rattle.std.proofs.Common.{◌≡◌, ℕ, zero, suc, ◌+◌, List, [], ◌∷◌, ◌++◌, length, map, reverse, refl, sym, ap, subst}
-use Rattle.std.proofs.Common.{◌∙◌, arith}
+use Rattle.std.proofs.Common.{◌≡◌, ℕ, zero, suc, List, [], ◌∷◌, ◌++◌, length, map, reverse, refl, sym, ap, subst, ◌∙◌}
 use Rattle.std.specs.Prelude.{Some, Result, slice_get}
-use Rattle.std.proofs.lemmas.List.{append-nil, append_assoc, length-append, length-map, length-reverse, map-append}
-use Rattle.std.proofs.lemmas.List.{reverse-append, reverse-reverse}
+use Rattle.std.proofs.lemmas.List.{append-nil, append_assoc, length-map, map-append, reverse-append, reverse-reverse}
 use Rattle.wq_history.specs.declared.fault.CallError.{CallError}
 use Rattle.wq_rescuer.specs.declared.rescuing.Rescued.{Rescued}
 use Rattle.wq_rescuer.specs.Serving.{AreDone, HaveCalled, HaveServed}
@@ -87,7 +85,8 @@ pub record AreTaken {X Y : Type 0} (has : X → Y → Type 0) (all left : List X
   pub all_are : all ≡ left ++ taken
   pub each : AreDone has taken (reverse made)
 
-pub none_taken : {X Y : Type 0} (has : X → Y → Type 0) (all : List X) (made : List Y) → made ≡ [] → AreTaken has all all made
+pub none_taken : {X Y : Type 0} (has : X → Y → Type 0) (all : List X) (made : List Y) → made ≡ []
+    → AreTaken has all all made
 none_taken has all made none = record {
   taken = [];
   all_are = sym (append-nil all);
@@ -95,7 +94,8 @@ none_taken has all made none = record {
 }
 
 pub taken_more : {X Y : Type 0} (has : X → Y → Type 0) (all left rest : List X) (x : X) (made more : List Y) (y : Y)
-    → AreTaken has all left made → left ≡ rest ++ (x ∷ []) → more ≡ made ++ (y ∷ []) → has x y → AreTaken has all rest more
+    → AreTaken has all left made → left ≡ rest ++ (x ∷ []) → more ≡ made ++ (y ∷ []) → has x y
+    → AreTaken has all rest more
 taken_more has all left rest x made more y are left_is more_is one = record {
   taken = x ∷ are.taken;
   all_are = are.all_are ∙ ap (λ xs. xs ++ are.taken) left_is ∙ append_assoc rest (x ∷ []) are.taken;

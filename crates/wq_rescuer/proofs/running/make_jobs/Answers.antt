@@ -19,3 +19,8 @@ invariant_of-result g c =
         nothing_in callers.threads.items (sym callers.threads.ok.0 ∙ c.requires.callers.3.0),
       );
     }
+
+pub add_callers-requires-clause-none : goal.add_callers-requires-clause-none
+add_callers-requires-clause-none g c =
+    let waiting = c.args.space.board.callers.waiting in
+    nothing_in waiting.items (sym waiting.ok.0 ∙ c.requires.callers.0.0)

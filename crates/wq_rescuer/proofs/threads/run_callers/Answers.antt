@@ -1,5 +1,4 @@
-use Rattle.std.proofs.Common.{subst}
-use Rattle.std.proofs.Common.{reverse}
+use Rattle.std.proofs.Common.{reverse, subst}
 use Rattle.wq_rescuer.specs.Executing.{no_counts}
 use Rattle.wq_rescuer.proofs.Doing.{done_through}
 use Rattle.wq_rescuer.proofs.threads.run_callers.Goals as goal

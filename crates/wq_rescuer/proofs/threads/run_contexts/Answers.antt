@@ -8,7 +8,8 @@ returns-clause-served g c all =
     let w = g.N.Naming.wiring in
     let rows = g.N.Naming.rows in
     let may = g.B.Body.may w in
-    done_through _ _ (λ job end. (end.context ≡ job.context) × Executes (may job.body) (no_counts w) end.seat end.rescued
+    done_through _ _ (λ job end. (end.context ≡ job.context)
+    × Executes (may job.body) (no_counts w) end.seat end.rescued
     × HasCeased w rows job.context.lane job.context.number (may job.body) (no_counts w) end.seat end.rescued)
     (λ job thread end has kept. (
       kept.0 ∙ has.0,

@@ -15,7 +15,8 @@ loop-job-preserved g c =
     let l = c.loop-job in (
       taken_more _ c.args.waiting.now.items l.waiting.items c.pop.new.self.items c.in-Some.job l.threads.items
           c.push_reserved.new.self.items c.in-Ok.thread l.invariant.0 c.in-Some.ensures.items
-          c.push_reserved.ensures.items (ap (λ p. p.context) c.in-Ok.ensures.ok, ap (λ p. p.body.value) c.in-Ok.ensures.ok ∙ c.of.ensures),
+          c.push_reserved.ensures.items
+          (ap (λ p. p.context) c.in-Ok.ensures.ok, ap (λ p. p.body.value) c.in-Ok.ensures.ok ∙ c.of.ensures),
       omega (arith, l.invariant.1, c.in-Some.ensures.cases, c.push_reserved.ensures.len),
       c.push_reserved.ensures.capacity ∙ l.invariant.2,
     )
