@@ -38,9 +38,11 @@ WORKERS = 40
 QUEUEINGS = 300
 MOST_SLEEPS = 6
 
-# Calls that wait until the program is killed, one of each group of sleepers, and the main thread with them. For so long,
-# in seconds, it is watched whether it takes processor time, and so many times: while it starts, it does.
-WAITING = "queue 0 a / asleep flush a / asleep flushwq 0 / asleep next 1 / asleep destroy / flush a"
+# Calls that wait until the program is killed, one of each group of sleepers, and the main thread with them: `a` runs, and
+# its next entry is pending. For so long, in seconds, it is watched whether they take processor time, and so many times:
+# while the program starts, it does.
+ASLEEP = "asleep flush a / asleep flushwq 0 / asleep help next 0 1 / asleep destroy"
+WAITING = f"queue 0 a / next 0 / queue 0 a / {ASLEEP} / flush a"
 WATCHED = 0.5
 WATCHES = 16
 
@@ -223,18 +225,20 @@ def taken(process):
 
 
 def waiting(program, setting, text):
-    """What is wrong with calls that wait while nothing happens, or None: they take no processor time, once all threads
-    are there."""
+    """What is wrong with calls that wait while nothing happens, or None: once all threads are there, they take no
+    processor time, twice in a row (at first they wait for one another)."""
     every = 1 + WAITING.count("asleep")
-    nowhere = subprocess.DEVNULL
-    with subprocess.Popen([program, "calls", *setting, text], stdout=nowhere, stderr=nowhere) as process:
+    words = [program, "helpers", "1", "calls", *setting, text]
+    with subprocess.Popen(words, stdout=subprocess.DEVNULL, stderr=subprocess.DEVNULL) as process:
         try:
+            quiet = 0
             for _ in range(WATCHES):
                 before, threads = taken(process)
                 time.sleep(WATCHED)
                 if process.poll() is not None:
                     return f"they don't wait: status {process.returncode}"
-                if threads == every and taken(process)[0] == before:
+                quiet = quiet + 1 if threads == every and taken(process)[0] == before else 0
+                if quiet == 2:
                     return None
             return f"{threads} threads of {every}, and they take processor time"
         finally:
