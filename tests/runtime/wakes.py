@@ -8,7 +8,8 @@
 # round shows anything has failed.
 #
 # And it shows that a queueing wakes one context, and not all nine of a workqueue: who is woken in vain sleeps again, which the kernel
-# counts. All was worked out by hand from docs/RUNTIME.md. It takes some seconds.
+# counts; and that whoever waits takes no processor time while nothing happens, as who looks again and again does.
+# All was worked out by hand from docs/RUNTIME.md. It takes some seconds.
 
 import collections
 import concurrent.futures
@@ -17,8 +18,10 @@ import os
 import pathlib
 import re
 import resource
+import subprocess
 import sys
 import tempfile
+import time
 
 sys.dont_write_bytecode = True
 sys.path.append(str(pathlib.Path(__file__).resolve().parents[1] / "lib"))
@@ -34,6 +37,14 @@ WORKERS = 40
 # for each. The body sleeps once, who executes it and who waits for it once or twice: it is three times, and eleven where all nine are woken.
 QUEUEINGS = 300
 MOST_SLEEPS = 6
+
+# Calls that wait until the program is killed, one of each group of sleepers, and the main thread with them: `a` runs, and
+# its next entry is pending. For so long, in seconds, it is watched whether they take processor time, and so many times:
+# while the program starts, it does.
+ASLEEP = "asleep flush a / asleep flushwq 0 / asleep help next 0 1 / asleep destroy"
+WAITING = f"queue 0 a / next 0 / queue 0 a / {ASLEEP} / flush a"
+WATCHED = 0.5
+WATCHES = 16
 
 # Items on four workqueues. An entry of `b` stays pending behind one of `a` that runs; `c` waits for either, and `d` for their whole
 # workqueue. There are 256 condition variables for those who wait for items (docs/DECISIONS.md, "Runtimes"), which `z`, item 256, and
@@ -207,6 +218,33 @@ def queueings(program, setting):
     return f"{each:.1f} times for each queueing a thread fell asleep" if each > MOST_SLEEPS else None
 
 
+def taken(process):
+    """How much processor time a process has taken, in ticks of the kernel, and how many threads it has."""
+    fields = pathlib.Path(f"/proc/{process.pid}/stat").read_text().rpartition(")")[2].split()
+    return int(fields[11]) + int(fields[12]), int(fields[17])
+
+
+def waiting(program, setting, text):
+    """What is wrong with calls that wait while nothing happens, or None: once all threads are there, they take no
+    processor time, twice in a row (at first they wait for one another)."""
+    every = 1 + WAITING.count("asleep")
+    words = [program, "helpers", "1", "calls", *setting, text]
+    with subprocess.Popen(words, stdout=subprocess.DEVNULL, stderr=subprocess.DEVNULL) as process:
+        try:
+            quiet = 0
+            for _ in range(WATCHES):
+                before, threads = taken(process)
+                time.sleep(WATCHED)
+                if process.poll() is not None:
+                    return f"they don't wait: status {process.returncode}"
+                quiet = quiet + 1 if threads == every and taken(process)[0] == before else 0
+                if quiet == 2:
+                    return None
+            return f"{threads} threads of {every}, and they take processor time"
+        finally:
+            process.kill()
+
+
 def main(arguments):
     if not is_there("wakes", *arguments):
         return 1
@@ -237,7 +275,11 @@ def main(arguments):
         wrong = queueings(program, [file("one", text_of("item a")), file("only", text_of("wq 0 a"))])
         print(f"FAILED  queue_work wakes one of nine contexts: {wrong}" if wrong else f"ok      queue_work wakes one of nine contexts: {QUEUEINGS} times")
         passed += wrong is None
-    return counts_of("wakes", passed, len(WAKES) + 1 - passed)
+        wrong = waiting(program, setting, file("waiting", text_of(WAITING)))
+        waits = "whoever waits takes no processor time"
+        print(f"FAILED  {waits}: {wrong}" if wrong else f"ok      {waits}")
+        passed += wrong is None
+    return counts_of("wakes", passed, len(WAKES) + 2 - passed)
 
 
 if __name__ == "__main__":
