@@ -12,6 +12,8 @@
 #[cfg(test)]
 mod books;
 #[cfg(test)]
+mod choosers;
+#[cfg(test)]
 mod commands;
 #[cfg(test)]
 mod declared;
