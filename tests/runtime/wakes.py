@@ -25,7 +25,7 @@ import time
 
 sys.dont_write_bytecode = True
 sys.path.append(str(pathlib.Path(__file__).resolve().parents[1] / "lib"))
-from programs import ask, counts_of, is_there  # noqa: E402  (in tests/lib)
+from programs import ask, counts_of, is_there, started  # noqa: E402  (in tests/lib)
 from tables import short, text_of  # noqa: E402  (there, too)
 
 # How often each is tried, how long a program may take, in seconds, and how many run at a time: they sleep nearly all the time.
@@ -229,20 +229,17 @@ def waiting(program, setting, text):
     processor time, twice in a row (at first they wait for one another)."""
     every = 1 + WAITING.count("asleep")
     words = [program, "helpers", "1", "calls", *setting, text]
-    with subprocess.Popen(words, stdout=subprocess.DEVNULL, stderr=subprocess.DEVNULL) as process:
-        try:
-            quiet = 0
-            for _ in range(WATCHES):
-                before, threads = taken(process)
-                time.sleep(WATCHED)
-                if process.poll() is not None:
-                    return f"they don't wait: status {process.returncode}"
-                quiet = quiet + 1 if threads == every and taken(process)[0] == before else 0
-                if quiet == 2:
-                    return None
-            return f"{threads} threads of {every}, and they take processor time"
-        finally:
-            process.kill()
+    with started(words, stdout=subprocess.DEVNULL, stderr=subprocess.DEVNULL) as process:
+        quiet = 0
+        for _ in range(WATCHES):
+            before, threads = taken(process)
+            time.sleep(WATCHED)
+            if process.poll() is not None:
+                return f"they don't wait: status {process.returncode}"
+            quiet = quiet + 1 if threads == every and taken(process)[0] == before else 0
+            if quiet == 2:
+                return None
+        return f"{threads} threads of {every}, and they take processor time"
 
 
 def main(arguments):
