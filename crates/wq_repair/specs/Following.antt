@@ -14,7 +14,8 @@ pub record FoundGroups : Type 0 where
   pub marks : List Bool
   pub list : List ℕ
 
--- all of which P holds are found now, and nobody else who wasn't before. The order of those goes on
+-- all groups of which P holds are found now, and no other group that wasn't found before. The list is continued in
+-- order
 pub record HasGrown (old new : FoundGroups) (P : ℕ → Type 0) : Type 0 where
   pub one_each : length new.marks ≡ length old.marks
   pub kept : (g : ℕ) → IsMarked old.marks g → IsMarked new.marks g
@@ -36,8 +37,8 @@ pub record IsBesideBy (old : Workqueues) (named lanes : List Bool) (g h : ℕ) :
 abbrev pub BringsAlongBy : List (List WaitArc) → Workqueues → List Bool → List Bool → ℕ → ℕ → Type 0
 BringsAlongBy graph old named lanes g h = HasArc graph g h ⊎ IsBesideBy old named lanes g h
 
--- all found need a rescuer; those on lanes that have one are found, and whom the first `done` of the list bring along
--- is
+-- all found need a rescuer; the groups on lanes that have one are found, and so are the groups that the first `done` of
+-- the list bring along
 pub record IsFollowed (d : Declaration) (old : Workqueues) (names : List ℕ) (f : FoundGroups) (done : ℕ) : Type 0 where
   pub one_each : length f.marks ≡ d.groups
   pub lists : Lists f.marks f.list

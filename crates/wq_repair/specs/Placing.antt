@@ -66,7 +66,7 @@ pub record AreRankedLanes (old : Workqueues) (marks : List Bool) (ranks : List �
       → IsLaneOfRank of_rank (slice_index ranks g) (slice_index lane_of g)
   pub others : (g : ℕ) → g < groups → (¬ IsMarked marks g) → slice_index lane_of g ≡ lane_in old g
 
--- where who leaves comes to a lane that held somebody, a movable group was on it
+-- if a group that leaves moves to a lane that held groups, a movable group was on it
 abbrev pub AreHosted : Workqueues → List Bool → List Bool → Workqueues → Type 0
 AreHosted old movable leaves new = (g : ℕ) → g < length leaves → IsMarked leaves g → HoldsAny old (lane_in new g)
     → HoldsMarked old movable (lane_in new g)

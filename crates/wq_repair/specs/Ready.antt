@@ -20,8 +20,8 @@ pub record Scope : Type 0 where
   pub movable : List Bool
   pub given : List Bool
 
--- the lists say so; who is on a lane with a rescuer needs one; and the start, in which all that need one have one, is
--- safe
+-- the lists say so; each group on a lane with a rescuer needs one; and the start, in which all that need one have one,
+-- is safe
 pub record IsReady (d : Declaration) (old : Workqueues) (names : List ℕ) (s : Scope) (start : Workqueues) : Type 0 where
   pub assignment : IsAssignment d.groups old.assignment
   pub one_each : length s.needed ≡ d.groups
@@ -42,7 +42,7 @@ pub record IsGraphOfNeeded (d : Declaration) (needed : List Bool) (graph : List 
   pub arcs : (g h : ℕ) → HasArc graph g h ↔ (IsMarked needed g × IsMarked needed h × GroupWaits d g h)
 
 -- it may be compared, all changes are needed, and numbers fall along all waits. A group is on each new lane, and on
--- each old one that has a rescuer now and had none. Who moved to a lane that held somebody moved to a named one
+-- each old one that has a rescuer now and had none. A group that moved to a lane that held groups moved to a named one
 pub record IsMinimal (d : Declaration) (old : Workqueues) (names : List ℕ) (needed : List Bool)
     (new : Workqueues) : Type 0 where
   pub compared : IsToBeCompared d old names new

@@ -8,8 +8,8 @@ use Rattle.wq_repair.specs.Marks.{IsMarked, Marks}
 use Rattle.wq_repair.specs.Steps.{IsToBeGiven, IsMovable}
 use Rattle.wq_repair.specs.Ready.{Scope}
 
--- the lists say which groups and lanes are named, which groups may move and which lanes are given a rescuer; and who is
--- on a lane with a rescuer is among those that need one
+-- the lists say which groups and lanes are named, which groups may move and which lanes are given a rescuer; and each
+-- group on a lane with a rescuer is among those that need one
 pub record IsScope (d : Declaration) (old : Workqueues) (names : List ℕ) (s : Scope) : Type 0 where
   pub assignment : IsAssignment d.groups old.assignment
   pub one_each : length s.needed ≡ d.groups

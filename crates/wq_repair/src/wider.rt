@@ -1,9 +1,9 @@
 //! Another repair, in which more lanes are given a rescuer.
 //!
 //! A repair gives a lane a rescuer only if all groups on it need one. If two or more of them do, and the others wait
-//! for nobody who needs none, one rescuer may be fewer changes than a move of each. So all groups of such lanes count
-//! here as needing one. If each of these lanes keeps a group that does need one, no change can be left out in this
-//! repair, either. It takes the time of a repair.
+//! for no group that needs none, one rescuer may be fewer changes than a move of each. So all groups of such lanes
+//! count here as needing one. If each of these lanes keeps a group that does need one, no change can be left out in
+//! this repair, either. It takes the time of a repair.
 
 ghost use Rattle.std.specs.Prelude.{◌≡◌, ◌<◌, ◌≤◌, ◌⊎◌, ℕ, length, IfOk, IfSome, IsTrue, List, Some};
 ghost use Rattle.std.specs.List.{All};
