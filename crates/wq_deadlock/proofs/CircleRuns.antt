@@ -21,7 +21,8 @@ use Rattle.wq_deadlock.specs.CircleRun.{flushing_items, IsCircleRun}
 use Rattle.wq_deadlock.proofs.CircleKnots.{IsKnot-flushing_items}
 use Rattle.wq_deadlock.proofs.OwnLanes.{IsAssignment-own_lanes, lane_graph-own_lanes}
 
-module _ (d : Declaration) (a : Assignment) (declaration : IsDeclaration d) (assignment : IsAssignment d.groups a) (circle : List WaitArc) where
+module _ (d : Declaration) (a : Assignment) (declaration : IsDeclaration d) (assignment : IsAssignment d.groups a)
+    (circle : List WaitArc) where
   abbrev w : Wiring
   w = wiring d a
 
@@ -32,7 +33,8 @@ module _ (d : Declaration) (a : Assignment) (declaration : IsDeclaration d) (ass
     knot : IsKnot w (flushing_items circle)
     knot =
         let all : lane_graph d a ≡ without [] (lane_graph d a) = sym (without-none [] (lane_graph d a) (λ v. refl)) in
-        IsKnot-flushing_items d a [] declaration assignment circle (subst (λ (g : List (List WaitArc)). LeadsRound g circle) all round)
+        IsKnot-flushing_items d a [] declaration assignment circle
+        (subst (λ (g : List (List WaitArc)). LeadsRound g circle) all round)
 
     -- its first items can be queued first, and then all others
     pub IsRun-flushing_items : IsRun w (queue_order w (flushing_items circle))
@@ -46,7 +48,8 @@ module _ (d : Declaration) (a : Assignment) (declaration : IsDeclaration d) (ass
 
     pub DeadlocksBy-round : (steps : List Step) → IsCircleRun w circle steps → DeadlocksBy w steps
     DeadlocksBy-round steps is_run =
-        subst (λ (all : List Step). DeadlocksBy w all) (sym is_run.all) (DeadlocksBy-knot w (flushing_items circle) is_run.played sound knot is_run.is_played)
+        subst (λ (all : List Step). DeadlocksBy w all) (sym is_run.all)
+        (DeadlocksBy-knot w (flushing_items circle) is_run.played sound knot is_run.is_played)
 
   module _ (walked : IsWalkedCircle (lane_graph d a) circle) where
     pub IsCircleRun-exists : (steps : List Step) × IsCircleRun w circle steps
@@ -56,9 +59,13 @@ module _ (d : Declaration) (a : Assignment) (declaration : IsDeclaration d) (ass
     DeadlocksBy-circle_run = DeadlocksBy-round (LeadsRound-walked (lane_graph d a) circle walked)
 
 -- with a lane for each group, any circle of groups has one
-module _ (d : Declaration) (declaration : IsDeclaration d) (circle : List WaitArc) (round : LeadsRound (group_graph d) circle) where
+module _ (d : Declaration) (declaration : IsDeclaration d) (circle : List WaitArc)
+    (round : LeadsRound (group_graph d) circle) where
   pub LeadsRound-own_lanes : LeadsRound (lane_graph d (own_lanes d.groups)) circle
-  LeadsRound-own_lanes = subst (λ (g : List (List WaitArc)). LeadsRound g circle) (sym (lane_graph-own_lanes d declaration)) round
+  LeadsRound-own_lanes =
+      subst (λ (g : List (List WaitArc)). LeadsRound g circle) (sym (lane_graph-own_lanes d declaration)) round
 
-  pub DeadlocksBy-groups : (steps : List Step) → IsCircleRun (wiring d (own_lanes d.groups)) circle steps → DeadlocksBy (wiring d (own_lanes d.groups)) steps
-  DeadlocksBy-groups = DeadlocksBy-round d (own_lanes d.groups) declaration (IsAssignment-own_lanes d.groups) circle LeadsRound-own_lanes
+  pub DeadlocksBy-groups : (steps : List Step) → IsCircleRun (wiring d (own_lanes d.groups)) circle steps
+      → DeadlocksBy (wiring d (own_lanes d.groups)) steps
+  DeadlocksBy-groups =
+      DeadlocksBy-round d (own_lanes d.groups) declaration (IsAssignment-own_lanes d.groups) circle LeadsRound-own_lanes

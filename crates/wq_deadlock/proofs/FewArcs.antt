@@ -15,7 +15,8 @@ module _ (graph : List (List WaitArc)) where
   vertex-below : (v : ℕ) (a : WaitArc) → Contains (arcs_at graph v) a → v < length graph
   vertex-below v a has = elim (cases_lt v (length graph)) [
     | inl vertex ↦ vertex
-    | inr past ↦ All-contains (λ (b : WaitArc). v < length graph) (arcs_at graph v) a (rw (get_or_past graph v [] past) (λ k d none. absurd (omega arith))) has
+    | inr past ↦ All-contains (λ (b : WaitArc). v < length graph) (arcs_at graph v) a
+        (rw (get_or_past graph v [] past) (λ k d none. absurd (omega arith))) has
   ]
 
   module _ (circle : List WaitArc) (round : LeadsRound graph circle) where
@@ -28,6 +29,9 @@ module _ (graph : List (List WaitArc)) where
 
     pub LeadsRound-few : length circle ≤ length graph
     LeadsRound-few = elim (cases_lt (length graph) (length round.left)) [
-      | inl long ↦ let twice = repeats_from_length (length graph) round.left left-below long in absurd (round.once twice.0 twice.1 0 twice.2 twice.3 twice.4)
+      | inl long ↦ (
+          let twice = repeats_from_length (length graph) round.left left-below long in
+          absurd (round.once twice.0 twice.1 0 twice.2 twice.3 twice.4)
+          )
       | inr few ↦ omega (arith, few, round.one_each)
     ]

@@ -71,11 +71,13 @@ module _ (d : Declaration) (a : Assignment) (declaration : IsDeclaration d) (ass
 
     -- ---- circles
 
-    pub length-flushing_items : (circle : List WaitArc) → LeadsRound (lane_graph d a) circle → length (queue_order (wiring d a) (flushing_items circle)) ≤ 8192
+    pub length-flushing_items : (circle : List WaitArc) → LeadsRound (lane_graph d a) circle
+        → length (queue_order (wiring d a) (flushing_items circle)) ≤ 8192
     length-flushing_items circle round =
         let queued = length-queue_order (wiring d a) (flushing_items circle) in
         let size = length-map circle (λ (b : WaitArc). b.src) in
-        omega (arith, queued, size, LeadsRound-few (lane_graph d a) circle round, long, few, declaration.one_list_each, declaration.partition.few_items)
+        let short = LeadsRound-few (lane_graph d a) circle round in
+        omega (arith, queued, size, short, long, few, declaration.one_list_each, declaration.partition.few_items)
 
     module _ (circle : List WaitArc) (walked : IsWalkedCircle (lane_graph d a) circle) where
       pub lanes_wait : Circle (LaneWaits (wiring d a))

@@ -40,20 +40,25 @@ module _ (s : Declared) (sound : IsSound s) (old : Workqueues) (circle : List Wa
         some = round.some;
         left = round.left;
         one_each = round.one_each;
-        leaves = λ k e fits. (Contains-without needed.out (group_graph d) (slice_index round.left k) (get_or circle k e) (round.leaves k e fits)).2;
+        leaves = λ k e fits.
+            let v = slice_index round.left k in
+            (Contains-without needed.out (group_graph d) v (get_or circle k e) (round.leaves k e fits)).2;
         joined = round.joined;
         closes = round.closes;
         once = round.once;
       }
 
-  pub DeadlocksBy-needed : (steps : List Step) → IsCircleRun (wiring d (own_lanes s.partition.groups)) circle steps → DeadlocksBy (wiring d (own_lanes s.partition.groups)) steps
+  pub DeadlocksBy-needed : (steps : List Step) → IsCircleRun (wiring d (own_lanes s.partition.groups)) circle steps
+      → DeadlocksBy (wiring d (own_lanes s.partition.groups)) steps
   DeadlocksBy-needed = DeadlocksBy-groups d is circle LeadsRound-needed
 
   -- each arc is that of a declared flush
   declared : All (IsArc d.waits d.group_of) circle
   declared k e fits =
       let v = slice_index LeadsRound-needed.left k in
-      (All-contains (λ (a : WaitArc). IsArc d.waits d.group_of a × (slice_index d.group_of a.src ≡ v)) (arcs_at (group_graph d) v) (get_or circle k e) (AreArcsFrom-group_graph d is v).declared (LeadsRound-needed.leaves k e fits)).0
+      (All-contains (λ (a : WaitArc). IsArc d.waits d.group_of a × (slice_index d.group_of a.src ≡ v))
+      (arcs_at (group_graph d) v) (get_or circle k e) (AreArcsFrom-group_graph d is v).declared
+      (LeadsRound-needed.leaves k e fits)).0
 
   short : length circle ≤ 4096
   short =

@@ -22,7 +22,8 @@ returns-in-Ranks-clause-verdict g c =
 pub run_of_circle-requires-clause-round : goal.run_of_circle-requires-clause-round
 run_of_circle-requires-clause-round g c =
     let graph = lane_graph (declaration_of c.args.table.now c.args.groups.now) c.args.assignment.now in
-    let walked : IsWalkedCircle graph c.in-Circle.circle.items = rw (c.in-Circle.is, c.in_ok-graph.ensures.graph) at c.in_ok-ranks.ensures.ranking in
+    let walked : IsWalkedCircle graph c.in-Circle.circle.items =
+    rw (c.in-Circle.is, c.in_ok-graph.ensures.graph) at c.in_ok-ranks.ensures.ranking in
     rw c.as_slice.ensures.value (LeadsRound-walked graph c.in-Circle.circle.items walked)
 
 pub returns-clause-verdict : goal.returns-clause-verdict

@@ -18,7 +18,8 @@ run_round-requires-clause-round g c =
 pub returns-clause-run : goal.returns-clause-run
 returns-clause-run g c =
     IfOk-weaker c.run_round.result _ _ (λ steps is_run.
-    subst (λ (d : Declared). IsCircleRun (wiring (declared_waits d) (own_lanes d.partition.groups)) c.args.arcs.now steps.items)
+    subst (λ (d : Declared).
+    IsCircleRun (wiring (declared_waits d) (own_lanes d.partition.groups)) c.args.arcs.now steps.items)
     c.declared.view_is is_run) c.run_round.ensures
 
 pub returns-clause-deadlocks : goal.returns-clause-deadlocks
@@ -27,5 +28,6 @@ returns-clause-deadlocks g c =
     let sound : IsSound s = subst IsSound c.declared.view_is c.declared.invariant in
     IfOk-weaker c.run_round.result _ _ (λ steps is_run.
     DeadlocksBy-needed s sound c.requires.needed.0 c.args.arcs.now c.requires.needed.1 steps.items
-    (subst (λ (d : Declared). IsCircleRun (wiring (declared_waits d) (own_lanes d.partition.groups)) c.args.arcs.now steps.items)
+    (subst (λ (d : Declared).
+    IsCircleRun (wiring (declared_waits d) (own_lanes d.partition.groups)) c.args.arcs.now steps.items)
     c.declared.view_is is_run)) c.run_round.ensures
