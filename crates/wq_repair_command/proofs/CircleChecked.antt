@@ -107,12 +107,11 @@ ChecksYesCircle-printed s sound old out prints =
     record {
       circle = said;
       read = read;
-      checked = MatchResult-ok (answer_of s.table.names s.partition out) (OfCircle said) _ _ read
-          (
-            Ok (yes.Circle (length arcs)),
-            (record { joined = joined; deadlocks = prints.deadlocks }, refl),
-            (refl, refl),
-          );
+      checked = MatchResult-ok (answer_of s.table.names s.partition out) (OfCircle said) _ _ read (
+        Ok (yes.Circle (length arcs)),
+        (record { joined = joined; deadlocks = prints.deadlocks }, refl),
+        (refl, refl),
+      );
     }
   where
     filled : (xs : List WaitArc) → ¬ (xs ≡ []) → 0 < length xs
