@@ -1,4 +1,4 @@
-use Rattle.std.proofs.Common.{arith, inl, inr, sym, ◌∙◌}
+use Rattle.std.proofs.Common.{ap₂, arith, inl, inr, sym, ◌∙◌}
 use Rattle.wq_core.specs.Wiring.{items}
 use Rattle.wq_rescuer.specs.Executing.{HasStopped}
 use Rattle.wq_held.specs.Locked.{seat_rows, slots}
@@ -20,6 +20,11 @@ execute-answer-requires-clause-few g c =
     (g.B.Body.width c.loop.body) (g.B.Body.runs c.loop.body) c.loop.rescued.finished c.loop.rescued.faults
     c.in-Some-item.item c.loop.invariant.2 c.holds.ensures
     (le-max_left (items g.N.Naming.wiring) g.N.Naming.wiring.lanes) on.0 room
+
+pub execute-answer-requires-clause-started : goal.execute-answer-requires-clause-started
+execute-answer-requires-clause-started g c =
+    ap₂ (λ context item. record { context = context; item = item }) c.in_ok-next.ensures.took.0
+    (sym c.item.ensures ∙ c.in-Some-item.is)
 
 pub and-rescued-requires-clause-few : goal.and-rescued-requires-clause-few
 and-rescued-requires-clause-few g c =
