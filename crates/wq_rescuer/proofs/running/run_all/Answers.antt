@@ -89,7 +89,7 @@ returns-clause-served g c =
     (done_of (λ job end. (end.context ≡ job.context)
     × HasWorked w g.N.Naming.rows job.context (g.B.Body.may w job.body) end.seat end.rescued)
     (λ body end. Executes (g.B.Body.may w body) (no_counts w) end.seat end.rescued)
-    (λ job. job.body) (λ job end done. done.1) jobs ends (c.run_threads-board.ensures.served yes))
+    (λ job. job.body) (λ job end done. done.1.0) jobs ends (c.run_threads-board.ensures.served yes))
     c.gather.ensures.first_seats c.gather.ensures.rescued
 
 pub returns-clause-ended : goal.returns-clause-ended
@@ -108,7 +108,7 @@ returns-clause-ended g c =
     × HasWorked w g.N.Naming.rows job.context (g.B.Body.may w job.body) end.seat end.rescued)
     (λ context end. IfOk end.rescued (λ r. HasEnded w rows context.lane context.number r.ended)) (λ job. job.context)
     (λ job end done. has_ended w rows job.context.lane job.context.number (g.B.Body.may w job.body) (no_counts w)
-    end.seat end.rescued done.2) jobs ends (c.run_threads-board.ensures.served yes))
+    end.seat end.rescued done.1.1) jobs ends (c.run_threads-board.ensures.served yes))
     c.gather.ensures.first_seats c.gather.ensures.rescued
 
 pub returns-clause-called : goal.returns-clause-called
