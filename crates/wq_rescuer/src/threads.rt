@@ -198,7 +198,8 @@ fn run_contexts<
     requires no_contexts { (board.old.contexts.ends.items ≡ []) × (board.old.contexts.threads.items ≡ []) }
     requires no_callers { (board.old.callers.ends.items ≡ []) × (board.old.callers.threads.items ≡ []) }
     ensures served { IsTrue result → AreDone (λ job end. (end.context ≡ job.context)
-        × HasWorked N.wiring N.rows job.context (B.may N.wiring job.body) end.seat end.rescued) board.old.contexts.waiting.items board.new.contexts.ends.items }
+        × HasWorked N.wiring N.rows job.context (B.may N.wiring job.body) end.seat end.rescued)
+        board.old.contexts.waiting.items board.new.contexts.ends.items }
     ensures called { IsTrue result → AreDone (λ job end. C.did N.wiring job.caller end.caller end.result
         (no_counts N.wiring) end.seat) board.old.callers.waiting.items board.new.callers.ends.items }
     ensures contexts_back { IsTrue result → vec_len board.new.contexts.ends ≡ vec_len board.old.contexts.waiting }
@@ -224,7 +225,8 @@ pub(crate) fn run_threads<
 >(rt: &R, runtime: &WqRuntime<N, A>, jobs: Unstarted<N, A, B, C>) -> (Board<N, A, B, C>, bool)
     ensures served { IsTrue result.1 → AreDone
         (λ job end. (end.context ≡ job.context)
-        × HasWorked N.wiring N.rows job.context (B.may N.wiring job.body) end.seat end.rescued) jobs.board.contexts.waiting.items result.0.contexts.ends.items }
+        × HasWorked N.wiring N.rows job.context (B.may N.wiring job.body) end.seat end.rescued)
+        jobs.board.contexts.waiting.items result.0.contexts.ends.items }
     ensures called { IsTrue result.1 → AreDone
         (λ job end. C.did N.wiring job.caller end.caller end.result (no_counts N.wiring) end.seat)
         jobs.board.callers.waiting.items result.0.callers.ends.items }

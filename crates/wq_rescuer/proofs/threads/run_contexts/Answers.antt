@@ -13,7 +13,8 @@ returns-clause-served g c all =
     (λ job thread end has kept. (
       kept.0 ∙ has.0,
       subst (λ body. HasWorked w rows job.context (may body) end.seat end.rescued) has.1
-          (subst (λ context. HasWorked w rows context (may thread.promise.body.value) end.seat end.rescued) has.0 kept.1),
+          (subst (λ context. HasWorked w rows context (may thread.promise.body.value) end.seat end.rescued) has.0
+          kept.1),
     ))
     c.args.board.now.contexts.waiting.items (reverse c.start_all-all.new.board.contexts.threads.items)
     c.join_all.new.ends.items (c.start_all-all.ensures.started all) c.join_all.ensures.kept
