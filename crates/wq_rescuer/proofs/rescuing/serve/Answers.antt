@@ -4,7 +4,7 @@ use Rattle.wq_rescuer.specs.Executing.{HasStopped}
 use Rattle.wq_held.specs.Locked.{seat_rows, slots}
 use Rattle.std.proofs.Math.Nat.{le-max_left}
 use Rattle.std.specs.Prelude.{sum}
-use Rattle.wq_rescuer.proofs.ContextLemmas.{on_err}
+use Rattle.wq_items.proofs.WaitLemmas.{OnErr-always}
 use Rattle.wq_rescuer.proofs.Executions.{serving_more, one_fault_at_most, ran_only_more, on_lane_of_next}
 use Rattle.wq_rescuer.proofs.Executions.{nothing_else, few_finished, few_runs, below_limit, has_cause, left_one}
 use Rattle.wq_rescuer.proofs.Executions.{one_executed, stopped_at_end, stopped_between}
@@ -104,7 +104,7 @@ returns-in_err-finish_in-clause-stopped g c =
     let answer = c.execute-answer.result in
     let counts = c.execute-answer.new.seat in
     let may = g.B.Body.may g.N.Naming.wiring c.args.body.now in
-    on_err c.from_residual-in_err-finish_in.result (HasStopped may c.args.seat.now c.finish_in.new.seat)
+    OnErr-always c.from_residual-in_err-finish_in.result (HasStopped may c.args.seat.now c.finish_in.new.seat)
     (stopped_at_end may c.args.seat.now c.finish_in.new.seat
     (left_one may c.args.seat.now c.loop.seat counts c.finish_in.new.seat before.finished before.faults item answer
     c.loop.invariant.5 (c.loop.invariant.6 item answer c.loop.seat counts c.execute-answer.ensures.may)
@@ -114,5 +114,5 @@ pub returns-in_err-next-clause-stopped : goal.returns-in_err-next-clause-stopped
 returns-in_err-next-clause-stopped g c =
     let before = c.loop.rescued in
     let may = g.B.Body.may g.N.Naming.wiring c.args.body.now in
-    on_err c.from_residual.result (HasStopped may c.args.seat.now c.loop.seat)
+    OnErr-always c.from_residual.result (HasStopped may c.args.seat.now c.loop.seat)
     (stopped_between may c.args.seat.now c.loop.seat before.finished before.faults c.loop.invariant.5)
