@@ -37,7 +37,7 @@ fn make_calls<N: Naming, R: Wait, A: Allocator>(
     let flushed = runtime.flush_work(rt, seat, a);
     let anew = runtime.queue_work(rt, seat, high, a);
     let stopped = runtime.cancel_work_sync(rt, seat, a);
-    let _drained = runtime.destroy(rt);
+    let _destroyed = runtime.destroy(rt);
     let late = runtime.queue_work(rt, seat, high, a);
     (queued, again, elsewhere) == (Ok(true), Ok(false), Err(CallError::WrongLane))
         && (cancelled, flushed, anew) == (Ok(true), Ok(false), Ok(true))

@@ -107,6 +107,7 @@ pub(crate) fn serve<
                 bodies,
                 callers,
                 why,
+                ..
             },
         ) => {
             let handed_back = (bodies.len(), callers.len());

@@ -133,6 +133,8 @@ took_done w rows counts left call r writes is took =
     never_done took.0.old took.0.new call writes
     (subst (λ (x : Reply). Replies took.0.old call x took.0.new) is took.0.answers)
 
+pub ruleset one_row = (took_two, took_done)
+
 -- whoever sleeps has counted nothing
 pub sleeps_uncounted : (old new : HeldView) (counts left : List ℕ) (call : Call) (turn : Turn (Result Reply CallError))
     → TakesTurn old counts call turn new left → IfSleeps turn (λ _. left ≡ counts)

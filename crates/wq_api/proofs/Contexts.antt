@@ -1,10 +1,11 @@
 -- What the methods of a context say of their answers and counts follows from the calls that they make.
 use Rattle.std.proofs.Common.{◌≡◌, ℕ, ◌<◌, ◌⊎◌, inl, inr, true, Bool, List, refl, sym, ap, subst, ◌∙◌, Option, Some}
-use Rattle.std.proofs.Common.{None, Result, Ok, Err, IfOk, IfErr, OnOk, OnErr, IfSome}
+use Rattle.std.proofs.Common.{None, Result, Ok, Err, IfOk, IfErr, OnErr, IfSome}
 use Rattle.wq_history.proofs.Words.{Running, Context, Wiring, items, HasContext, lane_at, RunsIn, IsSoundState, Event}
 use Rattle.wq_history.proofs.Words.{MayCome, BookView, state, IsBook, IsWrongToStart, IsNotAwake, RunsItem, WaitsFor}
-use Rattle.wq_history.proofs.Words.{RefusesToWait}
-use Rattle.wq_held.proofs.Words.{Flush, Start, Wait, Over, Finish, CallError, Undeclared, TooManyWaits, WrongLane}
+use Rattle.wq_history.proofs.Words.{RefusesToWait, Row}
+use Rattle.wq_held.proofs.Words.{Flush, Start, Wait, Over, Finish, Wrote, CallError, Undeclared, TooManyWaits}
+use Rattle.wq_held.proofs.Words.{WrongLane}
 use Rattle.wq_counts.specs.declared.kind.Kind.TheVariants.{Finish as FinishKind}
 use Rattle.wq_counts.specs.Counting.{over_kind, raised}
 use Rattle.wq_history.proofs.CallRows.{wrong-only}
@@ -16,7 +17,7 @@ use Rattle.wq_api.specs.Refusals.{RefusesWaitIn}
 use Rattle.wq_api.specs.WaitingCalls.{IsDeclaredOn, HasWaiter, waited_for, RefusedWaitIn}
 use Rattle.wq_api.specs.Locking.{WasWrongToStartIn}
 use Rattle.wq_held.specs.Receipts.{Next}
-use Rattle.wq_api.specs.Taking.{IsAnswered, Took, GivesDone, GivesItem, GivesNext, Waits}
+use Rattle.wq_api.specs.Taking.{IsAnswered, Took, GivesItem, GivesNext, Waits}
 use Rattle.wq_api.proofs.Calls.{wait_counted, over_counted, finish_counted, barred_by}
 
 -- ---- next_in
@@ -58,26 +59,25 @@ pub ruleset by_start = (next_refused, next_cause)
 
 -- ---- finish_in
 
-pub finish_done : (w : Wiring) (rows : ℕ) (counts left : List ℕ) (c : Context) (i : ℕ) (r : Result (Unit {0}) CallError)
-    → GivesDone (λ answer. Took w rows counts (Finish c i) answer left) r
-    → OnOk r (HasContext w c.lane c.number × IsOnLane w c.lane i × (left ≡ raised counts i FinishKind true))
-finish_done w rows counts left c i (Ok done) (row, took) =
+pub finish_done : (w : Wiring) (rows : ℕ) (counts left : List ℕ) (c : Context) (i : ℕ) (row : Row)
+    → Took w rows counts (Finish c i) (Ok (Wrote row)) left
+    → HasContext w c.lane c.number × IsOnLane w c.lane i × (left ≡ raised counts i FinishKind true)
+finish_done w rows counts left c i row took =
     let there = finish-there took.0.old took.0.new c i row took.0.holds.legal took.0.answers in (
       subst (λ (x : Wiring). HasContext x c.lane c.number) took.0.holds.of_wiring there.0,
       subst (λ (x : Wiring). IsOnLane x c.lane i) took.0.holds.of_wiring (there.1, there.2),
       finish_counted w rows counts left c i row took,
     )
-finish_done w rows counts left c i (Err e) took = tt
 
-pub finish_refused : (w : Wiring) (rows : ℕ) (counts left : List ℕ) (c : Context) (i : ℕ)
-    (r : Result (Unit {0}) CallError) → GivesDone (λ answer. Took w rows counts (Finish c i) answer left) r
-    → IfErr r (λ e. (e ≡ WrongLane) × (left ≡ counts))
-finish_refused w rows counts left c i (Ok done) took = tt
-finish_refused w rows counts left c i (Err e) took = (
+pub finish_refused : (w : Wiring) (rows : ℕ) (counts left : List ℕ) (c : Context) (i : ℕ) (e : CallError)
+    → Took w rows counts (Finish c i) (Err e) left → (e ≡ WrongLane) × (left ≡ counts)
+finish_refused w rows counts left c i e took = (
   ((wrong-only ((¬ RunsItem took.0.old c.lane c.number i) ⊎ IsNotAwake took.0.old c.lane c.number) e).1
       took.0.answers.0).0,
   took.1,
 )
+
+pub ruleset by_finish = (finish_done, finish_refused)
 
 -- ---- wait_in
 
@@ -162,3 +162,5 @@ module _ (w : Wiring) (rows : ℕ) (counts left : List ℕ) (c : Context) (f : F
       (refused-waiter took.0.old e took.0.holds.legal took.0.answers.0)
   wait_waiter (Err e) (inr (began, between, came, took)) there room =
       subst (λ (x : CallError). HasWaiter w c.lane f.whole f.target (Err x)) (sym (late between e took)) tt
+
+pub ruleset by_wait = (wait_done, wait_not_done, wait_waiter)

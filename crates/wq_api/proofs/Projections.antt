@@ -199,3 +199,11 @@ module _ (w : Wiring) (rows : ℕ) (counts left : List ℕ) where
         (came.0.0, came.0.1 refl),
         (taken.yes, took.1 ∙ both-counted between i asked taken true taken.yes waits refl came),
       )
+
+pub ruleset by_queue = (queue_counted, queue_refused)
+
+pub ruleset by_cancel = (cancel_counted, cancel_refused)
+
+pub ruleset by_flush = (flush_counted, flush_not_done)
+
+pub ruleset by_cancel_sync = (cancel_sync_counted, cancel_sync_not_done)

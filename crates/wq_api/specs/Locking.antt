@@ -7,7 +7,7 @@ use Rattle.wq_history.specs.declared.sleepers.Sleepers.{Sleepers}
 use Rattle.wq_history.specs.declared.sleepers.Sleepers.TheVariants.{Contexts, ItemWaiters, LaneWaiters, Destroyers}
 use Rattle.wq_history.specs.declared.sleepers.Wake.{Wake}
 use Rattle.wq_history.specs.declared.sleepers.WokenContexts.{WokenContexts}
-use Rattle.wq_history.specs.declared.sleepers.WokenContexts.TheVariants.{One, All as AllOf}
+use Rattle.wq_history.specs.declared.sleepers.WokenContexts.TheVariants.{One, All as AllOf, Everybody}
 use Rattle.wq_history.specs.Book.{IsWrongToStart}
 use Rattle.wq_held.specs.declared.fault.SeatError.{SeatError}
 use Rattle.wq_held.specs.declared.fault.SeatError.TheVariants.{TooManySeats, OutOfMemory}
@@ -16,6 +16,8 @@ use Rattle.wq_held.specs.declared.turn.Turn.{Turn}
 use Rattle.wq_held.specs.declared.turn.Turn.TheVariants.{Answers, Sleeps}
 use Rattle.wq_api.specs.declared.bells.Rung.{Rung}
 use Rattle.wq_api.specs.declared.condvars.Woken.{Woken}
+use Rattle.wq_api.specs.declared.entered.Phase.{Phase}
+use Rattle.wq_api.specs.declared.entered.Phase.TheVariants.{Answered, Early}
 
 -- ---- condition variables
 
@@ -34,6 +36,16 @@ HasCondvar lanes for_items Destroyers = Unit {0}
 abbrev pub bell_of : ℕ → Sleepers → Sleepers
 bell_of for_items (ItemWaiters i) = ItemWaiters (i % for_items)
 bell_of for_items among = among
+
+-- what a turn leaves of the lock, since it was taken
+abbrev pub phase_after : {T : Type 0} → Turn T → Phase
+phase_after (Answers answer wake) = Answered
+phase_after (Sleeps among) = Early among
+
+-- the turn since the lock was taken was too early, and the variable of this group is the one of those whom it named
+abbrev pub MaySleepAt : ℕ → Phase → Sleepers → Type 0
+MaySleepAt for_items (Early among) of = of ≡ bell_of for_items among
+MaySleepAt for_items _ of = ⊥
 
 -- of the variables of lanes, each is that of its lane's contexts, or waiters
 abbrev pub AreOfLanes : {L : Type 0} → (L → Sleepers) → (L → Sleepers) → List L → Type 0
@@ -66,10 +78,10 @@ abbrev pub WokeLane : ℕ → Option ℕ → Option Rung → Type 0
 WokeLane lanes (Some q) rung = q < lanes → IsRung (LaneWaiters q) true rung
 WokeLane lanes None rung = Unit {0}
 
--- whoever is to be woken was, if there are variables for so many lanes, and so many for items. (Of all contexts of all
--- lanes, whom a closing wakes, nothing is said.)
+-- whoever is to be woken was, if there are variables for so many lanes, and so many for items
 pub record AreWoken (lanes for_items : ℕ) (wake : Wake) (woken : Woken) : Type 0 where
   pub contexts : WokeContexts lanes wake.contexts woken.contexts
+  pub everybody : wake.contexts ≡ Everybody → woken.everybody ≡ Some (record { count = lanes })
   pub items : WokeItems for_items wake.item_waiters woken.items
   pub lane : WokeLane lanes wake.lane_waiters woken.lane
   pub destroyers : wake.destroyers ≡ true → IsRung Destroyers true woken.destroyers

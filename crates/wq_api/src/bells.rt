@@ -3,7 +3,8 @@
 //! So a contract can say on which variable a group of sleepers waits, and which sleepers a call has woken. A ring takes
 //! a few instructions if nobody sleeps, and no call of the kernel.
 
-ghost use Rattle.std.specs.Prelude.{◌≡◌, true, false};
+ghost use Rattle.std.specs.Prelude.{◌≡◌, ◌+◌, ◌<◌, true, false};
+ghost use Rattle.wq_history.specs.declared.sleepers.Sleepers.TheVariants.{Contexts};
 
 use std::sync::Condvar;
 use wq_history::Sleepers;
@@ -20,6 +21,32 @@ pub(crate) struct Bell {
 pub(crate) struct Rung {
     among: Sleepers,
     all: bool,
+}
+
+/// All contexts of each of so many workqueues were woken: of the first ones, by their numbers.
+#[derive(Drop)]
+pub(crate) struct RungLanes {
+    count: usize,
+}
+
+impl RungLanes {
+    /// Those of none.
+    pub(crate) fn none() -> RungLanes
+        ensures { result.count ≡ 0 }
+    {
+        RungLanes { count: 0 }
+    }
+
+    /// Those of the next one, too.
+    pub(crate) fn and(self, _rung: Rung) -> RungLanes
+        requires next { _rung ≡ record { among = Contexts self.count; all = true } }
+        requires few { self.count < 18446744073709551615 }
+        ensures { result.count ≡ self.count + 1 }
+    {
+        RungLanes {
+            count: self.count + 1,
+        }
+    }
 }
 
 impl Bell {

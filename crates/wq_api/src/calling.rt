@@ -5,11 +5,11 @@
 //! what it waits for, a call takes the time of the book's answer.
 
 ghost use Rattle.std.specs.Prelude.{◌↔◌, ◌≡◌, IsTrue, Result};
-ghost use Rattle.wq_history.specs.declared.call.Call.TheVariants.{CancelSync, Start, Finish};
+ghost use Rattle.wq_history.specs.declared.call.Call.TheVariants.{CancelSync, Start};
 ghost use Rattle.wq_history.specs.History.{IsThere};
 ghost use Rattle.wq_held.specs.Calls.{IsNamed, missing, needs_room};
 ghost use Rattle.wq_api.specs.Taking.{WritesOne, AdmitsOrBars, IsAnswered, Took, ComesTo, GivesRow, GivesTwo, GivesYes};
-ghost use Rattle.wq_api.specs.Taking.{GivesDone, GivesNext, TellsOrNot, Flushes, CancelsSync, Waits};
+ghost use Rattle.wq_api.specs.Taking.{GivesNext, TellsOrNot, Flushes, CancelsSync, Waits};
 
 use crate::runtime::WqRuntime;
 use std::alloc::Allocator;
@@ -17,8 +17,8 @@ use std::sync::Wait;
 use wq_core::Context;
 use wq_held::{Answered, CallError, Naming, Next, Seat, Uncounted};
 use wq_history::{
-    AsCall, AskCall, Call, CancelSyncCall, FinishCall, Flush, OverCall, Reply, Row, StartCall,
-    Subject, ToldCall, WaitCall,
+    AsCall, AskCall, Call, CancelSyncCall, Flush, OverCall, Reply, Row, StartCall, Subject,
+    ToldCall, WaitCall,
 };
 use wq_items::ItemId;
 
@@ -112,7 +112,8 @@ impl<N: Naming, A: Allocator> WqRuntime<N, A> {
     }
 
     /// Has a call that writes one row answered under the lock.
-    fn written<R: Wait, C: AsCall<A>>(
+    #[tactic(auto, using(crate::proofs::Calls::one_row))]
+    pub(crate) fn written<R: Wait, C: AsCall<A>>(
         &self,
         rt: &R,
         seat: &mut Seat<N, A>,
@@ -172,22 +173,6 @@ impl<N: Naming, A: Allocator> WqRuntime<N, A> {
             Ok(Reply::WroteTwo(_, _)) => unreachable!(),
             Ok(Reply::Done) => Ok(Next::ended(*context, &answered)),
             Ok(Reply::NotYet) => unreachable!(),
-            Err(e) => Err(e),
-        }
-    }
-
-    /// Finishes what a context runs, an entry of this item.
-    pub(crate) fn finish<R: Wait>(
-        &self,
-        rt: &R,
-        seat: &mut Seat<N, A>,
-        context: Context,
-        item: ItemId,
-    ) -> Result<(), CallError>
-        ensures { GivesDone (λ answer. Took N.wiring N.rows seat.old (Finish context item) answer seat.new) result }
-    {
-        match self.written(rt, seat, FinishCall { context, item }) {
-            Ok(_row) => Ok(()),
             Err(e) => Err(e),
         }
     }

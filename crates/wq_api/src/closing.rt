@@ -17,6 +17,15 @@ use std::sync::Wait;
 use wq_held::{Answered, CloseWhy, Closed, Naming, Seat, Unclosed};
 use wq_history::{CloseCall, DrainCall};
 
+/// That a runtime was closed, and that nothing was unfinished then.
+#[derive(Drop)]
+pub struct Destroyed<N: Naming> {
+    /// The answer to its closing.
+    pub closed: Answered<N>,
+    /// The answer to its drain.
+    pub drained: Answered<N>,
+}
+
 /// A runtime that isn't closed, and the seats that were handed in.
 #[derive(Drop)]
 pub struct CloseRefused<N: Naming, A: Allocator> {
@@ -31,14 +40,6 @@ pub struct CloseRefused<N: Naming, A: Allocator> {
 }
 
 impl<N: Naming, A: Allocator> WqRuntime<N, A> {
-    /// Closes the book: nothing is queued from now on.
-    #[tactic(auto, using(crate::proofs::Calls::closed_done))]
-    fn refuse_queueings<R: Wait>(&self, rt: &R) -> Answered<N>
-        ensures { IsDoneBy N.wiring N.rows Close result }
-    {
-        self.settle(rt, CloseCall)
-    }
-
     /// Waits until nothing is unfinished. The book was closed before, as is shown.
     #[tactic(auto, using(crate::proofs::Calls::drained_done))]
     fn drain<R: Wait>(&self, rt: &R, _closed: &Answered<N>) -> Answered<N>
@@ -49,13 +50,16 @@ impl<N: Naming, A: Allocator> WqRuntime<N, A> {
     }
 
     /// Refuses queueings from now on, and waits until no entry is unfinished (`destroy_workqueue`, for all workqueues).
-    /// It hands out the answer to its drain, which nothing else makes.
-    pub fn destroy<R: Wait>(&self, rt: &R) -> Answered<N>
+    /// It hands out the answers to its closing and to its drain, which nothing else makes.
+    #[tactic(auto, using(crate::proofs::Calls::closed_done))]
+    pub fn destroy<R: Wait>(&self, rt: &R) -> Destroyed<N>
         ensures took { Destroys N.wiring N.rows }
-        ensures drained { result ≡ record { call = Drain; answer = Ok Done } }
+        ensures closed { result.closed ≡ record { call = Close; answer = Ok Done } }
+        ensures drained { result.drained ≡ record { call = Drain; answer = Ok Done } }
     {
-        let closed = self.refuse_queueings(rt);
-        self.drain(rt, &closed)
+        let closed = self.settle(rt, CloseCall);
+        let drained = self.drain(rt, &closed);
+        Destroyed { closed, drained }
     }
 
     /// Closes an idle runtime, given all of its seats, and returns its book and the sums of their counts.

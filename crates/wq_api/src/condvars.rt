@@ -12,7 +12,7 @@ ghost use Rattle.wq_history.specs.declared.sleepers.Sleepers.TheVariants.{ItemWa
 ghost use Rattle.wq_api.specs.Locking.{max_item_condvars, HasCondvar, bell_of, AreOfLanes, AreOfItems, AreWoken};
 ghost use Rattle.wq_api.specs.Locking.{WokeContexts, WokeItems, WokeLane};
 
-use crate::bells::{Bell, Rung};
+use crate::bells::{Bell, Rung, RungLanes};
 use crate::entered::Unlocked;
 use std::alloc::{AllocError, Allocator};
 use wq_groups::LaneId;
@@ -43,10 +43,12 @@ pub(crate) struct Condvars<A: Allocator> {
     ghost of_destroyers: { destroyers.of ≡ Destroyers },
 }
 
-/// Which sleepers were woken: one context of a workqueue or all of them, and all of each other group.
+/// Which sleepers were woken: one context of a workqueue or all of them, all contexts of all workqueues, and all of
+/// each other group.
 #[derive(Drop)]
 pub(crate) struct Woken {
     contexts: Option<Rung>,
+    everybody: Option<RungLanes>,
     items: Option<Rung>,
     lane: Option<Rung>,
     destroyers: Option<Rung>,
@@ -131,7 +133,7 @@ impl<A: Allocator> Condvars<A> {
         ensures { WokeContexts (vec_len self.now.lanes) woken result }
     {
         match woken {
-            WokenContexts::Nobody => None,
+            WokenContexts::Nobody | WokenContexts::Everybody => None,
             WokenContexts::One(q) => {
                 let lane = self.lanes.get(usize::from(q.get()))?;
                 Some(lane.contexts.ring_one())
@@ -140,13 +142,18 @@ impl<A: Allocator> Condvars<A> {
                 let lane = self.lanes.get(usize::from(q.get()))?;
                 Some(lane.contexts.ring_all())
             }
-            WokenContexts::Everybody => {
-                for lane in &self.lanes {
-                    let _rung = lane.contexts.ring_all();
-                }
-                None
-            }
         }
+    }
+
+    /// Wakes all contexts of all workqueues.
+    fn wake_everybody(&self) -> RungLanes
+        ensures { result.count ≡ vec_len self.now.lanes }
+    {
+        let mut rung = RungLanes::none();
+        for q in 0..self.lanes.len() {
+            rung = rung.and(self.lanes[q].contexts.ring_all());
+        }
+        rung
     }
 
     /// Wakes all who wait for an item, if one is meant.
@@ -177,6 +184,10 @@ impl<A: Allocator> Condvars<A> {
     {
         Woken {
             contexts: self.wake_contexts(wake.contexts),
+            everybody: match wake.contexts {
+                WokenContexts::Everybody => Some(self.wake_everybody()),
+                _ => None,
+            },
             items: self.wake_items(wake.item_waiters),
             lane: self.wake_lane(wake.lane_waiters),
             destroyers: if wake.destroyers {

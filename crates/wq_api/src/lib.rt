@@ -18,7 +18,7 @@ mod runtime;
 mod serving;
 mod turns;
 
-pub use closing::CloseRefused;
+pub use closing::{CloseRefused, Destroyed};
 pub use runtime::WqRuntime;
 pub use wq_core::{Context, MAX_HELPERS};
 pub use wq_counts::{Counts, Kind};

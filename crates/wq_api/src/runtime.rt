@@ -164,6 +164,7 @@ impl<N: Naming, A: Allocator> WqRuntime<N, A> {
     /// The error is the first of these that holds: `NoItem` (66); `HistoryFull` (60),
     /// if the seat is full; `Closed` (61); `HistoryFull` (60), if fewer rows are
     /// free than `queue_work` needs. After an error nothing is changed or counted.
+    #[tactic(auto, using(crate::proofs::Projections::by_queue))]
     pub fn queue_item<R: Wait>(
         &self,
         rt: &R,
@@ -184,6 +185,7 @@ impl<N: Naming, A: Allocator> WqRuntime<N, A> {
     ///
     /// The error is `NoItem` (66), or else `HistoryFull` (60), if the seat is full, or nothing is pending and no row
     /// is free. After an error nothing is changed or counted.
+    #[tactic(auto, using(crate::proofs::Projections::by_cancel))]
     pub fn cancel_work<R: Wait>(
         &self,
         rt: &R,
@@ -204,6 +206,7 @@ impl<N: Naming, A: Allocator> WqRuntime<N, A> {
     ///
     /// The error is `NoItem` (66), or else `HistoryFull` (60), if the seat is full or fewer rows are free than it
     /// needs: 1 if the item is idle, else 2. Then nothing is changed or counted.
+    #[tactic(auto, using(crate::proofs::Projections::by_flush))]
     pub fn flush_work<R: Wait>(
         &self,
         rt: &R,
@@ -250,6 +253,7 @@ impl<N: Naming, A: Allocator> WqRuntime<N, A> {
     ///
     /// The error is `NoItem` (66), or else `HistoryFull` (60), if the seat is full or fewer than 3 rows are free.
     /// Then nothing is changed or counted.
+    #[tactic(auto, using(crate::proofs::Projections::by_cancel_sync))]
     pub fn cancel_work_sync<R: Wait>(
         &self,
         rt: &R,

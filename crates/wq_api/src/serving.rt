@@ -25,7 +25,7 @@ use std::sync::Wait;
 use wq_core::Context;
 use wq_groups::LaneId;
 use wq_held::{CallError, Naming, Next, Seat};
-use wq_history::Flush;
+use wq_history::{FinishCall, Flush};
 use wq_items::ItemId;
 
 impl<N: Naming, A: Allocator> WqRuntime<N, A> {
@@ -55,6 +55,7 @@ impl<N: Naming, A: Allocator> WqRuntime<N, A> {
     /// The error is the first of these that holds: `WrongLane` (64), if there is no such context; `HistoryFull`
     /// (60), if the seat is full; `WrongLane` (64), if the context runs nothing or waits; `Undeclared` (62),
     /// if what it runs declares no such flush; `TooManyWaits` (63). Then nothing is changed or counted.
+    #[tactic(auto, using(crate::proofs::Contexts::by_wait))]
     pub fn wait_in<R: Wait>(
         &self,
         rt: &R,
@@ -79,6 +80,7 @@ impl<N: Naming, A: Allocator> WqRuntime<N, A> {
     ///
     /// The only error is `WrongLane` (64): there is no such context, it runs nothing or an entry of another item, or it
     /// waits. After an error nothing is changed or counted.
+    #[tactic(auto, using(crate::proofs::Contexts::by_finish))]
     pub fn finish_in<R: Wait>(
         &self,
         rt: &R,
@@ -93,7 +95,10 @@ impl<N: Naming, A: Allocator> WqRuntime<N, A> {
             × (seat.new ≡ raised seat.old item FinishKind true)) }
         ensures refused { IfErr result (λ e. (e ≡ WrongLane) × (seat.new ≡ seat.old)) }
     {
-        self.finish(rt, seat, context, item)
+        match self.written(rt, seat, FinishCall { context, item }) {
+            Ok(_row) => Ok(()),
+            Err(e) => Err(e),
+        }
     }
 
     // ---- the rescuer
@@ -122,6 +127,7 @@ impl<N: Naming, A: Allocator> WqRuntime<N, A> {
     /// (60), if the seat is full; `WrongLane` (64), if the rescuer runs nothing or waits; `Undeclared` (62),
     /// if what it runs declares no flush of this item alone; `TooManyWaits` (63). Then nothing is changed or
     /// counted.
+    #[tactic(auto, using(crate::proofs::WaitsRefused::of_rescuer))]
     pub fn wait_for<R: Wait>(
         &self,
         rt: &R,
@@ -153,6 +159,7 @@ impl<N: Naming, A: Allocator> WqRuntime<N, A> {
     /// (60), if the seat is full; `WrongLane` (64), if the rescuer of `q` runs nothing or waits; `Undeclared`
     /// (62), if what it runs declares no flush of the whole workqueue of this very item; `TooManyWaits` (63). Then
     /// nothing is changed or counted.
+    #[tactic(auto, using(crate::proofs::WaitsRefused::of_rescuer))]
     pub fn wait_all_for<R: Wait>(
         &self,
         rt: &R,
@@ -222,6 +229,7 @@ impl<N: Naming, A: Allocator> WqRuntime<N, A> {
     /// `HistoryFull` (60), if the seat is full; `WrongLane` (64), if the helper runs nothing or waits;
     /// `Undeclared` (62), if what it runs declares no flush of this item alone; `TooManyWaits` (63). Then nothing is
     /// changed or counted.
+    #[tactic(auto, using(crate::proofs::WaitsRefused::of_helper))]
     pub fn help_wait_for<R: Wait>(
         &self,
         rt: &R,
@@ -256,6 +264,7 @@ impl<N: Naming, A: Allocator> WqRuntime<N, A> {
     /// `HistoryFull` (60), if the seat is full; `WrongLane` (64), if the helper runs nothing or waits;
     /// `Undeclared` (62), if what it runs declares no flush of the whole workqueue of this very item; `TooManyWaits`
     /// (63). Then nothing is changed or counted.
+    #[tactic(auto, using(crate::proofs::WaitsRefused::of_helper))]
     pub fn help_wait_all_for<R: Wait>(
         &self,
         rt: &R,

@@ -5,7 +5,7 @@
 //! are 22 for each seat and slot (there are as many slots as items or lanes, whichever are more), and no memory.
 
 ghost use Rattle.std.specs.Prelude.{◌≡◌, vec_len, IfOk, IfErr};
-ghost use Rattle.wq_held.specs.Locked.{slots, RefusesClose, Closes};
+ghost use Rattle.wq_held.specs.Locked.{slots, RefusesClose};
 ghost use Rattle.wq_held.specs.Closing.{MayBeGathered, AreGathered, IsClosed};
 
 use crate::held::Held;
@@ -29,7 +29,9 @@ pub struct Closed<N: Naming, A: Allocator> {
     pub counts: Counts<A>,
     /// Whether each sum is the number of rows that it counts.
     pub agree: bool,
+    was_closed: bool,
     of: PhantomData<N>,
+    ghost as_it_was: { book.closed ≡ was_closed },
 }
 
 /// Adds the counts of all seats to sums that are empty, and joins their parts of the ledger to those that are left.
@@ -53,31 +55,6 @@ fn gather<N: Naming, A: Allocator>(
 }
 
 impl<N: Naming, A: Allocator> Held<N, A> {
-    /// Closes a runtime, which may be closed with these seats.
-    pub fn closed(self, seats: Vec<Seat<N, A>, A>) -> Closed<N, A>
-        requires { Closes self (vec_len seats) }
-        ensures closed { IsClosed N.wiring N.rows seats.items result.book result.counts result.agree }
-        ensures book { result.book ≡ self.book }
-    {
-        self.book.legal();
-        let Held {
-            book,
-            tallies,
-            mut sums,
-            seats: _,
-            mut rest,
-        } = self;
-        let Tallies { counts, mut ledger } = tallies;
-        gather(&mut sums, &mut ledger, &mut rest, seats);
-        let agree = sums.is_same(&counts);
-        Closed {
-            book,
-            counts: sums,
-            agree,
-            of: PhantomData,
-        }
-    }
-
     /// Closes an idle runtime, given all of its seats, and gives its book and the sums of their counts.
     ///
     /// The error is `NotIdle` (71) if an entry is unfinished or a caller waits, or else `SeatsMissing` (72) if
@@ -91,9 +68,26 @@ impl<N: Naming, A: Allocator> Held<N, A> {
         ensures refused { IfErr result (λ e. (e.2.seats ≡ vec_len seats) × RefusesClose self (vec_len seats) e.2.why) }
         ensures kept { IfErr result (λ e. (e.0 ≡ self) × (e.1 ≡ seats)) }
     {
-        match self.closable(seats.len()) {
-            Ok(()) => Ok(self.closed(seats)),
-            Err(why) => Err((self, seats, why)),
+        if let Err(why) = self.closable(seats.len()) {
+            return Err((self, seats, why));
         }
+        self.book.legal();
+        let Held {
+            book,
+            tallies,
+            mut sums,
+            seats: _,
+            mut rest,
+        } = self;
+        let Tallies { counts, mut ledger } = tallies;
+        gather(&mut sums, &mut ledger, &mut rest, seats);
+        let was_closed = book.is_closed();
+        Ok(Closed {
+            agree: sums.is_same(&counts),
+            book,
+            counts: sums,
+            was_closed,
+            of: PhantomData,
+        })
     }
 }

@@ -94,7 +94,7 @@ impl<N: Naming, A: Allocator> Held<N, A> {
         ensures bound { sum seat.old ≤ counted_rows self.old.book.rows }
         ensures same { (self.new ≡ self.old) × (seat.new ≡ seat.old) }
     {
-        self.tallies.audit(seat);
+        self.tallies.ledger.audit(&mut seat.share);
     }
 
     /// The workqueue of an item, if there is such an item.

@@ -37,14 +37,6 @@ impl<N: Naming, A: Allocator> Model for Tallies<N, A> {
 }
 
 impl<N: Naming, A: Allocator> Tallies<N, A> {
-    /// Shows, by the ledger, that a seat counts no more than the tallies. Nothing is changed.
-    pub fn audit(&mut self, seat: &mut Seat<N, A>)
-        ensures bound { sum seat.old ≤ sum self.old }
-        ensures same { (self.new ≡ self.old) × (seat.new ≡ seat.old) }
-    {
-        self.ledger.audit(&mut seat.share);
-    }
-
     /// Counts a row, unless it is of a start: here, and in the seat of the caller whose call wrote it.
     #[inline(always)]
     fn count_row(&mut self, seat: &mut Seat<N, A>, row: &Row)

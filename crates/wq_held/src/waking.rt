@@ -14,7 +14,6 @@ ghost use Rattle.wq_history.specs.Book.{IsBook};
 ghost use Rattle.wq_history.specs.Calls.{IsEarly, waiters_for, sleepers_of, woken_by_done};
 ghost use Rattle.wq_history.specs.Calls.{woken_by_refusal};
 ghost use Rattle.wq_history.specs.Waits.{WakesBy, WakesByDeed, WakesIfEnded, WakesIfPending, WakesWaiters};
-ghost use Rattle.wq_rows.specs.declared.event.Event.TheVariants.{Queue as QueueEvent, Cancel as CancelEvent};
 
 use std::alloc::Allocator;
 use wq_core::HelpStep;
@@ -56,17 +55,6 @@ fn lane_of_item<A: Allocator>(book: &Book<A>, item: ItemId) -> LaneId
     q
 }
 
-/// Which sleepers a queueing of an existing item wakes; `accepted` says whether an entry was queued.
-fn by_queueing<A: Allocator>(book: &Book<A>, item: ItemId, accepted: bool) -> Wake
-    requires { item < items book.now.wiring }
-    ensures { WakesBy book.now (QueueEvent item) accepted result }
-{
-    if !accepted {
-        return Wake::nobody();
-    }
-    Wake::one_context(lane_of_item(book, item))
-}
-
 /// Which sleepers are woken when an entry of an item ends on a workqueue: these contexts, and the waits for it.
 fn by_end<A: Allocator>(book: &Book<A>, contexts: WokenContexts, q: LaneId, item: ItemId) -> Wake
     ensures { (result.contexts ≡ contexts) × WakesWaiters book.now q item result }
@@ -77,18 +65,6 @@ fn by_end<A: Allocator>(book: &Book<A>, contexts: WokenContexts, q: LaneId, item
         lane_waiters: Some(q),
         destroyers: book.all_done(),
     }
-}
-
-/// Which sleepers a cancellation of an existing item wakes; the flag says whether it took an entry.
-fn by_cancel<A: Allocator>(book: &Book<A>, item: ItemId, taken: bool) -> Wake
-    requires { item < items book.now.wiring }
-    ensures { WakesBy book.now (CancelEvent item) taken result }
-{
-    if !taken {
-        return Wake::nobody();
-    }
-    let q = lane_of_item(book, item);
-    by_end(book, if_ended(book, q), q, item)
 }
 
 /// Which sleepers a step of a context of a workqueue wakes.
@@ -114,8 +90,11 @@ pub(crate) fn by_row<A: Allocator>(book: &Book<A>, row: &Row) -> Wake
     ensures { WakesBy book.now row.now.event row.now.yes result }
 {
     match row.event {
-        Event::Queue(item) => by_queueing(book, item, row.yes),
-        Event::Cancel(item) => by_cancel(book, item, row.yes),
+        Event::Queue(item) if row.yes => Wake::one_context(lane_of_item(book, item)),
+        Event::Cancel(item) if row.yes => {
+            let q = lane_of_item(book, item);
+            by_end(book, if_ended(book, q), q, item)
+        }
         Event::Start(q, item) => by_step(book, q, &HelpStep::Start(item)),
         Event::Finish(q, item) => by_step(book, q, &HelpStep::Finish(item)),
         Event::Help(q, _, step) => by_step(book, q, &step),

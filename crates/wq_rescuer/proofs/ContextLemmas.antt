@@ -1,5 +1,6 @@
 -- The contexts of a runtime, counted and listed lane by lane.
-use Rattle.std.proofs.Common.{◌≡◌, ℕ, zero, suc, ◌+◌, ◌<◌, List, [], ◌∷◌, ◌++◌, length, map, Result, Ok, Err, OnErr, refl, sym, ap, ◌∙◌, append-nil, arith}
+use Rattle.std.proofs.Common.{◌≡◌, ℕ, zero, suc, ◌+◌, ◌<◌, List, [], ◌∷◌, ◌++◌, length, map, refl, sym, ap, ◌∙◌}
+use Rattle.std.proofs.Common.{append-nil, arith}
 use Rattle.std.specs.Prelude.{flat_map}
 use Rattle.std.specs.List.{range_with_len}
 use Rattle.std.proofs.lemmas.List.{map-append, length-append, length-map}
@@ -51,8 +52,3 @@ pub listed_more : (w : Wiring) (q lane n : ℕ) (before after : List Context) �
 listed_more w q lane n before after added many is so_far =
     added ∙ ap (λ (k : ℕ). before ++ (context_at lane 0 ∷ map (context_at lane) (range_with_len 1 k))) many
     ∙ ap (λ (l : ℕ). before ++ contexts_on w l) is ∙ ap (λ (cs : List Context). cs ++ contexts_on w q) so_far ∙ sym (contexts_below-more w q)
-
--- what holds anyway holds where a call fails
-pub on_err : {T E : Type 0} (r : Result T E) (P : Type 0) → P → OnErr r P
-on_err (Ok x) P holds = tt
-on_err (Err e) P holds = holds

@@ -5,6 +5,7 @@ use Rattle.std.proofs.lemmas.List.{append-nil, append_assoc, length-map, map-app
 use Rattle.wq_history.specs.declared.fault.CallError.{CallError}
 use Rattle.wq_rescuer.specs.declared.rescuing.Rescued.{Rescued}
 use Rattle.wq_rescuer.specs.Serving.{AreDone, HaveCalled, HaveServed}
+use Rattle.wq_rescuer.proofs.Handovers.{some_same}
 
 -- one more job, which is done
 done_more : {J E : Type 0} (done : J → E → Type 0) (js : List J) (es : List E) (j : J) (e : E) → AreDone done js es
@@ -74,9 +75,6 @@ map_reverse f (x ∷ xs) =
     ∙ ap (λ ys. ys ++ (f x ∷ [])) (map_reverse f xs)
     ∙ sym (reverse-append (f x ∷ []) (map f xs))
 
-some_is : {X : Type 0} (a b : X) → Some a ≡ Some b → a ≡ b
-some_is a b same = cc
-
 -- ---- threads
 
 -- of these some are left; of each other one something was made, of the last one first
@@ -135,9 +133,9 @@ each_served executed seat answer [] [] all n b s a b_at s_at a_at = absurd cc
 each_served executed seat answer [] (x ∷ xs) all n b s a b_at s_at a_at = absurd all
 each_served executed seat answer (y ∷ ys) [] all n b s a b_at s_at a_at = absurd all
 each_served executed seat answer (y ∷ ys) (x ∷ xs) all zero b s a b_at s_at a_at =
-    subst (λ z. executed z s a) (some_is y b b_at)
-    (subst (λ z. executed y z a) (some_is (seat x) s s_at)
-    (subst (λ z. executed y (seat x) z) (some_is (answer x) a a_at) all.0))
+    subst (λ z. executed z s a) (some_same y b b_at)
+    (subst (λ z. executed y z a) (some_same (seat x) s s_at)
+    (subst (λ z. executed y (seat x) z) (some_same (answer x) a a_at) all.0))
 each_served executed seat answer (y ∷ ys) (x ∷ xs) all (suc n) b s a b_at s_at a_at =
     each_served executed seat answer ys xs all.1 n b s a b_at s_at a_at
 
@@ -171,10 +169,10 @@ each_called did caller result seat [] [] all n old new r s old_at new_at r_at s_
 each_called did caller result seat [] (x ∷ xs) all n old new r s old_at new_at r_at s_at = absurd all
 each_called did caller result seat (y ∷ ys) [] all n old new r s old_at new_at r_at s_at = absurd all
 each_called did caller result seat (y ∷ ys) (x ∷ xs) all zero old new r s old_at new_at r_at s_at =
-    subst (λ z. did z new r s) (some_is y old old_at)
-    (subst (λ z. did y z r s) (some_is (caller x) new new_at)
-    (subst (λ z. did y (caller x) z s) (some_is (result x) r r_at)
-    (subst (λ z. did y (caller x) (result x) z) (some_is (seat x) s s_at) all.0)))
+    subst (λ z. did z new r s) (some_same y old old_at)
+    (subst (λ z. did y z r s) (some_same (caller x) new new_at)
+    (subst (λ z. did y (caller x) z s) (some_same (result x) r r_at)
+    (subst (λ z. did y (caller x) (result x) z) (some_same (seat x) s s_at) all.0)))
 each_called did caller result seat (y ∷ ys) (x ∷ xs) all (suc n) old new r s old_at new_at r_at s_at =
     each_called did caller result seat ys xs all.1 n old new r s old_at new_at r_at s_at
 

@@ -86,7 +86,7 @@ at_place (z ∷ xs) x (suc q) y is = elim (at_place xs x q y is) [
 
 -- ---- the order in which contexts come back
 
-some_same : {X : Type 0} (a b : X) → Some a ≡ Some b → a ≡ b
+pub some_same : {X : Type 0} (a b : X) → Some a ≡ Some b → a ≡ b
 some_same a b same = cc
 
 -- what is at a place of a list in reverse

@@ -2,6 +2,7 @@
 use Rattle.std.specs.Prelude.{◌≡◌, ◌≢◌, ℕ, ◌+◌, ◌*◌, ◌<◌, ◌≤◌, ◌⊎◌, List, [], ◌∷◌, length, replicate, Some, Result, Ok}
 use Rattle.std.specs.Prelude.{Err, true, sum}
 use Rattle.std.specs.List.{sum_by, range_with_len}
+use Rattle.wq_core.specs.declared.step.Context.{Context}
 use Rattle.wq_core.specs.Wiring.{Wiring, items, HasContext}
 use Rattle.wq_counts.specs.declared.kind.Kind.TheVariants.{Finish}
 use Rattle.wq_counts.specs.Counting.{counts_each, made, raised}
@@ -161,3 +162,10 @@ abbrev pub HasCeased : Wiring → ℕ → ℕ → ℕ → (ℕ → Result (Unit 
     → Type 0
 HasCeased w rows q c may old new (Ok rescued) = HasEnded w rows q c rescued.ended
 HasCeased w rows q c may old new (Err e) = HasContext w q c → e ≡ WrongLane → WasDrivenIn w rows q c may old new
+
+-- both, of a context whose seat had no counts: what it did, and why it stopped
+abbrev pub HasWorked : Wiring → ℕ → Context → (ℕ → Result (Unit {0}) BodyFault → List ℕ → List ℕ → Type 0) → List ℕ
+    → Result Rescued CallError
+    → Type 0
+HasWorked w rows context may seat answer = Executes may (no_counts w) seat answer
+    × HasCeased w rows context.lane context.number may (no_counts w) seat answer

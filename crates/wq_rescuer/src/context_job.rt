@@ -48,12 +48,10 @@ pub(crate) struct EndOfContext<B: Body + Drop> {
 
 impl<N: Naming, A: Allocator, B: Body + Drop> Promise<ContextEnd<N, A, B>> for EndOfContext<B> {
     ghost use Rattle.std.specs.Prelude.{◌≡◌};
-    ghost use Rattle.wq_rescuer.specs.Executing.{Executes, HasCeased, no_counts};
+    ghost use Rattle.wq_rescuer.specs.Executing.{HasWorked};
 
     ghost kept_by = { λ p end. (end.context ≡ p.context)
-        × Executes (B.may N.wiring p.body.value) (no_counts N.wiring) end.seat end.rescued
-        × HasCeased N.wiring N.rows p.context.lane p.context.number (B.may N.wiring p.body.value) (no_counts N.wiring)
-        end.seat end.rescued };
+        × HasWorked N.wiring N.rows p.context (B.may N.wiring p.body.value) end.seat end.rescued };
 }
 
 impl<N: Naming, A: Allocator, B: Body + Drop> ContextJob<N, A, B> {

@@ -291,5 +291,6 @@ pub(crate) fn hand_back<N: Naming, A: Allocator, B: Body + Drop, C: Caller + Dro
         bodies,
         callers,
         why: RunWhy::NoThread,
+        by: None,
     }
 }

@@ -5,10 +5,11 @@
 //! The loop ends when the runtime is closed and nothing is pending on the workqueue. It takes no memory. Apart from the
 //! bodies and what it waits for, it takes the time of the runtime's calls.
 
-ghost use Rattle.std.specs.Prelude.{◌≡◌, ℕ, ◌+◌, ◌<◌, ◌≤◌, List, Result, IfOk, OnOk, IfErr, OnErr};
+ghost use Rattle.std.specs.Prelude.{◌≡◌, ℕ, ◌+◌, ◌<◌, ◌≤◌, List, Some, Result, IfOk, OnOk, IfErr, OnErr};
 ghost use Rattle.wq_core.specs.Wiring.{items, HasContext};
 ghost use Rattle.wq_history.specs.declared.fault.CallError.TheVariants.{WrongLane};
 ghost use Rattle.wq_held.specs.Locked.{IsOnLane};
+ghost use Rattle.wq_api.specs.Taking.{context_of};
 ghost use Rattle.wq_api.specs.WaitingCalls.{IsHelper};
 ghost use Rattle.wq_rescuer.specs.declared.body.BodyFault.{BodyFault as Fault};
 ghost use Rattle.wq_rescuer.specs.Executing.{NeverRan, RanOnce, RanOnly, SameFinished, CountsRuns, CountsAtMost};
@@ -19,7 +20,7 @@ use crate::body::{Body, BodyFault};
 use crate::work::Work;
 use std::alloc::Allocator;
 use std::sync::Wait;
-use wq_api::{CallError, Context, Ended, Naming, Seat, WqRuntime};
+use wq_api::{CallError, Context, Ended, Naming, Next, Seat, WqRuntime};
 use wq_groups::LaneId;
 use wq_items::ItemId;
 
@@ -59,7 +60,7 @@ impl Executed {
     }
 }
 
-/// Runs the body of an item that a context has started.
+/// Runs the body of an item that a context has started, once for each start.
 fn execute<N: Naming, A: Allocator, R: Wait, B: Body>(
     rt: &R,
     runtime: &WqRuntime<N, A>,
@@ -68,7 +69,9 @@ fn execute<N: Naming, A: Allocator, R: Wait, B: Body>(
     seat: &mut Seat<N, A>,
     body: &mut B,
     item: ItemId,
+    started: Next<N>,
 ) -> Result<(), BodyFault>
+    requires started { started ≡ record { context = context_of q helper; item = Some item } }
     requires known { item < B.width body.old }
     requires few { B.runs body.old item < 4294967295 }
     requires on_lane { IsOnLane N.wiring q item }
@@ -83,7 +86,7 @@ fn execute<N: Naming, A: Allocator, R: Wait, B: Body>(
         lane: q,
         number: helper,
     };
-    let mut work = Work::new(runtime, seat, context, item);
+    let mut work = Work::new(runtime, seat, context, item, started);
     body.run(rt, item, &mut work)
 }
 
@@ -145,7 +148,7 @@ pub fn serve<N: Naming, A: Allocator, R: Wait, B: Body>(
                 ended: next.end(),
             });
         };
-        let answer = execute(rt, runtime, q, helper, seat, body, item);
+        let answer = execute(rt, runtime, q, helper, seat, body, item, next);
         seat.holds();
         let context = Context {
             lane: q,

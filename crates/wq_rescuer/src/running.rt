@@ -4,15 +4,17 @@
 //! All memory is taken, and all seats are made, before any thread starts.
 
 ghost use Rattle.std.specs.Prelude.{◌≡◌, ◌≢◌, ℕ, ◌+◌, ◌<◌, ◌≤◌, [], length, map, reverse, take, drop, vec_len};
-ghost use Rattle.std.specs.Prelude.{vec_capacity, IfOk, IfErr, OnOk};
+ghost use Rattle.std.specs.Prelude.{vec_capacity, Some, IfOk, IfErr};
 ghost use Rattle.std.specs.List.{All};
 ghost use Rattle.wq_core.specs.Wiring.{items};
+ghost use Rattle.wq_held.specs.declared.fault.SeatError.TheVariants.{TooManySeats as NoSeatLeft};
 ghost use Rattle.wq_held.specs.Locked.{slots};
 ghost use Rattle.wq_rescuer.specs.Executing.{NeverRan, Executes, HasEnded, no_counts};
 ghost use Rattle.wq_rescuer.specs.Contexts.{contexts_of};
 ghost use Rattle.wq_rescuer.specs.Serving.{AreFirstSeats, HasRoomFor, HaveCalled, HaveServed, IsNoSeat, IsOneLost};
 ghost use Rattle.wq_rescuer.specs.Serving.{IsRan, RefusesRun, WasRefusedASeat, run_code};
-ghost use Rattle.wq_rescuer.specs.declared.running.RunWhy.TheVariants.{BodiesDiffer, OutOfMemory, NoThread};
+ghost use Rattle.wq_rescuer.specs.declared.running.RunWhy.TheVariants.{BodiesDiffer, TooManySeats, OutOfMemory};
+ghost use Rattle.wq_rescuer.specs.declared.running.RunWhy.TheVariants.{NoThread};
 
 use crate::board::{Unstarted, add_callers, add_contexts};
 use crate::body::Body;
@@ -25,7 +27,7 @@ use std::alloc::Allocator;
 use std::sync::Wait;
 use std::thread::Threads;
 use thiserror::Error;
-use wq_api::{CallError, Naming, Seat, WqRuntime};
+use wq_api::{CallError, Naming, NoSeat, Seat, WqRuntime};
 
 /// Why not everything was run.
 #[derive(Clone, Copy, Debug, PartialEq, Eq, Error)]
@@ -88,6 +90,8 @@ pub struct RunFault<N: Naming, A: Allocator, B: Body + Drop, C: Caller + Drop> {
     pub callers: Vec<C, A>,
     /// Why.
     pub why: RunWhy,
+    /// That a seat wasn't made, if that is why.
+    pub by: Option<NoSeat<N>>,
 }
 
 /// Makes the jobs of all contexts and callers. The lists for what comes back are empty then, and have room for all of
@@ -195,6 +199,7 @@ pub fn run_all<
         r.callers.items r.results.items (drop (length (contexts_of N.wiring)) r.seats.items)) }
     ensures refused { IfErr result (λ f. RefusesRun (length (contexts_of N.wiring)) (vec_len bodies) f.why) }
     ensures cause { IfErr result (λ f. WasRefusedASeat N.wiring N.rows f.why) }
+    ensures by { IfErr result (λ f. f.why ≡ TooManySeats → f.by ≡ Some NoSeatLeft) }
     ensures no_seats { IfErr result (λ f. f.why ≡ BodiesDiffer → f.seats.items ≡ []) }
     ensures made { IfErr result (λ f. IsNoSeat f.why
         → AreFirstSeats (slots N.wiring) (vec_len bodies + vec_len callers) f.seats.items) }
@@ -207,11 +212,12 @@ pub fn run_all<
 {
     let space = match reserve(rt, alloc, runtime, bodies.len(), callers.len()) {
         Ok(space) => space,
-        Err(NoSpace { seats, why }) => return Err(RunFault {
+        Err(NoSpace { seats, why, by }) => return Err(RunFault {
             seats,
             bodies,
             callers,
             why,
+            by,
         }),
     };
     let (jobs, back) = make_jobs(space, bodies, callers);

@@ -5,14 +5,15 @@
 //! of these a seat has 176 bytes of counts.
 
 ghost use Rattle.std.specs.Prelude.{◌≡◌, ℕ, ◌+◌, ◌*◌, ◌<◌, ◌≤◌, ◌^◌, [], length, replicate, vec_len, vec_capacity};
-ghost use Rattle.std.specs.Prelude.{IfOk, OnOk, IfErr, OnErr};
+ghost use Rattle.std.specs.Prelude.{Some, IfOk, OnOk, IfErr, OnErr};
 ghost use Rattle.std.specs.List.{All};
 ghost use Rattle.wq_counts.specs.Counting.{counts_each};
+ghost use Rattle.wq_held.specs.declared.fault.SeatError.TheVariants.{TooManySeats as NoSeatLeft};
 ghost use Rattle.wq_held.specs.Locked.{slots};
 ghost use Rattle.wq_rescuer.specs.Contexts.{contexts_of};
 ghost use Rattle.wq_rescuer.specs.Serving.{AreFirstSeats, HasRoomFor, IsNoSeat, IsUnstarted, RefusesRun};
 ghost use Rattle.wq_rescuer.specs.Serving.{WasRefusedASeat};
-ghost use Rattle.wq_rescuer.specs.declared.running.RunWhy.TheVariants.{BodiesDiffer, OutOfMemory};
+ghost use Rattle.wq_rescuer.specs.declared.running.RunWhy.TheVariants.{BodiesDiffer, TooManySeats, OutOfMemory};
 
 use crate::board::Board;
 use crate::body::Body;
@@ -22,7 +23,7 @@ use crate::rescuing::Rescued;
 use crate::running::RunWhy;
 use std::alloc::{AllocError, Allocator};
 use std::sync::Wait;
-use wq_api::{CallError, Naming, Seat, SeatError, WqRuntime};
+use wq_api::{CallError, Naming, NoSeat, Seat, SeatError, WqRuntime};
 use wq_core::Context;
 
 /// The contexts, seats, and room: for the jobs, for what comes back of them, and for the answers.
@@ -35,11 +36,12 @@ pub(crate) struct Space<N: Naming, A: Allocator, B: Body + Drop, C: Caller + Dro
     pub(crate) results: Vec<Result<(), CallError>, A>,
 }
 
-/// Why there is no space for a run, and the seats that were made before.
+/// Why there is no space for a run, what shows it if a seat wasn't made, and the seats that were made before.
 #[derive(Drop)]
 pub(crate) struct NoSpace<N: Naming, A: Allocator> {
     pub(crate) seats: Vec<Seat<N, A>, A>,
     pub(crate) why: RunWhy,
+    pub(crate) by: Option<NoSeat<N>>,
 }
 
 impl<N: Naming, A: Allocator + Copy, B: Body + Drop, C: Caller + Drop> Space<N, A, B, C> {
@@ -77,30 +79,31 @@ impl<N: Naming, A: Allocator + Copy, B: Body + Drop, C: Caller + Drop> Space<N, 
     }
 }
 
-/// Makes as many seats as are wanted, until one is refused.
+/// Makes as many seats as are wanted, until one is refused. The error is why, and what shows it.
 fn make_seats<N: Naming, A: Allocator + Copy, R: Wait>(
     rt: &R,
     alloc: A,
     runtime: &WqRuntime<N, A>,
     seats: &mut Vec<Seat<N, A>, A>,
     wanted: usize,
-) -> Result<(), RunWhy>
+) -> Result<(), (RunWhy, NoSeat<N>)>
     requires none { seats.old.items ≡ [] }
     requires room { wanted ≤ vec_capacity seats.old }
     ensures room { vec_capacity seats.new ≡ vec_capacity seats.old }
     ensures no_counts { All (λ seat. seat ≡ replicate (counts_each * slots N.wiring) 0) seats.new.items }
     ensures all { OnOk result (vec_len seats.new ≡ wanted) }
     ensures few { OnErr result (vec_len seats.new < wanted) }
-    ensures refused { IfErr result (λ why. IsNoSeat why) }
-    ensures cause { IfErr result (λ why. WasRefusedASeat N.wiring N.rows why) }
+    ensures refused { IfErr result (λ e. IsNoSeat e.0) }
+    ensures cause { IfErr result (λ e. WasRefusedASeat N.wiring N.rows e.0) }
+    ensures by { IfErr result (λ e. e.0 ≡ TooManySeats → e.1 ≡ NoSeatLeft) }
 {
     for _ in 0..wanted {
         match runtime.seat(rt, alloc) {
             Ok(seat) => seats.push_reserved(seat),
             Err(refused) => {
                 return match refused.why() {
-                    SeatError::TooManySeats => Err(RunWhy::TooManySeats),
-                    SeatError::OutOfMemory => Err(RunWhy::OutOfMemory),
+                    SeatError::TooManySeats => Err((RunWhy::TooManySeats, refused)),
+                    SeatError::OutOfMemory => Err((RunWhy::OutOfMemory, refused)),
                 };
             }
         }
@@ -164,6 +167,7 @@ pub(crate) fn reserve<N: Naming, A: Allocator + Copy, R: Wait, B: Body + Drop, C
     ensures refused { IfErr result (λ e. RefusesRun (length (contexts_of N.wiring)) bodies e.why) }
     ensures unstarted { IfErr result (λ e. IsUnstarted e.why) }
     ensures cause { IfErr result (λ e. WasRefusedASeat N.wiring N.rows e.why) }
+    ensures by { IfErr result (λ e. e.why ≡ TooManySeats → e.by ≡ Some NoSeatLeft) }
     ensures no_seats { IfErr result (λ e. e.why ≡ BodiesDiffer → e.seats.items ≡ []) }
     ensures made { IfErr result (λ e. IsNoSeat e.why
         → AreFirstSeats (slots N.wiring) (bodies + callers) e.seats.items) }
@@ -173,19 +177,22 @@ pub(crate) fn reserve<N: Naming, A: Allocator + Copy, R: Wait, B: Body + Drop, C
         return Err(NoSpace {
             seats: Vec::new(alloc),
             why: RunWhy::BodiesDiffer,
+            by: None,
         });
     }
     let Ok(mut space) = take_room(alloc, runtime, bodies, callers) else {
         return Err(NoSpace {
             seats: Vec::new(alloc),
             why: RunWhy::OutOfMemory,
+            by: None,
         });
     };
     match make_seats(rt, alloc, runtime, &mut space.seats, bodies + callers) {
         Ok(()) => Ok(space),
-        Err(why) => Err(NoSpace {
+        Err((why, refused)) => Err(NoSpace {
             seats: space.seats,
             why,
+            by: Some(refused),
         }),
     }
 }

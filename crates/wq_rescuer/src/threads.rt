@@ -5,7 +5,7 @@
 //! before, so the stack doesn't grow with them.
 
 ghost use Rattle.std.specs.Prelude.{◌≡◌, ℕ, ◌+◌, ◌≤◌, [], reverse, vec_len, vec_capacity, IsTrue, false};
-ghost use Rattle.wq_rescuer.specs.Executing.{Executes, HasCeased, no_counts};
+ghost use Rattle.wq_rescuer.specs.Executing.{HasWorked, no_counts};
 ghost use Rattle.wq_rescuer.specs.Serving.{AreDone, IsOneLost};
 
 use crate::board::{Board, CallerJobs, Unstarted};
@@ -198,9 +198,8 @@ fn run_contexts<
     requires no_contexts { (board.old.contexts.ends.items ≡ []) × (board.old.contexts.threads.items ≡ []) }
     requires no_callers { (board.old.callers.ends.items ≡ []) × (board.old.callers.threads.items ≡ []) }
     ensures served { IsTrue result → AreDone (λ job end. (end.context ≡ job.context)
-        × Executes (B.may N.wiring job.body) (no_counts N.wiring) end.seat end.rescued
-        × HasCeased N.wiring N.rows job.context.lane job.context.number (B.may N.wiring job.body) (no_counts N.wiring)
-        end.seat end.rescued) board.old.contexts.waiting.items board.new.contexts.ends.items }
+        × HasWorked N.wiring N.rows job.context (B.may N.wiring job.body) end.seat end.rescued)
+        board.old.contexts.waiting.items board.new.contexts.ends.items }
     ensures called { IsTrue result → AreDone (λ job end. C.did N.wiring job.caller end.caller end.result
         (no_counts N.wiring) end.seat) board.old.callers.waiting.items board.new.callers.ends.items }
     ensures contexts_back { IsTrue result → vec_len board.new.contexts.ends ≡ vec_len board.old.contexts.waiting }
@@ -210,7 +209,7 @@ fn run_contexts<
         (vec_len board.new.callers.waiting + vec_len board.new.callers.ends) }
 {
     let all = start_all(scope, rt, runtime, board);
-    let _drained = runtime.destroy(rt);
+    let _destroyed = runtime.destroy(rt);
     join_all(rt, &mut board.contexts.threads, &mut board.contexts.ends);
     all
 }
@@ -226,9 +225,8 @@ pub(crate) fn run_threads<
 >(rt: &R, runtime: &WqRuntime<N, A>, jobs: Unstarted<N, A, B, C>) -> (Board<N, A, B, C>, bool)
     ensures served { IsTrue result.1 → AreDone
         (λ job end. (end.context ≡ job.context)
-        × Executes (B.may N.wiring job.body) (no_counts N.wiring) end.seat end.rescued
-        × HasCeased N.wiring N.rows job.context.lane job.context.number (B.may N.wiring job.body) (no_counts N.wiring)
-        end.seat end.rescued) jobs.board.contexts.waiting.items result.0.contexts.ends.items }
+        × HasWorked N.wiring N.rows job.context (B.may N.wiring job.body) end.seat end.rescued)
+        jobs.board.contexts.waiting.items result.0.contexts.ends.items }
     ensures called { IsTrue result.1 → AreDone
         (λ job end. C.did N.wiring job.caller end.caller end.result (no_counts N.wiring) end.seat)
         jobs.board.callers.waiting.items result.0.callers.ends.items }
@@ -245,9 +243,7 @@ pub(crate) fn run_threads<
         move |scope| -> (Board<N, A, B, C>, bool)
             ensures served { IsTrue result.1 → AreDone
                 (λ job end. (end.context ≡ job.context)
-                × Executes (B.may N.wiring job.body) (no_counts N.wiring) end.seat end.rescued
-                × HasCeased N.wiring N.rows job.context.lane job.context.number (B.may N.wiring job.body)
-                (no_counts N.wiring) end.seat end.rescued)
+                × HasWorked N.wiring N.rows job.context (B.may N.wiring job.body) end.seat end.rescued)
                 jobs.board.contexts.waiting.items result.0.contexts.ends.items }
             ensures called { IsTrue result.1 → AreDone
                 (λ job end. C.did N.wiring job.caller end.caller end.result (no_counts N.wiring) end.seat)

@@ -5,7 +5,7 @@
 //! (`flush_work` and `flush_workqueue` in a work function, Documentation/core-api/workqueue.rst, "Guidelines"). Apart
 //! from what it waits for, a call takes the time of the runtime's own call.
 
-ghost use Rattle.std.specs.Prelude.{◌≡◌, ◌<◌, true, false, IfOk, IfErr};
+ghost use Rattle.std.specs.Prelude.{◌≡◌, ◌<◌, true, false, Some, IfOk, IfErr};
 ghost use Rattle.wq_core.specs.Wiring.{items, HasContext};
 ghost use Rattle.wq_counts.specs.declared.kind.Kind.TheVariants.{Queue, Cancel};
 ghost use Rattle.wq_counts.specs.Counting.{HasCountsOf, raised};
@@ -18,7 +18,7 @@ ghost use Rattle.wq_rescuer.specs.Executing.{SameFinished, RefusesQueueByBody};
 
 use std::alloc::Allocator;
 use std::sync::Wait;
-use wq_api::{CallError, Context, Naming, Seat, WqRuntime};
+use wq_api::{CallError, Context, Naming, Next, Seat, WqRuntime};
 use wq_history::Flush;
 use wq_items::ItemId;
 
@@ -29,6 +29,9 @@ pub struct Work<'a, N: Naming, A: Allocator> {
     seat: &'a mut Seat<N, A>,
     context: Context,
     item: ItemId,
+    /// What its context was given to start: only a start hands that out, and one execution uses it up.
+    started: Next<N>,
+    ghost of_entry: { started ≡ record { context = context; item = Some item } },
     /// What the latest flush, of an item or of a workqueue, answered. Contracts alone look at it.
     flushed: Result<bool, CallError>,
 }
@@ -40,7 +43,9 @@ impl<'a, N: Naming, A: Allocator> Work<'a, N, A> {
         seat: &'a mut Seat<N, A>,
         context: Context,
         item: ItemId,
+        started: Next<N>,
     ) -> Self
+        requires started { started ≡ record { context = context; item = Some item } }
         ensures same_seat { result.seat.ghost_name ≡ seat.entry.ghost_name }
         ensures counts { result.seat.now ≡ seat.old }
         ensures context { result.context ≡ context }
@@ -51,6 +56,7 @@ impl<'a, N: Naming, A: Allocator> Work<'a, N, A> {
             seat,
             context,
             item,
+            started,
             flushed: Ok(false),
         }
     }

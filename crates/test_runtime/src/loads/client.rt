@@ -175,7 +175,7 @@ impl<'c> Client<'c> {
         runtime: &WqRuntime<N, A>,
         seat: &mut Seat<N, A>,
     ) {
-        let _drained = runtime.destroy(rt);
+        let _destroyed = runtime.destroy(rt);
         let queued = queue(rt, runtime, seat, ItemId::new(0));
         self.late.note(TalliedCall::Queue, queued);
         for item in 0..self.items {

@@ -163,7 +163,7 @@ fn do_in_caller<N: Naming, A: Allocator, R: Wait>(
         Deed::Seen(count) => return Ok(flags.have_dawdled(count)),
         Deed::Destroy => {
             flags.end();
-            let _drained = runtime.destroy(rt);
+            let _destroyed = runtime.destroy(rt);
             return Ok(flags.has_lingered());
         }
     };

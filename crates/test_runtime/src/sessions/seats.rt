@@ -203,7 +203,7 @@ impl<N: Naming> Seats<N> {
             RuntimeCall::Lanes => write!(out, "{}", runtime.lanes()),
             RuntimeCall::Lane(item) => put_lane(out, runtime.lane_of(item)),
             RuntimeCall::Destroy => {
-                let _drained = runtime.destroy(rt);
+                let _destroyed = runtime.destroy(rt);
                 out.push_str("ok")
             }
             RuntimeCall::Close(_) => Ok(()),

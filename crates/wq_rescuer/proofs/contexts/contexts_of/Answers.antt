@@ -1,6 +1,7 @@
 use Rattle.std.proofs.Common.{◌<◌, length, ap, ◌∙◌, arith}
+use Rattle.wq_items.proofs.WaitLemmas.{OnErr-always}
 use Rattle.wq_rescuer.specs.Contexts.{contexts_of}
-use Rattle.wq_rescuer.proofs.ContextLemmas.{contexts_below, listed_more, on_err, some_context}
+use Rattle.wq_rescuer.proofs.ContextLemmas.{contexts_below, listed_more, some_context}
 use Rattle.wq_rescuer.proofs.contexts.contexts_of.Goals as goal
 
 pub loop-q-preserved : goal.loop-q-preserved
@@ -10,7 +11,8 @@ loop-q-preserved g c =
 pub returns-in_err-add_contexts_on-clause-memory : goal.returns-in_err-add_contexts_on-clause-memory
 returns-in_err-add_contexts_on-clause-memory g c =
     let within : c.loop-q.q < g.N.Naming.wiring.lanes = omega (arith, c.loop-q-test.true, c.loop-q.auto.q-end, c.lanes-q-end.ensures.lanes) in
-    on_err c.from_residual-in_err-add_contexts_on.result (0 < length (contexts_of g.N.Naming.wiring)) (some_context g.N.Naming.wiring c.loop-q.q within)
+    OnErr-always c.from_residual-in_err-add_contexts_on.result (0 < length (contexts_of g.N.Naming.wiring))
+    (some_context g.N.Naming.wiring c.loop-q.q within)
 
 pub returns-clause-contexts : goal.returns-clause-contexts
 returns-clause-contexts g c =

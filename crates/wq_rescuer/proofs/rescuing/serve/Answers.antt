@@ -1,10 +1,10 @@
-use Rattle.std.proofs.Common.{arith, inl, inr, sym, ◌∙◌}
+use Rattle.std.proofs.Common.{ap₂, arith, inl, inr, sym, ◌∙◌}
 use Rattle.wq_core.specs.Wiring.{items}
 use Rattle.wq_rescuer.specs.Executing.{HasStopped}
 use Rattle.wq_held.specs.Locked.{seat_rows, slots}
 use Rattle.std.proofs.Math.Nat.{le-max_left}
 use Rattle.std.specs.Prelude.{sum}
-use Rattle.wq_rescuer.proofs.ContextLemmas.{on_err}
+use Rattle.wq_items.proofs.WaitLemmas.{OnErr-always}
 use Rattle.wq_rescuer.proofs.Executions.{serving_more, one_fault_at_most, ran_only_more, on_lane_of_next}
 use Rattle.wq_rescuer.proofs.Executions.{nothing_else, few_finished, few_runs, below_limit, has_cause, left_one}
 use Rattle.wq_rescuer.proofs.Executions.{one_executed, stopped_at_end, stopped_between}
@@ -20,6 +20,11 @@ execute-answer-requires-clause-few g c =
     (g.B.Body.width c.loop.body) (g.B.Body.runs c.loop.body) c.loop.rescued.finished c.loop.rescued.faults
     c.in-Some-item.item c.loop.invariant.2 c.holds.ensures
     (le-max_left (items g.N.Naming.wiring) g.N.Naming.wiring.lanes) on.0 room
+
+pub execute-answer-requires-clause-started : goal.execute-answer-requires-clause-started
+execute-answer-requires-clause-started g c =
+    ap₂ (λ context item. record { context = context; item = item }) c.in_ok-next.ensures.took.0
+    (sym c.item.ensures ∙ c.in-Some-item.is)
 
 pub and-rescued-requires-clause-few : goal.and-rescued-requires-clause-few
 and-rescued-requires-clause-few g c =
@@ -99,7 +104,7 @@ returns-in_err-finish_in-clause-stopped g c =
     let answer = c.execute-answer.result in
     let counts = c.execute-answer.new.seat in
     let may = g.B.Body.may g.N.Naming.wiring c.args.body.now in
-    on_err c.from_residual-in_err-finish_in.result (HasStopped may c.args.seat.now c.finish_in.new.seat)
+    OnErr-always c.from_residual-in_err-finish_in.result (HasStopped may c.args.seat.now c.finish_in.new.seat)
     (stopped_at_end may c.args.seat.now c.finish_in.new.seat
     (left_one may c.args.seat.now c.loop.seat counts c.finish_in.new.seat before.finished before.faults item answer
     c.loop.invariant.5 (c.loop.invariant.6 item answer c.loop.seat counts c.execute-answer.ensures.may)
@@ -109,5 +114,5 @@ pub returns-in_err-next-clause-stopped : goal.returns-in_err-next-clause-stopped
 returns-in_err-next-clause-stopped g c =
     let before = c.loop.rescued in
     let may = g.B.Body.may g.N.Naming.wiring c.args.body.now in
-    on_err c.from_residual.result (HasStopped may c.args.seat.now c.loop.seat)
+    OnErr-always c.from_residual.result (HasStopped may c.args.seat.now c.loop.seat)
     (stopped_between may c.args.seat.now c.loop.seat before.finished before.faults c.loop.invariant.5)

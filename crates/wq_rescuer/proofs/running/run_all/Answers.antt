@@ -1,6 +1,6 @@
 use Rattle.std.proofs.Common.{rules, ◌≡◌, ◌≤◌, ◌+◌, ℕ, ◌∙◌, arith, drop, false, length, map, subst, take, vec_len}
 use Rattle.std.specs.Prelude.{IsTrue, IfOk}
-use Rattle.wq_rescuer.specs.Executing.{Executes, HasCeased, HasEnded, no_counts}
+use Rattle.wq_rescuer.specs.Executing.{Executes, HasEnded, HasWorked, no_counts}
 use Rattle.wq_rescuer.specs.Contexts.{contexts_of}
 use Rattle.wq_rescuer.specs.Serving.{IsRan}
 use Rattle.wq_rescuer.proofs.Executions.{has_ended}
@@ -35,9 +35,7 @@ gather-requires-clause-in_order g c =
     let w = g.N.Naming.wiring in
     let yes : IsTrue c.run_threads-board.result.1 = search rules in
     done_part (λ job end. (end.context ≡ job.context)
-    × Executes (g.B.Body.may w job.body) (no_counts w) end.seat end.rescued
-    × HasCeased w g.N.Naming.rows job.context.lane job.context.number (g.B.Body.may w job.body) (no_counts w) end.seat
-    end.rescued)
+    × HasWorked w g.N.Naming.rows job.context (g.B.Body.may w job.body) end.seat end.rescued)
     (λ job. job.context) (λ end. end.context)
     (λ job end done. done.0) c.make_jobs-jobs.result.0.board.contexts.waiting.items
     c.run_threads-board.result.0.contexts.ends.items (c.run_threads-board.ensures.served yes)
@@ -89,11 +87,9 @@ returns-clause-served g c =
     c.args.bodies.items (map (λ job. job.body) jobs) ends (take (length (contexts_of w)) c.gather.result.seats.items)
     c.gather.result.rescued.items c.make_jobs-jobs.ensures.bodies
     (done_of (λ job end. (end.context ≡ job.context)
-    × Executes (g.B.Body.may w job.body) (no_counts w) end.seat end.rescued
-    × HasCeased w g.N.Naming.rows job.context.lane job.context.number (g.B.Body.may w job.body) (no_counts w) end.seat
-    end.rescued)
+    × HasWorked w g.N.Naming.rows job.context (g.B.Body.may w job.body) end.seat end.rescued)
     (λ body end. Executes (g.B.Body.may w body) (no_counts w) end.seat end.rescued)
-    (λ job. job.body) (λ job end done. done.1) jobs ends (c.run_threads-board.ensures.served yes))
+    (λ job. job.body) (λ job end done. done.1.0) jobs ends (c.run_threads-board.ensures.served yes))
     c.gather.ensures.first_seats c.gather.ensures.rescued
 
 pub returns-clause-ended : goal.returns-clause-ended
@@ -109,12 +105,10 @@ returns-clause-ended g c =
     (take (length (contexts_of w)) c.gather.result.seats.items) c.gather.result.rescued.items
     c.make_jobs-jobs.ensures.contexts
     (done_of (λ job end. (end.context ≡ job.context)
-    × Executes (g.B.Body.may w job.body) (no_counts w) end.seat end.rescued
-    × HasCeased w g.N.Naming.rows job.context.lane job.context.number (g.B.Body.may w job.body) (no_counts w) end.seat
-    end.rescued)
+    × HasWorked w g.N.Naming.rows job.context (g.B.Body.may w job.body) end.seat end.rescued)
     (λ context end. IfOk end.rescued (λ r. HasEnded w rows context.lane context.number r.ended)) (λ job. job.context)
     (λ job end done. has_ended w rows job.context.lane job.context.number (g.B.Body.may w job.body) (no_counts w)
-    end.seat end.rescued done.2) jobs ends (c.run_threads-board.ensures.served yes))
+    end.seat end.rescued done.1.1) jobs ends (c.run_threads-board.ensures.served yes))
     c.gather.ensures.first_seats c.gather.ensures.rescued
 
 pub returns-clause-called : goal.returns-clause-called
