@@ -38,8 +38,15 @@ module _ (s : Declared) (old : Workqueues) (called : List (List ℕ)) (moving : 
   printed (answer.TooFewNames start steps) is prints =
       with_end Bad prints.0 (inr (record { start = start; steps = steps.items; few = is; text = prints.1 }))
   printed (answer.Circle arcs) is prints =
-      let (steps, run, text) = prints.1 in
-      with_end Bad prints.0 (inl (record { circle = arcs.items; needed = is; steps = steps; run = run; text = text }))
+      let (steps, is_run, deadlocks, text) = prints.1 in
+      with_end Bad prints.0 (inl (record {
+        circle = arcs.items;
+        needed = is;
+        steps = steps;
+        is_run = is_run;
+        deadlocks = deadlocks;
+        text = text;
+      }))
 
 module _ {A : Type 0} (names : List (List ℕ)) (s : Declared) (text : List ℕ) (found : Found (Option (Repairing A)))
     (end : End) (out : List ℕ) where
