@@ -7,8 +7,9 @@
 # depends on time: a call that comes too late to fall asleep is answered all the same, and its round shows nothing. A call of which no
 # round shows anything has failed.
 #
-# And it shows that a queueing wakes one context, and not all nine of a workqueue: who is woken in vain sleeps again, which the kernel
-# counts; and that whoever waits takes no processor time while nothing happens, as who looks again and again does.
+# And it shows that none of these calls has the lock while it wakes others: its thread is stopped just then, and who is woken goes on;
+# that a queueing wakes one context, and not all nine of a workqueue: who is woken in vain sleeps again, which the kernel counts; and
+# that whoever waits takes no processor time while nothing happens, as who looks again and again does.
 # All was worked out by hand from docs/RUNTIME.md. It takes some seconds.
 
 import collections
@@ -27,11 +28,16 @@ sys.dont_write_bytecode = True
 sys.path.append(str(pathlib.Path(__file__).resolve().parents[1] / "lib"))
 from programs import ask, counts_of, is_there, started  # noqa: E402  (in tests/lib)
 from tables import short, text_of  # noqa: E402  (there, too)
+from traced import KernelCall, traced  # noqa: E402
 
 # How often each is tried, how long a program may take, in seconds, and how many run at a time: they sleep nearly all the time.
 ROUNDS = 20
 SECONDS = 10
 WORKERS = 40
+
+# How often a call is stopped while it wakes others, at most, and how long those have to go on meanwhile, in seconds.
+STOPS = 5
+STOPPED = 5
 
 # How often an entry is queued and waited for while eight helpers and the rescuer sleep, and how often all threads together may fall asleep
 # for each. The body sleeps once, who executes it and who waits for it once or twice: it is three times, and eleven where all nine are woken.
@@ -203,6 +209,19 @@ def tried(program, files, wake):
     return "late" if wake.is_late(match.groups()) else None
 
 
+def stopped(program, files, wake):
+    """What is wrong with a call that wakes others: while it is stopped there, none of them goes on. Or None.
+
+    It is made after a nap of its thread, in which they fall asleep. A round in which it wakes nobody shows nothing.
+    """
+    _, asleep, _, _ = wake.parts()
+    for _ in range(STOPS):
+        with traced([program, *wake.words(), *files], timeout=2 * SECONDS) as waker:
+            if waker.after(KernelCall.sleeps) and waker.after(KernelCall.wakes) and waker.fewer_than(1 + len(asleep), STOPPED):
+                return None
+    return f"in none of {STOPS} rounds"
+
+
 def sleeps():
     """How often the programs that have ended fell asleep, all threads together."""
     return resource.getrusage(resource.RUSAGE_CHILDREN).ru_nvcsw
@@ -255,10 +274,8 @@ def main(arguments):
             return str(place)
 
         setting = [file("declaration", text_of(DECLARED)), file("assignment", text_of(ASSIGNED)), "1000"]
-        rounds = [
-            [pool.submit(tried, program, [*setting, text], wake) for _ in range(ROUNDS)]
-            for wake, text in [(wake, file(f"{number}", wake.text())) for number, wake in enumerate(WAKES)]
-        ]
+        texts = [(wake, file(f"{number}", wake.text())) for number, wake in enumerate(WAKES)]
+        rounds = [[pool.submit(tried, program, [*setting, text], wake) for _ in range(ROUNDS)] for wake, text in texts]
         for wake, tries in zip(WAKES, rounds):
             came = collections.Counter(round.result() for round in tries)
             good, late = came.pop(None, 0), came.pop("late", 0)
@@ -269,6 +286,11 @@ def main(arguments):
             if not came:
                 passed += 1
                 print(f"ok      {wake.name()}: {good} rounds" + (f", and {late} too late to sleep" if late else ""), flush=True)
+        held = [pool.submit(stopped, program, [*setting, text], wake) for wake, text in texts]
+        for wake, stop in zip(WAKES, held):
+            goes_on = f"{wake.call} wakes {wake.sleepers}, which can go on meanwhile"
+            print(f"FAILED  {goes_on}: {stop.result()}" if stop.result() else f"ok      {goes_on}", flush=True)
+            passed += stop.result() is None
         wrong = queueings(program, [file("one", text_of("item a")), file("only", text_of("wq 0 a"))])
         print(f"FAILED  queue_work wakes one of nine contexts: {wrong}" if wrong else f"ok      queue_work wakes one of nine contexts: {QUEUEINGS} times")
         passed += wrong is None
@@ -276,7 +298,7 @@ def main(arguments):
         waits = "whoever waits takes no processor time"
         print(f"FAILED  {waits}: {wrong}" if wrong else f"ok      {waits}")
         passed += wrong is None
-    return counts_of("wakes", passed, len(WAKES) + 2 - passed)
+    return counts_of("wakes", passed, 2 * len(WAKES) + 2 - passed)
 
 
 if __name__ == "__main__":
