@@ -30,7 +30,7 @@ AT_A_CALL = signal.SIGTRAP | 0x80
 INFO_BYTES = 88
 BEGINS, ENDS = 1, 2
 
-# How often it is looked whether other threads have ended, in seconds.
+# How often it is looked what the other threads do, in seconds.
 LOOKED = 0.01
 
 libc = ctypes.CDLL(None, use_errno=True)
@@ -63,8 +63,17 @@ class Traced:
         self.process = process
 
     def threads(self):
-        """How many threads there are."""
-        return len(list(pathlib.Path(f"/proc/{self.process.pid}/task").iterdir()))
+        """The threads, each by its place in /proc."""
+        return list(pathlib.Path(f"/proc/{self.process.pid}/task").iterdir())
+
+    def others_sleep(self):
+        """Whether all threads sleep but the main one, which stands still."""
+        states = []
+        for thread in self.threads():
+            if thread.name != str(self.process.pid):
+                with contextlib.suppress(OSError):  # where it ends just now
+                    states.append((thread / "stat").read_text().rpartition(")")[2].split()[0])
+        return all(state == "S" for state in states)
 
     def next_stop(self, signal_number=0):
         """Has the main thread go on, with a signal or none, and waits until it stops. Returns by what; None where it has ended."""
@@ -99,10 +108,10 @@ class Traced:
             stop = self.next_stop()
         return False
 
-    def fewer_than(self, threads, seconds):
-        """Whether there are fewer threads than so many, in time, while the main thread stands still."""
+    def come_true(self, condition, seconds):
+        """Whether this comes true in time while the main thread stands still."""
         end = time.monotonic() + seconds
-        while self.threads() >= threads:
+        while not condition():
             if time.monotonic() > end:
                 return False
             time.sleep(LOOKED)

@@ -36,7 +36,7 @@ SECONDS = 10
 WORKERS = 40
 
 # How often a call is stopped while it wakes others, at most, and how long those have to go on meanwhile, in seconds.
-STOPS = 5
+STOPS = 3
 STOPPED = 5
 
 # How often an entry is queued and waited for while eight helpers and the rescuer sleep, and how often all threads together may fall asleep
@@ -209,15 +209,20 @@ def tried(program, files, wake):
     return "late" if wake.is_late(match.groups()) else None
 
 
-def stopped(program, files, wake):
-    """What is wrong with a call that wakes others: while it is stopped there, none of them goes on. Or None.
+def goes_on(waker):
+    """Whether one of those that a call wakes goes on while the thread that makes it is stopped there. It makes this call after a nap,
+    and is stopped at the end of that, too, until all others sleep."""
+    if not waker.after(KernelCall.sleeps) or not waker.come_true(waker.others_sleep, STOPPED):
+        return False
+    asleep = len(waker.threads())
+    return waker.after(KernelCall.wakes) and waker.come_true(lambda: len(waker.threads()) < asleep, STOPPED)
 
-    It is made after a nap of its thread, in which they fall asleep. A round in which it wakes nobody shows nothing.
-    """
-    _, asleep, _, _ = wake.parts()
+
+def stopped(program, files, wake):
+    """What is wrong with a call that wakes others, and is stopped while it does so, or None."""
     for _ in range(STOPS):
-        with traced([program, *wake.words(), *files], timeout=2 * SECONDS) as waker:
-            if waker.after(KernelCall.sleeps) and waker.after(KernelCall.wakes) and waker.fewer_than(1 + len(asleep), STOPPED):
+        with traced([program, *wake.words(), *files], timeout=3 * SECONDS) as waker:
+            if goes_on(waker):
                 return None
     return f"in none of {STOPS} rounds"
 
@@ -288,8 +293,8 @@ def main(arguments):
                 print(f"ok      {wake.name()}: {good} rounds" + (f", and {late} too late to sleep" if late else ""), flush=True)
         held = [pool.submit(stopped, program, [*setting, text], wake) for wake, text in texts]
         for wake, stop in zip(WAKES, held):
-            goes_on = f"{wake.call} wakes {wake.sleepers}, which can go on meanwhile"
-            print(f"FAILED  {goes_on}: {stop.result()}" if stop.result() else f"ok      {goes_on}", flush=True)
+            meanwhile = f"{wake.name()}, who can go on meanwhile"
+            print(f"FAILED  {meanwhile}: {stop.result()}" if stop.result() else f"ok      {meanwhile}", flush=True)
             passed += stop.result() is None
         wrong = queueings(program, [file("one", text_of("item a")), file("only", text_of("wq 0 a"))])
         print(f"FAILED  queue_work wakes one of nine contexts: {wrong}" if wrong else f"ok      queue_work wakes one of nine contexts: {QUEUEINGS} times")
