@@ -210,21 +210,25 @@ def tried(program, files, wake):
 
 
 def goes_on(waker):
-    """Whether one of those that a call wakes goes on while the thread that makes it is stopped there. It makes this call after a nap,
-    and is stopped at the end of that, too, until all others sleep."""
+    """Whether one of those that a call wakes goes on while the thread that makes it is stopped there; None if nobody slept. It makes
+    this call after a nap, and is stopped at the end of that, too, until all others sleep."""
     if not waker.after(KernelCall.sleeps) or not waker.come_true(waker.others_sleep, STOPPED):
         return False
-    asleep = len(waker.threads())
-    return waker.after(KernelCall.wakes) and waker.come_true(lambda: len(waker.threads()) < asleep, STOPPED)
+    there = len(waker.threads())
+    if there == 1:
+        return None
+    return waker.after(KernelCall.wakes) and waker.come_true(lambda: len(waker.threads()) < there, STOPPED)
 
 
 def stopped(program, files, wake):
     """What is wrong with a call that wakes others, and is stopped while it does so, or None."""
-    for _ in range(STOPS):
+    came = collections.Counter()
+    while came[False] < STOPS and came[None] < ROUNDS:
         with traced([program, *wake.words(), *files], timeout=3 * SECONDS) as waker:
-            if goes_on(waker):
-                return None
-    return f"in none of {STOPS} rounds"
+            came[goes_on(waker)] += 1
+        if came[True]:
+            return None
+    return f"nobody does in {came[False]} rounds, and nobody slept in {came[None]}"
 
 
 def sleeps():
