@@ -15,7 +15,7 @@ import typing
 
 from programs import started
 
-# Calls of the kernel, by their numbers.
+# Calls of the kernel, by their numbers: `futex`; `nanosleep` and `clock_nanosleep`.
 FUTEX = 202
 SLEEPS = (35, 230)
 
@@ -28,7 +28,7 @@ TRACEME, GO_ON, SET_OPTIONS, CALL_INFO = 0, 24, 0x4200, 0x420E
 TELL_CALLS_FROM_SIGNALS = 1
 AT_A_CALL = signal.SIGTRAP | 0x80
 INFO_BYTES = 88
-BEGINS, ENDS = 1, 2
+BEGINS = 1
 
 # How often it is looked what the other threads do, in seconds.
 LOOKED = 0.01
@@ -128,3 +128,12 @@ def traced(words, **given):
             raise OSError("it doesn't stop at its beginning")
         ptrace(SET_OPTIONS, process.pid, None, TELL_CALLS_FROM_SIGNALS)
         yield Traced(process)
+
+
+def may_trace():
+    """Whether programs may be traced here."""
+    try:
+        with traced(["true"]):
+            return True
+    except (OSError, subprocess.SubprocessError):
+        return False

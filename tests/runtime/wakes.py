@@ -28,7 +28,7 @@ sys.dont_write_bytecode = True
 sys.path.append(str(pathlib.Path(__file__).resolve().parents[1] / "lib"))
 from programs import ask, counts_of, is_there, started  # noqa: E402  (in tests/lib)
 from tables import short, text_of  # noqa: E402  (there, too)
-from traced import KernelCall, traced  # noqa: E402
+from traced import KernelCall, may_trace, traced  # noqa: E402
 
 # How often each is tried, how long a program may take, in seconds, and how many run at a time: they sleep nearly all the time.
 ROUNDS = 20
@@ -306,11 +306,13 @@ def main(arguments):
             if not came:
                 passed += 1
                 print(f"ok      {wake.name()}: {good} rounds" + (f", and {late} too late to sleep" if late else ""), flush=True)
-        held = [pool.submit(stopped, program, [*setting, text], wake) for wake, text in texts]
-        for wake, stop in zip(WAKES, held):
+        stops = [pool.submit(stopped, program, [*setting, text], wake) for wake, text in (texts if may_trace() else [])]
+        for wake, stop in zip(WAKES, stops):
             meanwhile = f"{wake.name()}, who can go on meanwhile"
             print(f"FAILED  {meanwhile}: {stop.result()}" if stop.result() else f"ok      {meanwhile}", flush=True)
             passed += stop.result() is None
+        if not stops:
+            print("left    who is woken can go on meanwhile: no program may be traced here", flush=True)
         wrong = queueings(program, [file("one", text_of("item a")), file("only", text_of("wq 0 a"))])
         print(f"FAILED  queue_work wakes one of nine contexts: {wrong}" if wrong else f"ok      queue_work wakes one of nine contexts: {QUEUEINGS} times")
         passed += wrong is None
@@ -318,7 +320,7 @@ def main(arguments):
         waits = "whoever waits takes no processor time"
         print(f"FAILED  {waits}: {wrong}" if wrong else f"ok      {waits}")
         passed += wrong is None
-    return counts_of("wakes", passed, 2 * len(WAKES) + 2 - passed)
+    return counts_of("wakes", passed, len(WAKES) + len(stops) + 2 - passed)
 
 
 if __name__ == "__main__":
