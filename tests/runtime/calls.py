@@ -547,11 +547,11 @@ TEXTS = [
     (*ONE, 5, b"", ""),
     # Nothing is read behind a close that is done.
     (*ONE, 5, "close 1 / stop",
-     "close 1 ok / agree true / total 0 / rows 0"),
+     "close 1 ok / agree true / total 0 / rows 0 / closed false"),
     (*ONE, 5, "close 0 / stop", "close 0 refused 72 / mistake line 2"),
     # Calls that are to sleep, but don't have to wait. Their seats come last. Who sleeps is in wakes.py.
     (*ONE, 5, "asleep lane a / asleep lanes / seat / close 3 / close 4",
-     "seat 1 / asleep lane a 0 / asleep lanes 1 / close 3 refused 72 / close 4 ok / agree true / total 0 / rows 0"),
+     "seat 1 / asleep lane a 0 / asleep lanes 1 / close 3 refused 72 / close 4 ok / agree true / total 0 / rows 0 / closed false"),
     (*ONE, 5, "lanes / asleep lanes", "lanes 1"),
     (*ONE, 5, "asleep lanes / close 2", "mistake line 2"),
     # Mistakes.

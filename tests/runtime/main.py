@@ -44,11 +44,13 @@ def one_thread(table, declaration, assignment, rows, lines, answer, front=()):
 
 
 def session(table, declaration, assignment, rows, made, counts, written, front=()):
-    """A run of `calls` by its calls, each with its answer, and by what is handed back at the end."""
+    """A run of `calls` by its calls, each with its answer, and by what is handed back at the end: a book that `destroy` has closed,
+    and nothing else."""
     lines = " / ".join(line for line, _ in made)
     printed = [f"{line} {answer}" for line, answer in made]
     if counts is not None:
-        printed += handed_back(counts, written)
+        is_closed = any(line == "destroy" and answer == "ok" for line, answer in made)
+        printed += [*handed_back(counts, written), f"closed {'true' if is_closed else 'false'}"]
     return one_thread(table, declaration, assignment, rows, lines, text_of(" / ".join(printed)), front)
 
 

@@ -7,8 +7,9 @@
 # depends on time: a call that comes too late to fall asleep is answered all the same, and its round shows nothing. A call of which no
 # round shows anything has failed.
 #
-# And it shows that a queueing wakes one context, and not all nine of a workqueue: who is woken in vain sleeps again, which the kernel
-# counts; and that whoever waits takes no processor time while nothing happens, as who looks again and again does.
+# And it shows that none of these calls has the lock while it wakes others: its thread is stopped just then, and who is woken goes on;
+# that a queueing wakes one context, and not all nine of a workqueue: who is woken in vain sleeps again, which the kernel counts; and
+# that whoever waits takes no processor time while nothing happens, as who looks again and again does.
 # All was worked out by hand from docs/RUNTIME.md. It takes some seconds.
 
 import collections
@@ -27,11 +28,16 @@ sys.dont_write_bytecode = True
 sys.path.append(str(pathlib.Path(__file__).resolve().parents[1] / "lib"))
 from programs import ask, counts_of, is_there, started  # noqa: E402  (in tests/lib)
 from tables import short, text_of  # noqa: E402  (there, too)
+from traced import KernelCall, may_trace, traced  # noqa: E402
 
 # How often each is tried, how long a program may take, in seconds, and how many run at a time: they sleep nearly all the time.
 ROUNDS = 20
 SECONDS = 10
 WORKERS = 40
+
+# How often a call is stopped while it wakes others, at most, and how long those have to go on meanwhile, in seconds.
+STOPS = 3
+STOPPED = 5
 
 # How often an entry is queued and waited for while eight helpers and the rescuer sleep, and how often all threads together may fall asleep
 # for each. The body sleeps once, who executes it and who waits for it once or twice: it is three times, and eleven where all nine are woken.
@@ -108,15 +114,25 @@ class Wake:
 
     def is_shared_out(self, answers):
         """Whether each answer that is to be shared out was given once."""
+        if not self.shared:
+            return True
         _, asleep, _, _ = self.parts()
-        return not self.shared or sorted(answer.decode() for answer in answers[:-1]) == sorted(wanted for _, wanted in asleep)
+        left = [answer.decode() for answer in answers[:-1]]
+        for _, wanted in asleep:
+            given = [answer for answer in wanted.split("|") if answer in left]
+            if not given:
+                return False
+            left.remove(given[0])
+        return True
 
     def is_late(self, answers):
         """Whether one of those that were to sleep had nothing left to wait for."""
         _, asleep, _, _ = self.parts()
         *answers, counts = (answer.decode() for answer in answers)
-        return not self.shared and any(answer != wanted.split("|")[0] for answer, (_, wanted) in zip(answers, asleep)) \
-            or bool(self.counted) and self.counted not in counts.splitlines()
+        wanted = [answer.split("|")[0] for _, answer in asleep]
+        if self.shared:
+            answers, wanted = sorted(answers), sorted(wanted)
+        return answers != wanted or bool(self.counted) and self.counted not in counts.splitlines()
 
 
 WAKES = [
@@ -158,10 +174,11 @@ WAKES = [
     Wake("finish_work", "two callers that flush an item which shares its variable with another that has ended", f"{A_RUNS} / {Z_RUNS}",
          "flush z: true|false / flush z: true|false / finish 0 a: ok", "finish 3 z: ok", "destroy: ok"),
     # Two threads that sleep in one context, and a queueing beside them: its entry goes to one of them. The next queueing wakes the other,
-    # which is refused, since that entry still runs.
+    # which is refused, since that entry still runs. (Where the queueing beside them comes too late, the items change places.)
     Wake("queue_work", "a thread that sleeps in a context where another thread has started an entry", "",
-         "next 0: b / next 0: refused 64 / queue 0 b: true", "queue 0 a: true",
-         "finish 0 b: ok / next 0: a / finish 0 a: ok / destroy: ok", shared=True),
+         "next 0: b|a / next 0: refused 64 / queue 0 b: true", "queue 0 a: true",
+         "finish 0 b: (?:ok|refused 64) / finish 0 a: (?:ok|refused 64) / next 0: (?:a|b)"
+         " / finish 0 b: (?:ok|refused 64) / finish 0 a: (?:ok|refused 64) / destroy: ok", shared=True),
     # With a helper on each workqueue. Who is idle sleeps while the item of what is pending runs elsewhere.
     Wake("queue_work", "a helper", "", "help next 0 1: a", "queue 0 a: true", HELPED_A_ENDS, helpers=1),
     Wake("help_finish_work", "a rescuer, for whom the item's next entry is pending", f"{HELPED_A} / queue 0 a: true",
@@ -201,6 +218,28 @@ def tried(program, files, wake):
     if match is None or found.status or found.errors or not wake.is_shared_out(match.groups()):
         return f"status {found.status}, {short(found.printed)}, standard error {short(found.errors)}"
     return "late" if wake.is_late(match.groups()) else None
+
+
+def goes_on(waker):
+    """Whether one of those that a call wakes goes on while the thread that makes it is stopped there; None if nobody slept. It makes
+    this call after a nap, and is stopped at the end of that, too, until all others sleep."""
+    if not waker.after(KernelCall.sleeps) or not waker.come_true(waker.others_sleep, STOPPED):
+        return False
+    there = len(waker.threads())
+    if there == 1:
+        return None
+    return waker.after(KernelCall.wakes) and waker.come_true(lambda: len(waker.threads()) < there, STOPPED)
+
+
+def stopped(program, files, wake):
+    """What is wrong with a call that wakes others, and is stopped while it does so, or None."""
+    came = collections.Counter()
+    while came[False] < STOPS and came[None] < ROUNDS:
+        with traced([program, *wake.words(), *files], timeout=3 * SECONDS) as waker:
+            came[goes_on(waker)] += 1
+        if came[True]:
+            return None
+    return f"nobody does in {came[False]} rounds, and nobody slept in {came[None]}"
 
 
 def sleeps():
@@ -255,10 +294,8 @@ def main(arguments):
             return str(place)
 
         setting = [file("declaration", text_of(DECLARED)), file("assignment", text_of(ASSIGNED)), "1000"]
-        rounds = [
-            [pool.submit(tried, program, [*setting, text], wake) for _ in range(ROUNDS)]
-            for wake, text in [(wake, file(f"{number}", wake.text())) for number, wake in enumerate(WAKES)]
-        ]
+        texts = [(wake, file(f"{number}", wake.text())) for number, wake in enumerate(WAKES)]
+        rounds = [[pool.submit(tried, program, [*setting, text], wake) for _ in range(ROUNDS)] for wake, text in texts]
         for wake, tries in zip(WAKES, rounds):
             came = collections.Counter(round.result() for round in tries)
             good, late = came.pop(None, 0), came.pop("late", 0)
@@ -269,6 +306,13 @@ def main(arguments):
             if not came:
                 passed += 1
                 print(f"ok      {wake.name()}: {good} rounds" + (f", and {late} too late to sleep" if late else ""), flush=True)
+        stops = [pool.submit(stopped, program, [*setting, text], wake) for wake, text in (texts if may_trace() else [])]
+        for wake, stop in zip(WAKES, stops):
+            meanwhile = f"{wake.name()}, who can go on meanwhile"
+            print(f"FAILED  {meanwhile}: {stop.result()}" if stop.result() else f"ok      {meanwhile}", flush=True)
+            passed += stop.result() is None
+        if not stops:
+            print("left    who is woken can go on meanwhile: no program may be traced here", flush=True)
         wrong = queueings(program, [file("one", text_of("item a")), file("only", text_of("wq 0 a"))])
         print(f"FAILED  queue_work wakes one of nine contexts: {wrong}" if wrong else f"ok      queue_work wakes one of nine contexts: {QUEUEINGS} times")
         passed += wrong is None
@@ -276,7 +320,7 @@ def main(arguments):
         waits = "whoever waits takes no processor time"
         print(f"FAILED  {waits}: {wrong}" if wrong else f"ok      {waits}")
         passed += wrong is None
-    return counts_of("wakes", passed, len(WAKES) + 2 - passed)
+    return counts_of("wakes", passed, len(WAKES) + len(stops) + 2 - passed)
 
 
 if __name__ == "__main__":

@@ -13,7 +13,7 @@ use std::sync::Wait;
 use std::thread::Threads;
 use std::time::Clock;
 use std::{mem, str};
-use wq_api::{CloseRefused, Naming, Seat, WqRuntime};
+use wq_api::{CloseRefused, Closed, Naming, Seat, WqRuntime};
 use wq_items::ItemTable;
 use wq_text::{Text, Words};
 
@@ -56,6 +56,17 @@ impl<N: Naming, R: Wait> Session<'_, N, R> {
         appended
     }
 
+    /// Adds what a runtime hands back, and whether its book is closed.
+    fn put_handed_back(
+        table: &ItemTable<'_, Global>,
+        closed: &Closed<N, Global>,
+        out: &mut String,
+    ) -> Result<(), AllocError> {
+        out.push_str("ok\n")?;
+        put_closed(out, table, closed)?;
+        writeln!(out, "closed {}", closed.book.is_closed())
+    }
+
     /// Closes this runtime with these seats, and adds what the runtime hands back.
     fn close_with(
         &mut self,
@@ -66,7 +77,7 @@ impl<N: Naming, R: Wait> Session<'_, N, R> {
     ) -> Result<(), AllocError> {
         match runtime.close(seats) {
             Ok(closed) => {
-                let printed = out.push_str("ok\n").and(put_closed(out, table, &closed));
+                let printed = Self::put_handed_back(table, &closed, out);
                 drop(closed);
                 printed
             }
