@@ -67,7 +67,7 @@ rank_on-same marks lane_of ranks g marked same (suc n) below = elim (cases_Bool 
 
 module _ (d : Declaration) (old : Workqueues) (names : List ℕ) (s : Scope) (start : Workqueues) (declaration : IsDeclaration d) (ready : IsReady d old names s start) where
   long : length s.movable ≡ d.groups
-  long = ready.are_movable.one_each
+  long = ready.scope.are_movable.one_each
 
   below : (g : ℕ) → g < d.groups → g < length s.movable
   below g is = omega (arith, is, long)
@@ -79,23 +79,26 @@ module _ (d : Declaration) (old : Workqueues) (names : List ℕ) (s : Scope) (st
   }
 
   lane_below : (g : ℕ) → g < d.groups → lane_in old g < old.assignment.lanes
-  lane_below g is = ready.assignment.within g 0 (omega (arith, is, ready.assignment.one_each))
+  lane_below g is = ready.scope.assignment.within g 0 (omega (arith, is, ready.scope.assignment.one_each))
 
   pub movable_needed : (g : ℕ) → g < d.groups → IsMarked s.movable g → IsMarked s.needed g
-  movable_needed g is marked = ((ready.are_movable.exactly g is).0 marked).1
+  movable_needed g is marked = ((ready.scope.are_movable.exactly g is).0 marked).1
 
   movable_named : (g : ℕ) → g < d.groups → IsMarked s.movable g → IsNamed d names g
-  movable_named g is marked = (ready.are_named.exactly g is).0 ((ready.are_movable.exactly g is).0 marked).0
+  movable_named g is marked =
+      (ready.scope.are_named.groups.exactly g is).0 ((ready.scope.are_movable.exactly g is).0 marked).0
 
   given_needed : (g : ℕ) → g < d.groups → IsMarked s.given (lane_in old g) → IsMarked s.needed g
-  given_needed g is marked = ((ready.are_given.exactly (lane_in old g) (lane_below g is)).0 marked).all g (omega (arith, is, ready.one_each)) refl
+  given_needed g is marked =
+      ((ready.scope.are_given.exactly (lane_in old g) (lane_below g is)).0 marked).all g
+      (omega (arith, is, ready.scope.one_each)) refl
 
   -- nobody else is on a lane with a rescuer in the start
   pub start_needed : (g : ℕ) → g < d.groups → IsRescued start (lane_in start g) → IsMarked s.needed g
   start_needed g is rescued = elim (cases_marked s.movable g) [
     | inl marked ↦ movable_needed g is marked
     | inr not ↦ elim (ready.by.only g (below g is) not (subst (IsRescued start) (ready.by.stay g (below g is) not) rescued)) [
-      | inl had ↦ ready.first g is had
+      | inl had ↦ ready.scope.first g is had
       | inr marked ↦ given_needed g is marked
     ]
   ]
@@ -276,9 +279,9 @@ module _ (d : Declaration) (old : Workqueues) (names : List ℕ) (s : Scope) (st
                         one_out.2.2 (movable_needed k one_out.1 (leaves_parts k one_out.1 k_leaves).0),
                   )
                   )
-              | inl all ↦ absurd (not.1 ((ready.are_given.exactly (lane_in old g) (lane_below g lt)).1 (record {
+              | inl all ↦ absurd (not.1 ((ready.scope.are_given.exactly (lane_in old g) (lane_below g lt)).1 (record {
                 bare = not.0;
-                named = (ready.are_lanes.exactly (lane_in old g) (lane_below g lt)).1
+                named = (ready.scope.are_named.lanes.exactly (lane_in old g) (lane_below g lt)).1
                     (record {
                       group = g;
                       is_group = lt;
@@ -287,7 +290,7 @@ module _ (d : Declaration) (old : Workqueues) (names : List ℕ) (s : Scope) (st
                           refl;
                     });
                 all = λ k k_lt on. (let k_is : k < d.groups =
-                    omega (arith, k_lt, ready.one_each) in all k k_is k_is on);
+                    omega (arith, k_lt, ready.scope.one_each) in all k k_is k_is on);
               })))
             ]
       ]
@@ -325,7 +328,7 @@ module _ (d : Declaration) (old : Workqueues) (names : List ℕ) (s : Scope) (st
         leaving-placed : AreLeaving d old names s.needed s.given leaves settled.ranks new
         leaving-placed = record {
           one_each = are_leaving.one_each;
-          first = ready.first;
+          first = ready.scope.first;
           next = needed_next;
           movable = λ g lt marked. let movable =
               (leaves_parts g lt marked).0 in (movable_named g lt movable, movable_needed g lt movable);
@@ -343,7 +346,7 @@ module _ (d : Declaration) (old : Workqueues) (names : List ℕ) (s : Scope) (st
                 → slice_index new.assignment.lane_of_group h ≡ slice_index new.assignment.lane_of_group g
                 → slice_index settled.ranks h ≡ slice_index settled.ranks g
             same h h_needs lane =
-                let h_is = marked_below s.needed h ready.one_each h_needs in
+                let h_is = marked_below s.needed h ready.scope.one_each h_needs in
                 placed.ranked h g (omega (arith, h_is, are_leaving.one_each))
                 (omega (arith, lt, are_leaving.one_each)) (stays_or_leaves h h_is h_needs)
                 (stays_or_leaves g lt needs) lane
@@ -363,14 +366,16 @@ module _ (d : Declaration) (old : Workqueues) (names : List ℕ) (s : Scope) (st
 
         pub IsMinimal-placed : AreHosted old s.movable leaves new → IsMinimal d old names s.needed new
         IsMinimal-placed are_hosted = record {
-          compared = IsToBeCompared-placed d old new names ready.lanes s.needed s.given settled.stays leaves
-              settled.ranks ready.assignment ready.are_lanes ready.one_each ready.are_given leaving-placed placed;
-          changes = AreChangesNeeded-placed d old new names ready.lanes s.needed s.given settled.stays leaves
-              settled.ranks ready.assignment ready.are_lanes ready.one_each ready.are_given leaving-placed placed;
+          compared = IsToBeCompared-placed d old new names ready.scope.named.lanes s.needed s.given settled.stays leaves
+              settled.ranks ready.scope.assignment ready.scope.are_named.lanes ready.scope.one_each
+              ready.scope.are_given leaving-placed placed;
+          changes = AreChangesNeeded-placed d old new names ready.scope.named.lanes s.needed s.given settled.stays
+              leaves settled.ranks ready.scope.assignment ready.scope.are_named.lanes ready.scope.one_each
+              ready.scope.are_given leaving-placed placed;
           number = λ (q : ℕ). rank_on s.needed new.assignment.lane_of_group settled.ranks q d.groups;
-          falls = FallsAlongWaits-placed d old new names ready.lanes s.needed s.given settled.stays leaves
-              settled.ranks ready.assignment ready.are_lanes ready.one_each ready.are_given leaving-placed placed
-              declaration
+          falls = FallsAlongWaits-placed d old new names ready.scope.named.lanes s.needed s.given settled.stays leaves
+              settled.ranks ready.scope.assignment ready.scope.are_named.lanes ready.scope.one_each
+              ready.scope.are_given leaving-placed placed declaration
               (λ (q : ℕ). rank_on s.needed new.assignment.lane_of_group settled.ranks q d.groups) ranked;
           few = omega (arith, placed.few, are_leaving.one_each);
           bare = placed.bare;

@@ -1,14 +1,13 @@
 -- All steps of a repair together, where lists are known by other names.
-use Rattle.std.proofs.Common.{◌≡◌, ℕ, ◌<◌, ◌≤◌, ◌⊎◌, Bool, List, length, not, sym, ap, subst, ◌∙◌, arith}
-use Rattle.std.specs.Prelude.{map, slice_index}
+use Rattle.std.proofs.Common.{◌≡◌, ℕ, ◌<◌, Bool, List, length, not, sym, ap, subst, ◌∙◌, arith}
+use Rattle.std.specs.Prelude.{map}
 use Rattle.wq_groups.specs.Declaration.{Declaration, IsDeclaration}
 use Rattle.wq_graph.specs.declared.arc.WaitArc.{WaitArc}
 use Rattle.wq_graph.specs.Graph.{group_graph, without}
 use Rattle.wq_core.specs.Workqueues.{Workqueues}
-use Rattle.wq_repair.specs.Changes.{IsRescued, lane_in}
-use Rattle.wq_repair.specs.Marks.{IsMarked, Marks}
+use Rattle.wq_repair.specs.Marks.{Marks}
 use Rattle.wq_repair.specs.Steps.{ArePlacedBy}
-use Rattle.wq_repair.specs.Placing.{AreHosted}
+use Rattle.wq_repair.specs.Placing.{AreHosted, CanBePlaced}
 use Rattle.wq_repair.specs.Settled.{Settled}
 use Rattle.wq_repair.specs.Ready.{Scope, IsReady, IsGraphOfNeeded, IsMinimal, IsTried, IsButNot, IsSettledIn, IsTrial}
 use Rattle.wq_repair.proofs.Answered.{IsGraphOfNeeded-without}
@@ -38,8 +37,15 @@ pub IsTried-as : (old : Workqueues) (s : Scope) {xs ys : List Bool} {n m : ℕ} 
 IsTried-as old s {ys = ys} {n = n} same long is =
     subst (Marks (IsTried old s) n) (sym same) (subst (λ (k : ℕ). Marks (IsTried old s) k ys) long is)
 
-pub marked-as : {xs ys : List Bool} → xs ≡ ys → (g : ℕ) → IsMarked xs g → IsMarked ys g
-marked-as same g marked = subst (λ (zs : List Bool). IsMarked zs g) same marked
+pub can-as : {old : Workqueues} {given stays leaves xs ys zs : List Bool} {ranks rs : List ℕ} {most : ℕ} → xs ≡ given
+    → ys ≡ stays → zs ≡ leaves → rs ≡ ranks
+    → CanBePlaced old given stays leaves ranks most → CanBePlaced old xs ys zs rs most
+can-as {old = old} {stays = stays} {leaves = leaves} {xs = xs} {ys = ys} {zs = zs} {ranks = ranks} {most = most} one
+    two three four can =
+    subst (λ (k : List ℕ). CanBePlaced old xs ys zs k most) (sym four)
+    (subst (λ (k : List Bool). CanBePlaced old xs ys k ranks most) (sym three)
+    (subst (λ (k : List Bool). CanBePlaced old xs k leaves ranks most) (sym two)
+    (subst (λ (k : List Bool). CanBePlaced old k stays leaves ranks most) (sym one) can)))
 
 pub placed-as : {old new : Workqueues} {given stays leaves xs ys zs : List Bool} {ranks rs : List ℕ} → xs ≡ given
     → ys ≡ stays → zs ≡ leaves → rs ≡ ranks
@@ -66,16 +72,6 @@ module _ {d : Declaration} {old : Workqueues} {s : Scope} {tried : List Bool} {s
   pub ranks_long-by : length settled.ranks ≡ d.groups
   ranks_long-by = is.is.ranks ∙ is.of.long
 
-  pub below-as : {rs : List ℕ} → rs ≡ settled.ranks → (most : ℕ) → most ≡ 4096 → (g : ℕ) → g < length rs
-      → slice_index rs g < most
-  below-as {rs = rs} same most is_most g lt =
-      omega (
-        arith,
-        is.is.low g (omega (arith, lt, ap length same, is.is.ranks)),
-        ap (λ (xs : List ℕ). slice_index xs g) same,
-        is_most,
-      )
-
 module _ {d : Declaration} {old : Workqueues} {names : List ℕ} {s : Scope} {start : Workqueues} {tried : List Bool}
     (declaration : IsDeclaration d) (ready : IsReady d old names s start)
     (are_tried : Marks (IsTried old s) d.groups tried) where
@@ -83,7 +79,7 @@ module _ {d : Declaration} {old : Workqueues} {names : List ℕ} {s : Scope} {st
   pub IsTrial-ready : {fixed : List Bool} {graph : List (List WaitArc)} → IsGraphOfNeeded d s.needed graph
       → Marks (IsButNot s.needed s.movable) d.groups fixed → IsTrial d s.needed fixed tried graph
   IsTrial-ready {fixed = fixed} of are_fixed = record {
-    long = ready.one_each;
+    long = ready.scope.one_each;
     of = of;
     fixed_needed = λ g marked. ((are_fixed.exactly g
         (omega (arith, IsMarked-below fixed g marked, are_fixed.one_each))).0 marked).0;
@@ -94,18 +90,20 @@ module _ {d : Declaration} {old : Workqueues} {names : List ℕ} {s : Scope} {st
 
   module _ {settled : Settled} {leaves : List Bool} (is : IsSettledIn d old s tried settled)
       (are_leaving : Marks (IsButNot s.movable settled.stays) d.groups leaves) where
-    pub fine-by : (g : ℕ) → IsMarked settled.stays g → IsRescued old (lane_in old g) ⊎ IsMarked s.given (lane_in old g)
-    fine-by = fine-staying d old names s start declaration ready is.graph is.of is.fixed tried leaves settled
-        is.are_fixed are_tried is.is are_leaving
-
-    pub apart-by : (g : ℕ) → IsMarked settled.stays g → ¬ IsMarked leaves g
-    apart-by = apart-staying d old names s start declaration ready is.graph is.of is.fixed tried leaves settled
-        is.are_fixed are_tried is.is are_leaving
-
-    pub held-by : (g : ℕ) → g < d.groups → IsMarked leaves g → (h : ℕ) × (h < d.groups) ×
-        (lane_in old h ≡ lane_in old g) × (¬ IsMarked leaves h)
-    held-by = held-leaving d old names s start declaration ready is.graph is.of is.fixed tried leaves settled
-        is.are_fixed are_tried is.is are_leaving
+    pub CanBePlaced-by : (most : ℕ) → most ≡ 4096 → CanBePlaced old s.given settled.stays leaves settled.ranks most
+    CanBePlaced-by most is_most = record {
+      below = λ g lt. omega (arith, is.is.low g (omega (arith, lt, is.is.ranks)), is_most);
+      apart = apart-staying d old names s start declaration ready is.graph is.of is.fixed tried leaves settled
+          is.are_fixed are_tried is.is are_leaving;
+      same = is.is.same;
+      held = λ g lt leaving.
+          let long = are_leaving.one_each in
+          let held = held-leaving d old names s start declaration ready is.graph is.of is.fixed tried leaves settled
+          is.are_fixed are_tried is.is are_leaving g (omega (arith, lt, long)) leaving in
+          (held.0, omega (arith, held.1, long), held.2, held.3);
+      fine = fine-staying d old names s start declaration ready is.graph is.of is.fixed tried leaves settled
+          is.are_fixed are_tried is.is are_leaving;
+    }
 
     pub IsMinimal-by : (new : Workqueues) → ArePlacedBy old s.given settled.stays leaves settled.ranks new
         → AreHosted old s.movable leaves new → IsMinimal d old names s.needed new

@@ -1,26 +1,25 @@
 -- Which groups were tried in vain, and what ranks say of those that stay.
-use Rattle.std.proofs.Common.{◌≡◌, ℕ, ◌+◌, ◌<◌, ◌≤◌, ◌⊎◌, inl, inr, Bool, true, false, not, List, [], ◌∷◌, length}
+use Rattle.std.proofs.Common.{◌≡◌, ℕ, ◌+◌, ◌<◌, ◌≤◌, ◌⊎◌, inl, inr, Bool, true, false, not, List, [], length}
 use Rattle.std.proofs.Common.{map, set, refl, sym, ap, subst, ◌∙◌, arith, get_or-set_same, get_or-set_other}
-use Rattle.std.specs.Prelude.{Option, None, slice_index, slice_index_or, if◌then◌else◌, ◌==◌}
+use Rattle.std.specs.Prelude.{Option, slice_index, slice_index_or, if◌then◌else◌, ◌==◌}
 use Rattle.std.proofs.Math.ListN.{length-set}
 use Rattle.std.proofs.lemmas.Bool.{cases_eq, cases_lt, cases_Bool, eqb-true, eq-eqb, false≢true}
-use Rattle.std.proofs.lemmas.List.{get_or-map, get_or_past, get_or_default, length-map}
+use Rattle.std.proofs.lemmas.List.{get_or-map, get_or_past, get_or_default}
 use Rattle.wq_items.specs.Chain.{Circle}
-use Rattle.wq_groups.specs.Declaration.{Declaration, IsDeclaration, GroupWaits}
+use Rattle.wq_groups.specs.Declaration.{Declaration, IsDeclaration}
 use Rattle.wq_groups.specs.Assignment.{Assignment, IsAssignment, group_lane}
 use Rattle.wq_graph.specs.declared.arc.WaitArc.{WaitArc}
-use Rattle.wq_graph.specs.Graph.{HasArc, IsGraph, arcs_at}
+use Rattle.wq_graph.specs.Graph.{HasArc, IsGraph}
 use Rattle.wq_core.specs.Workqueues.{Workqueues}
 use Rattle.wq_core.proofs.LaneCircles.{Circle-map}
-use Rattle.wq_levels.specs.Ranks.{AreRanks}
 use Rattle.wq_levels.proofs.Graphs.{HasArc-below}
 use Rattle.wq_levels.proofs.Ranks.{AreRanks-fall, AreRanks-few}
 use Rattle.wq_deadlock.specs.Judging.{rescued_graph}
-use Rattle.wq_repair.specs.Changes.{IsRescued, lane_in}
+use Rattle.wq_repair.specs.Changes.{IsRescued}
 use Rattle.wq_repair.specs.Joined.{become}
 use Rattle.wq_repair.specs.Marks.{IsMarked}
-use Rattle.wq_repair.specs.Near.{LeadsTo, LeadEitherWay}
-use Rattle.wq_repair.specs.Ready.{IsGraphOfNeeded, IsTrial, AreRanksOfGroups}
+use Rattle.wq_repair.specs.Near.{LeadEitherWay}
+use Rattle.wq_repair.specs.Ready.{IsTrial, AreRanksOfGroups}
 use Rattle.wq_repair.specs.Together.{ArcBetween}
 use Rattle.wq_repair.specs.Settled.{Settled, IsHomeOf, AreHomes, AreVertices, HaveRanks, AreInVain, IsWithin, StaysOr}
 use Rattle.wq_repair.specs.Settled.{WasInVain, HasStaying, IsSettled, IsSettledBy, vertices_placed}
@@ -183,9 +182,6 @@ WasInVain-more graph old stays more g kept vain = record {
 
 -- group g stays, too
 module _ (stays : List Bool) (g : ℕ) where
-  abbrev with_g : List Bool
-  with_g = set stays g true
-
   pub kept-with : (h : ℕ) → IsMarked stays h → IsMarked (set stays g true) h
   kept-with h marked = elim (cases_eq h g) [
     | inl same ↦ subst (IsMarked (set stays g true)) (sym same)

@@ -1,6 +1,6 @@
 -- Which groups stay on their lanes, and what shows that no other could. The vertices are groups: a group that stays is
 -- at the home of its lane, and each other group is alone.
-use Rattle.std.specs.Prelude.{◌≡◌, ◌↔◌, ℕ, ◌<◌, ◌⊎◌, not, map, List, Bool, Option, None, Some, length, slice_index}
+use Rattle.std.specs.Prelude.{◌≡◌, ℕ, ◌<◌, ◌⊎◌, not, map, List, Bool, Option, None, Some, length, slice_index}
 use Rattle.std.specs.Prelude.{slice_index_or}
 use Rattle.wq_items.specs.Chain.{Circle}
 use Rattle.wq_groups.specs.Assignment.{Assignment, group_lane}

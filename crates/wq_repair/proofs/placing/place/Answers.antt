@@ -15,6 +15,27 @@ use Rattle.wq_repair.proofs.PlacedSteps.{leaving-has_lane}
 use Rattle.wq_repair.proofs.PlacedMade.{ArePlacedBy-made, AreHosted-made}
 use Rattle.wq_repair.proofs.placing.place.Goals as goal
 
+pub lanes_by_rank-requires-clause-below : goal.lanes_by_rank-requires-clause-below
+lanes_by_rank-requires-clause-below g c = c.requires.can.below
+
+pub ranks_that_leave-requires-clause-below : goal.ranks_that_leave-requires-clause-below
+ranks_that_leave-requires-clause-below g c = c.requires.can.below
+
+pub lanes_of_groups-requires-clause-below : goal.lanes_of_groups-requires-clause-below
+lanes_of_groups-requires-clause-below g c =
+    let after = c.take_lanes-taken.new.of_rank in
+    let whole : c.as_slice-4.result.now ≡ after =
+    c.as_slice-4.ensures.value ∙ take_at after (drop (length after) c.in_ok-of_rank.of_rank.items)
+    c.in_ok-of_rank.of_rank.len (c.take_lanes-taken.auto.of_rank ∙ c.as_mut_slice.ensures.len) in
+    λ h lt. omega (
+      arith,
+      c.requires.can.below h lt,
+      ap length whole,
+      c.take_lanes-taken.ensures.one_each,
+      ap length c.as_mut_slice.ensures.value,
+      c.in_ok-of_rank.ensures.one_each,
+    )
+
 pub lanes_of_groups-requires-clause-some : goal.lanes_of_groups-requires-clause-some
 lanes_of_groups-requires-clause-some g c =
     let ranks = c.args.ranks.now in
@@ -33,7 +54,7 @@ lanes_of_groups-requires-clause-some g c =
     c.in_ok-of_rank.of_rank.len (c.take_lanes-taken.auto.of_rank ∙ c.as_mut_slice.ensures.len) in
     subst (λ (xs : List (Option ℕ)). (h : ℕ) → IsMarked leaves h → ¬ HasNoLane xs (slice_index ranks h)) (sym whole)
     (leaving-has_lane leaves leave ranks empty c.lanes.result c.args.most taken before after
-    (c.requires.one_each ∙ sym c.requires.leaves) c.requires.below leaving took)
+    (c.requires.one_each ∙ sym c.requires.leaves) c.requires.can.below leaving took)
 
 pub unwrap-assignment-requires : goal.unwrap-assignment-requires
 unwrap-assignment-requires g c =
@@ -84,8 +105,8 @@ unwrap-assignment-requires g c =
     ) in
     let placed =
     ArePlacedBy-made ws given stays leaves leave bare named movable ranks empty lane_of before after most taken
-    c.requires.leaves c.requires.stays c.requires.one_each within c.requires.below c.requires.same c.requires.fine
-    c.requires.apart c.requires.held (length stays) lanes are_named leaving free are_empty took ranked now in
+    c.requires.leaves c.requires.stays c.requires.one_each within c.requires.can
+    (length stays) lanes are_named leaving free are_empty took ranked now in
     let few : old.lanes + (c.take_lanes-taken.result - length empty) ≤ 4096 = omega (arith, placed.few, c.requires.few, c.lanes.ensures.few, there) in
     let within : All (λ (q : ℕ). q < c.lanes_with-lanes.result) lane_of =
     λ k e lt. omega (arith, ap (λ (x : ℕ). x) (get_or_default lane_of k 0 e lt), placed.within k (omega (arith, lt, ranked.one_each)), count) in
@@ -146,12 +167,12 @@ returns g c =
     ) in
     let placed =
     ArePlacedBy-made ws given stays leaves leave bare named movable ranks empty lane_of before after most taken
-    c.requires.leaves c.requires.stays c.requires.one_each within c.requires.below c.requires.same c.requires.fine
-    c.requires.apart c.requires.held (length stays) lanes are_named leaving free are_empty took ranked now in
+    c.requires.leaves c.requires.stays c.requires.one_each within c.requires.can
+    (length stays) lanes are_named leaving free are_empty took ranked now in
     let hosted =
     AreHosted-made ws given stays leaves leave bare named movable ranks empty lane_of before after most taken
-    c.requires.leaves c.requires.stays c.requires.one_each within c.requires.below c.requires.same c.requires.fine
-    c.requires.apart c.requires.held (length stays) lanes are_named leaving free are_empty took ranked now in
+    c.requires.leaves c.requires.stays c.requires.one_each within c.requires.can
+    (length stays) lanes are_named leaving free are_empty took ranked now in
     let some : (c.unwrap-assignment.result.lanes ≡ c.lanes_with-lanes.result) × (c.unwrap-assignment.result.lane_of_group ≡ lane_of) =
     subst (λ (o : Option Assignment). IfSome o (λ a. (a.lanes ≡ c.lanes_with-lanes.result) × (a.lane_of_group ≡ lane_of))) c.unwrap-assignment.ensures c.new.ensures.some in
     subst (λ (new : Workqueues). ArePlacedBy ws given stays leaves ranks new × AreHosted ws movable leaves new)

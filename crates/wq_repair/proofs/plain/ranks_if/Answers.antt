@@ -1,4 +1,4 @@
-use Rattle.std.proofs.Common.{◌≡◌, ◌<◌, ℕ, Bool, Option, List, length, sym, ap, subst, ◌∙◌, arith}
+use Rattle.std.proofs.Common.{◌≡◌, ◌<◌, ℕ, List, length, sym, ap, subst, ◌∙◌, arith}
 use Rattle.std.specs.Prelude.{IfOk, IfSome, IfNone}
 use Rattle.std.specs.List.{All}
 use Rattle.std.proofs.lemmas.Result.{IfOk-weaker}
@@ -10,7 +10,7 @@ use Rattle.wq_core.specs.Workqueues.{Workqueues}
 use Rattle.wq_core.specs.Assigned.{Assigned}
 use Rattle.wq_deadlock.specs.Judging.{rescued_graph}
 use Rattle.wq_repair.specs.Ready.{AreRanksOfGroups}
-use Rattle.wq_repair.specs.Settled.{AreHomes, AreVertices, IsSettledBy, vertices_placed}
+use Rattle.wq_repair.specs.Settled.{AreHomes, AreVertices, vertices_placed}
 use Rattle.wq_repair.proofs.Homes.{vertices-within, IfNone_then}
 use Rattle.wq_repair.proofs.plain.ranks_if.Goals as goal
 

@@ -1,11 +1,10 @@
-use Rattle.std.proofs.Common.{◌≡◌, ℕ, ◌+◌, ◌<◌, ◌≤◌, ◌++◌, Bool, List, length, sym, ap, subst, ◌∙◌, arith}
+use Rattle.std.proofs.Common.{◌≡◌, ℕ, ◌+◌, ◌≤◌, ◌++◌, Bool, List, length, sym, ap, subst, ◌∙◌, arith}
 use Rattle.std.proofs.lemmas.Bool.{false≢true}
 use Rattle.wq_groups.specs.Assignment.{Assignment}
 use Rattle.wq_groups.specs.DeclaredGroups.{declared_waits}
 use Rattle.wq_core.specs.Workqueues.{Workqueues}
-use Rattle.wq_repair.specs.Marks.{IsMarked}
 use Rattle.wq_repair.specs.Ready.{Scope, IsTrial}
-use Rattle.wq_repair.specs.Settled.{Settled, IsSettled}
+use Rattle.wq_repair.specs.Settled.{IsSettled}
 use Rattle.wq_repair.proofs.Readied.{IsSettled-start}
 use Rattle.wq_repair.proofs.Settling.{IsSettled-skip}
 use Rattle.wq_repair.proofs.plain.settle.Goals as goal
@@ -49,11 +48,12 @@ loop-group-preserved-then-not-is_tried g c = record {
 
 pub try_group-requires-clause-assigned : goal.try_group-requires-clause-assigned
 try_group-requires-clause-assigned g c =
-    ap (λ (a : Assignment). length a.lane_of_group) c.assignment.ensures ∙ c.requires.ready.1.assignment.one_each
+    ap (λ (a : Assignment). length a.lane_of_group) c.assignment.ensures ∙ c.requires.ready.1.scope.assignment.one_each
 
 pub try_group-requires-clause-needed : goal.try_group-requires-clause-needed
 try_group-requires-clause-needed g c =
-    ap length (c.as_slice.ensures.value ∙ ap (λ (x : Scope). x.needed) c.scope.view_is) ∙ c.requires.ready.1.one_each
+    ap length (c.as_slice.ensures.value ∙ ap (λ (x : Scope). x.needed) c.scope.view_is)
+    ∙ c.requires.ready.1.scope.one_each
 
 pub try_group-requires-clause-group : goal.try_group-requires-clause-group
 try_group-requires-clause-group g c = omega (arith, c.loop-group-test.true, c.requires.tried)
