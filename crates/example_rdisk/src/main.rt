@@ -146,7 +146,7 @@ fn conclude<N: Naming, R: Wait + Print + AllocGlobal>(
     put_closed(rt, rdisk, &closed.counts, &ran.bodies, closed.agree)
 }
 
-/// Has a rescuer for each workqueue run the driver's work functions, while two callers make their requests.
+/// Runs the driver: a rescuer for each workqueue runs its work functions, while two callers make their requests.
 fn serve<'a, N: Naming + Send + Sync, R: Threads + Wait + Sync + AllocGlobal>(
     rt: &R,
     runtime: &WqRuntime<N, Global>,

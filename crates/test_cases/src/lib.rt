@@ -1,9 +1,9 @@
 //! `test_cases`: what several tests share. Cases of all commands, readers and writers that misbehave, and a heap that
 //! refuses requests for memory. It is a library of the tests.
 //!
-//! Each answer was worked out by hand from docs/FORMAT.md. The exception is the largest declaration in examples/: its
-//! answers are what the commands print. There are many more cases in tests/cli/rows, for the program. What a case does
-//! is tested; that the heap is an allocator is proved.
+//! Each answer was worked out by hand from docs/FORMAT.md. The exception is the largest declaration in examples/: each
+//! answer to it is the text that the next command reads. There are many more cases in tests/cli/rows, for the program.
+//! What a case does is tested; that the heap is an allocator is proved.
 #![tactic(auto)]
 
 mod command;

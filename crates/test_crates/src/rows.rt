@@ -17,7 +17,7 @@ const OF_LANES: &[u8; 24] = &[
     11, 1, 0, 0, 0, 0, 0, 0, 1, 0, 0, 0, // AskLane of lane 0, yes, 1
 ];
 
-/// The row of an ask about a lane, but with an item, which it hasn't.
+/// The row of an ask about a lane, but with an item, which such a row doesn't have.
 const NO_ROW: &[u8; 12] = &[11, 1, 1, 0, 0, 0, 0, 0, 1, 0, 0, 0];
 
 /// A wait on lane 1 for item 1, and a row whose numbers have bytes that differ. The least significant byte comes first.

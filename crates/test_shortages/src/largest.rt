@@ -1,5 +1,5 @@
-//! Each command on the largest declaration of examples/. What it answers and says with enough memory is what it should,
-//! and the answer is the certificate of the commands after it. This takes as long as all the runs together.
+//! Each command on the largest declaration of examples/. With enough memory it answers and says what it should. Its
+//! answer is the certificate of the commands after it. This takes as long as all the runs together.
 
 use crate::asked::{AnyCommand, Wanted};
 use crate::devices::answered;

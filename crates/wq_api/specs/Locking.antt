@@ -44,9 +44,9 @@ AreOfLanes contexts waiters lanes = (q : ℕ) (l : _) → slice_get lanes q ≡ 
 abbrev pub AreOfItems : {B : Type 0} → (B → Sleepers) → List B → Type 0
 AreOfItems of bells = (i : ℕ) (b : _) → slice_get bells i ≡ Some b → of b ≡ ItemWaiters i
 
--- ---- whom a call wakes
+-- ---- which sleepers a call wakes
 
--- the variable of this group was rung, for all who sleep there or for one
+-- the variable of this group was rung, for all of its sleepers or for one
 abbrev pub IsRung : Sleepers → Bool → Option Rung → Type 0
 IsRung among all rung = rung ≡ Some (record { among = among; all = all })
 

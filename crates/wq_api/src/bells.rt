@@ -1,7 +1,7 @@
-//! Condition variables that know who sleeps there, and that one was rung, as a value.
+//! Condition variables that know their sleepers; and, as a value, that one was rung.
 //!
-//! So a contract can say on which variable a group of sleepers waits, and whom a call has woken. A ring takes a few
-//! instructions if nobody sleeps, and no call of the kernel.
+//! So a contract can say on which variable a group of sleepers waits, and which sleepers a call has woken. A ring takes
+//! a few instructions if nobody sleeps, and no call of the kernel.
 
 ghost use Rattle.std.specs.Prelude.{◌≡◌, true, false};
 
@@ -33,7 +33,7 @@ impl Bell {
         }
     }
 
-    /// Wakes one who sleeps there.
+    /// Wakes one of the sleepers.
     #[inline(always)]
     pub(crate) fn ring_one(&self) -> Rung
         ensures { result ≡ record { among = self.now.of; all = false } }
@@ -45,7 +45,7 @@ impl Bell {
         }
     }
 
-    /// Wakes all who sleep there.
+    /// Wakes all sleepers.
     #[inline(always)]
     pub(crate) fn ring_all(&self) -> Rung
         ensures { result ≡ record { among = self.now.of; all = true } }

@@ -1,8 +1,8 @@
-//! The condition variables of a runtime, on which those who sleep wait to be woken.
+//! The condition variables of a runtime, on which sleepers wait to be woken.
 //!
-//! Each group of sleepers has one of its own; but there are at most 256 for those who
-//! wait for items. If there are more items, some share one. Then who waits for one
-//! of these is also woken by an entry of another that ends, looks, and sleeps again.
+//! Each group of sleepers has one of its own; but there are at most 256 for waits for items. If there are more items,
+//! some share one. Then a wait for one of these is also woken when an entry of another ends; it looks, and sleeps
+//! again.
 //!
 //! `new` takes time and memory in the number of workqueues, 48 bytes for each, and of items, 24 bytes for each of up to
 //! 256. If nobody sleeps, a wake-up takes a few instructions, and no call of the kernel.
@@ -19,7 +19,7 @@ use wq_groups::LaneId;
 use wq_history::{Sleepers, Wake, WokenContexts};
 use wq_items::ItemId;
 
-/// The most variables for those who wait for items.
+/// The most variables for waits for items.
 const MAX_ITEM_CONDVARS: u16 = 256;
 
 /// Those of a workqueue.
@@ -43,7 +43,7 @@ pub(crate) struct Condvars<A: Allocator> {
     ghost of_destroyers: { destroyers.of ≡ Destroyers },
 }
 
-/// Who was woken: one context of a workqueue or all of them; and all of each other group.
+/// Which sleepers were woken: one context of a workqueue or all of them, and all of each other group.
 #[derive(Drop)]
 pub(crate) struct Woken {
     contexts: Option<Rung>,
@@ -170,7 +170,7 @@ impl<A: Allocator> Condvars<A> {
         Some(lane.waiters.ring_all())
     }
 
-    /// Wakes whoever is to be woken, once the lock was given back, and shows who was.
+    /// Wakes the sleepers that have to be woken, once the lock was given back, and shows which.
     #[inline(always)]
     pub(crate) fn wake(&self, _after: Unlocked, wake: &Wake) -> Woken
         ensures { AreWoken (vec_len self.now.lanes) (vec_len self.now.items) wake.now result }

@@ -1,8 +1,9 @@
 //! The lock, taken, and that it was given back, as values.
 //!
-//! Who took the lock takes one turn. If that is too early, it sleeps before it takes another, and gives the lock
-//! back meanwhile. Whoever is woken while the lock is held runs into it, and sleeps again. So who wakes others shows
-//! that it gave the lock back. All of this takes no memory, and the time of taking the lock and of giving it back.
+//! A thread that took the lock takes one turn. If that is too early, it sleeps before it takes another, and gives the
+//! lock back meanwhile. A thread that is woken while the lock is held runs into it, and sleeps again. So a thread that
+//! wakes others shows that it gave the lock back. All of this takes no memory, and the time of taking the lock and of
+//! giving it back.
 
 ghost use Rattle.std.specs.Prelude.{◌≡◌, true};
 ghost use Rattle.wq_held.specs.Turns.{IfSleeps, Wakes};

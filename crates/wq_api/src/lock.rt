@@ -1,9 +1,9 @@
-//! The lock of a runtime, and those who sleep until what it protects has changed.
+//! The lock of a runtime, and the threads that sleep until what it protects has changed.
 //!
-//! Nothing else in this crate takes the lock. `call` takes it, hands over the call, and wakes whom
-//! the answer names; if the call is too early, its caller sleeps among those whom it names.
-//! `Lock` knows of what it protects that it takes turns, and of a call that it can be copied. So
-//! it hands over just the call that it was handed. No caller sleeps with the lock held.
+//! Nothing else in this crate takes the lock. `call` takes it, hands over the call, and wakes the sleepers that the
+//! answer names; if the call is too early, its caller sleeps in the group that it names. `Lock` knows of what it
+//! protects that it takes turns, and of a call that it can be copied. So it hands over just the call that it was
+//! handed. No caller sleeps with the lock held.
 
 ghost use Rattle.std.specs.Prelude.{◌≡◌, ℕ, min, vec_len, Result, Ok, Err, IfOk, IfErr};
 ghost use Rattle.wq_history.specs.declared.sleepers.Wake.{Wake};
@@ -16,7 +16,7 @@ use std::alloc::Allocator;
 use std::sync::{Mutex, Wait};
 use wq_held::Turn;
 
-/// What a lock protects, as its callers see it who sleep.
+/// What a lock protects, as callers that sleep see it.
 pub(crate) trait Watched {
     ghost use Rattle.std.specs.Prelude.{ℕ};
     ghost use Rattle.wq_history.specs.declared.sleepers.Wake.{Wake};
@@ -24,7 +24,7 @@ pub(crate) trait Watched {
     // how many lanes there are, on which somebody may sleep
     ghost lanes: { ℕ };
 
-    // how many items there are, for whose entries somebody may wait
+    // how many items there are, for whose entries a caller may wait
     ghost items: { ℕ };
 
     // nothing has happened yet
@@ -64,7 +64,7 @@ pub(crate) trait Ends<S, T, E> {
         ensures { EndsSo ends refuses self own result };
 }
 
-/// Something under a lock, and the condition variables of those who sleep until it has changed.
+/// Something under a lock, and the condition variables of the threads that sleep until it has changed.
 #[derive(Drop)]
 pub(crate) struct Lock<H: Watched, A: Allocator> {
     held: Mutex<H>,

@@ -159,7 +159,7 @@ impl<N: Naming, A: Allocator> WqRuntime<N, A> {
         }
     }
 
-    /// Queues an item on its own workqueue, whichever that is: `queue_work` for a caller who knows the item alone.
+    /// Queues an item on its own workqueue, whichever that is: `queue_work` for a caller that knows only the item.
     ///
     /// The error is the first of these that holds: `NoItem` (66); `HistoryFull` (60),
     /// if the seat is full; `Closed` (61); `HistoryFull` (60), if fewer rows are

@@ -1,8 +1,8 @@
 //! Which of several rounds that cost the same is answered.
 //!
 //! Of the flushes of an item with the same words the one that is declared first counts, so that a text can say which it
-//! is; and a round with an unsure flush begins with one, which is a question that somebody has to decide. It takes time
-//! in the number of hops and of the flushes of their items.
+//! is; and a round with an unsure flush begins with one, which is a question that has to be decided. Choosing takes
+//! time linear in the number of hops and of the flushes of their items.
 
 ghost use Rattle.std.specs.Prelude.{◌≡◌, ◌↔◌, ◌<◌, ◌≤◌, length, position, Contains, IsTrue};
 ghost use Rattle.wq_items.specs.declared.target.Target.{Target};

@@ -109,7 +109,7 @@ none_left left rest n none left_is taken =
 
 -- ---- a runtime that was closed
 
--- if no ask waits, each caller who was to wait was told
+-- if no ask waits, each caller that had to wait was told
 all_told : (w : Wiring) (rows : List Row) → IsLegal w rows → all_asks_waiting rows ≡ 0
     → (x : Subject) → count_by (ends_a_wait x) rows ≡ count_by (begins_to_wait x) rows
 all_told w rows legal none x =

@@ -148,20 +148,20 @@ answered-uncounted old new call (Ok (WroteTwo ask taken)) counts uncounted answe
 answered-uncounted old new call (Ok Done) counts uncounted answers = refl
 answered-uncounted old new call _ counts uncounted answers = refl
 
--- ---- who sleeps
+-- ---- which callers sleep
 
 module _ (b : BookView) (book : IsBook b) where
   sound : IsSoundState b.wiring (state b)
   sound = IsSoundState-legal b.wiring b.rows book.legal
 
-  -- those who wait for an unfinished entry are a group
+  -- the sleepers that wait for an unfinished entry are a group
   waiters-group : (x : Subject) (mark : ℕ) → IsUnfinishedBelow (state b) x mark
       → IsGroup b.wiring.lanes (items b.wiring) (waiters_for x)
   waiters-group (OfItem i) mark left = (unfinished-own_lane b.wiring (state b) i mark sound left).0
   waiters-group (OfLane q) mark left =
       omega (arith, lane_within (state b) q left.entry left.unfinished, sound.one_each)
 
-  -- so are those among whom the caller of a call sleeps that is too early
+  -- the sleepers among which the caller of an early call sleeps are a group, too
   early-group : (call : Call) → IsEarly b call → IsGroup b.wiring.lanes (items b.wiring) (sleepers_of b.wiring call)
   early-group (Told x mark) early = waiters-group x mark early.1
   early-group (Start c) early = early.0.0.0
@@ -203,7 +203,7 @@ turn-taken old new counts left call answer (Sleeps among) answers seats counted 
       sleeps = comes.1 ∙ ap (λ (b : BookView). sleepers_of b.wiring call) early.1;
     }
 
--- enough are woken, and who sleeps has a group
+-- enough sleepers are woken, and each sleeper has a group
 pub turn-wakes : (w : Wiring) (rows : ℕ) (old new : HeldView) (counts left : List ℕ) (call : Call)
     (turn : Turn (Result Reply CallError)) → Holds w rows old.book → TakesTurn old counts call turn new left
     → Wakes w.lanes (items w) WakesEnoughOf old new turn

@@ -37,8 +37,9 @@ Agrees w book counts =
     → made_lane counts q kind said ≡ tally_lane book.rows q kind said)
 
 -- a runtime with this wiring and this many rows was closed with these seats: its book is idle and a legal history; each
--- caller who was to wait was told, item by item and lane by lane; the counts are the sums over the seats, and add up to
--- the number of the book's counted rows; and `agree` says whether each count is the number of the rows that it counts
+-- caller that had to wait was told, item by item and lane by lane; the counts are the sums over the seats, and add up
+-- to the number of the book's counted rows; and `agree` says whether each count is the number of the rows that it
+-- counts
 pub record IsClosed (w : Wiring) (rows : ℕ) (seats : List (List ℕ)) (book : BookView) (counts : List ℕ) (agree : Bool)
     : Type 0 where
   pub of_wiring : book.wiring ≡ w

@@ -8,7 +8,7 @@ use Rattle.wq_held.specs.declared.turn.Turn.{Turn}
 use Rattle.wq_held.specs.declared.turn.Turn.TheVariants.{Answers, Sleeps}
 use Rattle.wq_held.specs.Locked.{HeldView}
 
--- if the caller of a call sleeps, this holds of those among whom it sleeps
+-- if the caller of a call sleeps, this holds of the group in which it sleeps
 abbrev pub IfSleeps : {T : Type 0} → Turn T → (Sleepers → Type 0) → Type 0
 IfSleeps (Answers answer wake) P = Unit {0}
 IfSleeps (Sleeps among) P = P among

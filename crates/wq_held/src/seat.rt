@@ -1,6 +1,6 @@
 //! Seats: the counts of what the calls of one thread did.
 //!
-//! A seat belongs to one caller at a time, who lends it to each of its calls. It holds one part of the runtime's
+//! A seat belongs to one caller at a time, which lends it to each of its calls. It holds one part of the runtime's
 //! ledger. So what all seats count together is known when they come back. Every call takes constant time.
 
 ghost use Rattle.std.specs.Prelude.{◌≡◌, ℕ, ◌<◌, ◌≤◌, ◌↔◌, sum, true, IsTrue};

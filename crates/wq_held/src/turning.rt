@@ -73,8 +73,8 @@ fn shown<N: Naming>(call: Call, turn: Turn<Result<Reply, CallError>>) -> Turn<An
 }
 
 impl<N: Naming, A: Allocator> Held<N, A> {
-    /// Answers a call, counts the row or rows that it wrote in the caller's seat, and says who is woken; or, if it
-    /// is too early, says among whom the caller sleeps, and changes nothing.
+    /// Answers a call, counts the row or rows that it wrote in the caller's seat, and says which sleepers are woken;
+    /// or, if it is too early, says in which group the caller sleeps, and changes nothing.
     pub fn turn<C: AsCall<A>>(
         &mut self,
         seat: &mut Seat<N, A>,

@@ -1,4 +1,4 @@
-//! Whom a row wakes, once it is written, and among whom the caller of a call sleeps that is too early.
+//! Which sleepers a row wakes once it is written, and in which group the caller of an early call sleeps.
 //!
 //! A queueing lets one context of its workqueue go on. So does a finish, if the next entry of the item is pending:
 //! no other context could start that while the item ran. An entry that ends, by a finish or a cancellation, can end
@@ -56,7 +56,7 @@ fn lane_of_item<A: Allocator>(book: &Book<A>, item: ItemId) -> LaneId
     q
 }
 
-/// Whom a queueing of an item, which exists, wakes, if it was accepted or wasn't.
+/// Which sleepers a queueing of an existing item wakes; `accepted` says whether an entry was queued.
 fn by_queueing<A: Allocator>(book: &Book<A>, item: ItemId, accepted: bool) -> Wake
     requires { item < items book.now.wiring }
     ensures { WakesBy book.now (QueueEvent item) accepted result }
@@ -67,7 +67,7 @@ fn by_queueing<A: Allocator>(book: &Book<A>, item: ItemId, accepted: bool) -> Wa
     Wake::one_context(lane_of_item(book, item))
 }
 
-/// Whom it wakes that an entry of an item has ended, on a workqueue: these contexts, and who waited for that.
+/// Which sleepers are woken when an entry of an item ends on a workqueue: these contexts, and the waits for it.
 fn by_end<A: Allocator>(book: &Book<A>, contexts: WokenContexts, q: LaneId, item: ItemId) -> Wake
     ensures { (result.contexts ≡ contexts) × WakesWaiters book.now q item result }
 {
@@ -79,7 +79,7 @@ fn by_end<A: Allocator>(book: &Book<A>, contexts: WokenContexts, q: LaneId, item
     }
 }
 
-/// Whom a cancellation of an item, which exists, wakes, if it took an entry or didn't.
+/// Which sleepers a cancellation of an existing item wakes; the flag says whether it took an entry.
 fn by_cancel<A: Allocator>(book: &Book<A>, item: ItemId, taken: bool) -> Wake
     requires { item < items book.now.wiring }
     ensures { WakesBy book.now (CancelEvent item) taken result }
@@ -91,7 +91,7 @@ fn by_cancel<A: Allocator>(book: &Book<A>, item: ItemId, taken: bool) -> Wake
     by_end(book, if_ended(book, q), q, item)
 }
 
-/// Whom a step of a context of a workqueue wakes.
+/// Which sleepers a step of a context of a workqueue wakes.
 fn by_step<A: Allocator>(book: &Book<A>, q: LaneId, step: &HelpStep) -> Wake
     ensures { WakesByDeed book.now q step.now result }
 {
@@ -107,7 +107,7 @@ fn by_step<A: Allocator>(book: &Book<A>, q: LaneId, step: &HelpStep) -> Wake
     }
 }
 
-/// Whom a row wakes that was written, of an item or a workqueue that exists.
+/// Which sleepers a written row wakes; its item or workqueue exists.
 #[inline(always)]
 pub(crate) fn by_row<A: Allocator>(book: &Book<A>, row: &Row) -> Wake
     requires { IsThere book.now.wiring (subject_in row.now.event) }
@@ -123,7 +123,7 @@ pub(crate) fn by_row<A: Allocator>(book: &Book<A>, row: &Row) -> Wake
     }
 }
 
-/// Whom a call wakes that is done without a row: the closing, all contexts, and all waits in `destroy`.
+/// Which sleepers a call wakes that is done without a row: the closing, all contexts, and all waits in `destroy`.
 pub(crate) fn by_done(call: &Call) -> Wake
     ensures { result ≡ woken_by_done call.now }
 {
@@ -133,7 +133,8 @@ pub(crate) fn by_done(call: &Call) -> Wake
     }
 }
 
-/// Whom a refused call wakes: a start, another context, in whose place its own may have been woken.
+/// Which sleepers a refused call wakes. A start wakes another context, since its own may have been woken in the place
+/// of that one.
 pub(crate) fn by_refusal(call: &Call) -> Wake
     ensures { result ≡ woken_by_refusal call.now }
 {
@@ -143,7 +144,7 @@ pub(crate) fn by_refusal(call: &Call) -> Wake
     }
 }
 
-/// Those who wait for an item, or for a workqueue.
+/// The sleepers that wait for an item, or for a workqueue.
 fn waiters(subject: &Subject) -> Sleepers
     ensures { result ≡ waiters_for subject.now }
 {
@@ -153,7 +154,7 @@ fn waiters(subject: &Subject) -> Sleepers
     }
 }
 
-/// Among whom the caller of a call sleeps that is too early.
+/// The group in which the caller of an early call sleeps.
 pub(crate) fn sleepers<A: Allocator>(book: &Book<A>, call: &Call) -> Sleepers
     requires { IsBook book.now × IsEarly book.now call.now }
     ensures { result ≡ sleepers_of book.now.wiring call.now }

@@ -99,7 +99,7 @@ pub no_ask : (b : BookView) (x : Subject) (mark : ℕ) (e : CallError) → Refus
 no_ask b x mark NotAsked why = why
 no_ask b x mark _ why = absurd why
 
--- who is told, is told by a row that says yes
+-- a caller that is told is told by a row with yes
 told_row : (old new : BookView) (x : Subject) (mark : ℕ) (row : Row) → Replies old (Told x mark) (Wrote row) new
     → Appends old new (told_event x) true mark
 told_row old new x mark row replies =

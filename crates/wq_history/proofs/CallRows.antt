@@ -59,7 +59,7 @@ pub finish-yes : (w : Wiring) (rows : List Row) (q c i : ℕ) (said : Bool) (n :
 finish-yes w rows q zero i said n may = may.0
 finish-yes w rows q (suc h) i said n may = may.0
 
--- ---- asks, and those who are told
+-- ---- asks, and callers that are told
 
 -- when an ask may come
 pub ask-may : (w : Wiring) (rows : List Row) (x : Subject) (said : Bool) (n : ℕ) → IsThere w x

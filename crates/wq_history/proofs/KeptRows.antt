@@ -36,7 +36,7 @@ kept_row w rows row legal may none = by_event row.event row.yes row.number may n
   sound : IsSoundState w s
   sound = IsSoundState-legal w rows legal
 
-  -- the asks that wait are those before it, if nobody asks or is told
+  -- the asks that wait are those before the row, if it is no ask and ends none
   waiting : (r : Row) → (is_ask r.event && r.yes) ≡ false → is_told r.event ≡ false → all_asks_waiting (rows ++ (r ∷ [])) ≡ all_asks_waiting rows
   waiting r no_ask no_told =
       let a = count-more (λ (x : Row). is_ask x.event && x.yes) rows r ∙ ap (λ b. count_by (λ (x : Row). is_ask x.event && x.yes) rows + cond b 1 0) no_ask in

@@ -1,4 +1,4 @@
--- Who sleeps, sleeps for something that isn't so yet, among those who are woken once it is.
+-- A sleeper sleeps for something that isn't so yet, in a group that is woken once it is.
 use Rattle.std.proofs.Common.{◌≡◌, ℕ, inl, inr, refl, sym, ap, subst, ◌∙◌, Some, None}
 use Rattle.wq_history.proofs.Words.{Running, Context, lane_at, next_of, Subject, OfItem, OfLane, BookView, state}
 use Rattle.wq_history.proofs.Words.{IsWaiting, Condition, WorkOn, EndOf, AllDone, sleepers_for, Flush, Call, Told}

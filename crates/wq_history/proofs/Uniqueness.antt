@@ -17,7 +17,7 @@ pub comes : (b new : BookView) (row : Row) (event : Event) → row.event ≡ eve
     → MayCome b.wiring b.rows event row.yes row.number
 comes b new row event is writes = subst (λ (e : Event). MayCome b.wiring b.rows e row.yes row.number) is writes.may
 
--- two rows of one event, which isn't of one who is told
+-- two rows of one event, which isn't Told or ToldLane
 pub same-event : (b new next : BookView) (r s : Row) (event : Event) → IsBook b → is_told event ≡ false → r.event ≡ event
     → s.event ≡ event → Writes b r new → Writes b s next → r ≡ s
 same-event b new next r s event book not_told one other first second =
@@ -25,7 +25,7 @@ same-event b new next r s event book not_told one other first second =
     (comes b new r event one first) (comes b next s event other second) in
     same-row r s (one ∙ sym other) same.0 same.1
 
--- ---- events of which nobody is told
+-- ---- events that tell no caller
 
 context-told : (q c : ℕ) (deed : HelpStep) → is_told (event_in q c deed) ≡ false
 context-told q zero (DoStart i) = refl

@@ -1,4 +1,4 @@
--- By whatever happens, enough of those who sleep are woken.
+-- Whatever happens, enough sleepers are woken.
 use Rattle.std.proofs.Common.{◌≡◌, ◌≢◌, ℕ, zero, suc, ◌+◌, ◌≤◌, ◌⊎◌, inl, inr, Bool, true, false, not, eqb, List, []}
 use Rattle.std.proofs.Common.{◌∷◌, ◌++◌, length, Option, Some, None, refl, sym, ap, subst, ◌∙◌, arith, Contains}
 use Rattle.std.proofs.Common.{option_map, IsTrue, ◌↔◌}

@@ -1,4 +1,4 @@
--- Whoever may go on after an answer is woken; and who sleeps, sleeps for something that hasn't happened yet.
+-- Each sleeper that may go on after an answer is woken; and a sleeper sleeps for something that hasn't happened yet.
 use Rattle.std.proofs.Common.{◌≡◌, ◌≤◌, Bool, true, false, List, [], ◌∷◌, ◌++◌, refl, sym, ap, subst, ◌∙◌, Result, Ok}
 use Rattle.std.proofs.Common.{Err}
 use Rattle.wq_history.proofs.Words.{CancelStep, max_helpers, State, effect, IsSoundState, Event, CancelEvent, Row, Wake}

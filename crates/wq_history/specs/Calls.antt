@@ -1,5 +1,5 @@
--- Calls: of a book and a call, why it is refused, what is replied, the book after, whom it wakes, and among whom its
--- caller sleeps.
+-- Calls: of a book and a call, why it is refused, what is replied, the book after, which sleepers it wakes, and in
+-- which group its caller sleeps.
 --
 -- What is replied is the row that the call writes. Whether that row may come, and with which `yes` and which number,
 -- is said by MayCome; how many free rows it needs by rows_needed; and both by Appends. If there is no row to
@@ -123,7 +123,7 @@ Refuses b Drain e = ⊥
 -- ---- what is replied, and the book after
 
 -- the row that a call writes, if it writes just one: what happened. Of a closed book nothing is queued; a start is of
--- the first pending entry whose item doesn't run; and who is told has the mark of its ask
+-- the first pending entry whose item doesn't run; and a caller that is told has the mark of its ask
 abbrev pub IsRowOf : BookView → Call → Row → Type 0
 IsRowOf b (Queue i) row = (row.event ≡ QueueEvent i) × (b.closed ≡ false)
 IsRowOf b (Cancel i) row = row.event ≡ CancelEvent i
@@ -220,20 +220,21 @@ abbrev pub RefusesWait : BookView → ℕ → ℕ → Bool → ℕ → BookError
 RefusesWait b q c whole target e =
     RefusesAs b (Wait (record { lane = q; number = c }) (record { target = target; whole = whole })) e
 
--- ---- who is woken, and who sleeps
+-- ---- which sleepers are woken, and which callers sleep
 
--- whom a call wakes that is done without a row: once the book is closed, all contexts, and all who wait until all is
--- done
+-- which sleepers a call wakes that is done without a row: once the book is closed, all contexts, and all that wait
+-- until everything is done
 abbrev pub woken_by_done : Call → Wake
 woken_by_done Close = by_closing
 woken_by_done _ = nobody
 
--- whom a refused call wakes: a start passes its wake-up on, since it may have been woken in place of another context
+-- which sleepers a refused call wakes: a start passes its wake-up on, since it may have been woken in place of another
+-- context
 abbrev pub woken_by_refusal : Call → Wake
 woken_by_refusal (Start c) = one_context c.lane
 woken_by_refusal _ = nobody
 
--- whom an answer wakes, if this is the book after it
+-- which sleepers an answer wakes, if this is the book after it
 abbrev pub WakesAfter : BookView → Call → Result Reply CallError → Wake → Type 0
 WakesAfter new call (Ok (Wrote row)) wake = WakesBy new row.event row.yes wake
 WakesAfter new call (Ok (WroteTwo ask taken)) wake = WakesBy new taken.event taken.yes wake
@@ -251,7 +252,7 @@ abbrev pub done_below : Subject → ℕ → Condition
 done_below (OfItem i) mark = ItemDone i mark
 done_below (OfLane q) mark = LaneDone q mark
 
--- among whom the caller of an early call sleeps
+-- the group in which the caller of an early call sleeps
 abbrev pub sleepers_of : Wiring → Call → Sleepers
 sleepers_of w (Told x mark) = waiters_for x
 sleepers_of w (Start c) = Contexts c.lane

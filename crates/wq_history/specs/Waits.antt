@@ -1,4 +1,4 @@
--- Waits: for which conditions somebody sleeps, and whom an event wakes.
+-- Waits: for which conditions callers and contexts sleep, and which of them an event wakes.
 use Rattle.std.specs.Prelude.{◌≡◌, ℕ, ◌+◌, ◌≤◌, ◌⊎◌, not, Bool, true, false, [], Some, None, IsTrue, ◌↔◌}
 use Rattle.std.specs.List.{count_by}
 use Rattle.wq_core.specs.declared.entry.Entry.{Entry}
@@ -156,8 +156,8 @@ WakesByDeed b q (DoStart i) wake = WakesByStart b q wake
 WakesByDeed b q (DoFinish i) wake = WakesByFinish b q i wake
 WakesByDeed b q _ wake = wake ≡ nobody
 
--- an event that came with this `yes`: a queueing wakes one context of its lane. Asks and those who are told wake
--- nobody, nor does what came to nothing
+-- an event that came with this `yes`: a queueing wakes one context of its lane. Asks and tellings wake no sleeper, nor
+-- does an event that came to nothing
 abbrev pub WakesBy : BookView → Event → Bool → Wake → Type 0
 WakesBy b (Queue i) true wake = wake ≡ one_context (lane_of b.wiring i)
 WakesBy b (Cancel i) true wake = WakesByCancel b (lane_of b.wiring i) i wake

@@ -189,7 +189,7 @@ impl<A: Allocator> Book<A> {
         Ok(Reply::WroteTwo(asked, taken))
     }
 
-    /// Whether a lane has ended: the book is closed, and nothing is pending on it. So nobody who serves it has anything
+    /// Whether a lane has ended: the book is closed, and nothing is pending on it. So no context of it has anything
     /// more to do.
     pub fn has_ended(&self, q: LaneId) -> bool
         ensures { IsTrue result ↔ IsMet self.now (EndOf q) }

@@ -1,7 +1,7 @@
-//! Those who sleep until something has happened to a book, and whom an event wakes.
+//! Callers and contexts that sleep until something has happened to a book, and which of them an event wakes.
 //!
-//! Those for whom the same events count are a group: they sleep on one condition variable. Nothing is computed here,
-//! and each call takes constant time.
+//! Sleepers for which the same events count are a group: they sleep on one condition variable. Nothing is computed
+//! here, and each call takes constant time.
 
 ghost use Rattle.std.specs.Prelude.{◌≡◌};
 ghost use Rattle.wq_history.specs.Waits.{nobody, one_context, by_closing};
@@ -9,7 +9,7 @@ ghost use Rattle.wq_history.specs.Waits.{nobody, one_context, by_closing};
 use wq_groups::LaneId;
 use wq_items::ItemId;
 
-/// A group of those who sleep.
+/// A group of sleepers.
 #[derive(Clone, Copy, Debug, PartialEq, Eq)]
 pub enum Sleepers {
     /// The contexts of this lane that have nothing to start.
@@ -35,7 +35,7 @@ pub enum WokenContexts {
     Everybody,
 }
 
-/// Who is woken.
+/// Which sleepers are woken.
 #[derive(Clone, Copy, Debug, PartialEq, Eq)]
 pub struct Wake {
     /// Which contexts.
@@ -44,7 +44,7 @@ pub struct Wake {
     pub item_waiters: Option<ItemId>,
     /// All who wait until entries of this lane have ended.
     pub lane_waiters: Option<LaneId>,
-    /// Whether all are woken who wait until all is done.
+    /// Whether all are woken that wait until everything is done.
     pub destroyers: bool,
 }
 
@@ -73,7 +73,7 @@ impl Wake {
         }
     }
 
-    /// All contexts of all lanes, and all who wait until all is done: whom a closing wakes.
+    /// The sleepers that a closing wakes: all contexts of all lanes, and all that wait until everything is done.
     pub fn by_closing() -> Wake
         ensures { result ≡ by_closing }
     {

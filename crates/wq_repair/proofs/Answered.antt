@@ -51,7 +51,7 @@ not_true : (b : Bool) → not b ≡ false → b ≡ true
 not_true true is = refl
 not_true false is = absurd (false≢true (sym is))
 
--- who is marked isn't left out
+-- a marked group isn't left out
 pub left_out-not : (marks : List Bool) (g : ℕ) → g < length marks → (slice_index_or (map not marks) g false ≡ false) ↔ IsMarked marks g
 left_out-not marks g below =
     let at : get_or (map not marks) g false ≡ not (get_or marks g false) = get_or-map not marks g false false below in
@@ -95,7 +95,7 @@ module _ (d : Declaration) (old : Workqueues) (names : List ℕ) (all_named : (g
       let waits = along-waits g h is chain.0 in
       (waits, chain-waits h others (awaited-below d declaration g h waits) chain.1)
 
-  -- who needs a rescuer then needs one whatever may move
+  -- a group that needs a rescuer then needs one whatever may move
   pub NeedsRescuer-all : (g : ℕ) → NeedsRescuerOf d old names g → NeedsRescuer d old g
   NeedsRescuer-all g led = record {
     first = led.first;

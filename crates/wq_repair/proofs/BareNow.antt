@@ -1,4 +1,4 @@
--- Who has a rescuer once groups have come to lanes.
+-- Which groups have a rescuer once groups have moved to lanes.
 use Rattle.std.proofs.Common.{◌≡◌, ◌≢◌, ℕ, ◌+◌, ◌<◌, ◌≤◌, ◌⊎◌, inl, inr, Bool, List, length, get_or, set, refl, sym, subst, ◌∙◌, arith, get_or-set_same, get_or-set_other}
 use Rattle.std.specs.Prelude.{false, slice_index}
 use Rattle.std.proofs.Math.ListN.{length-set}

@@ -48,7 +48,7 @@ module _ (R : ℕ → ℕ → Type 0) (number : ℕ → ℕ) (bound : ℕ) (fall
   to_other : (x : ℕ) → (x == u) ≡ false → to x ≡ x
   to_other x not = ap (λ (b : Bool). if b then v else x) not
 
-  -- who is beyond stays, as u isn't
+  -- a vertex beyond u stays, as u isn't beyond itself
   to_beyond : (x : ℕ) → beyond x ≡ true → to x ≡ x
   to_beyond x is = elim (cases_Bool (x == u)) [
     | inl same ↦ absurd (false≢true (sym not_u ∙ ap beyond (sym (eqb-true x u same)) ∙ is))
@@ -72,7 +72,7 @@ module _ (R : ℕ → ℕ → Type 0) (number : ℕ → ℕ) (bound : ℕ) (fall
   from_either x y (inl is) arc = from_u y (subst (λ (z : ℕ). R z y) is arc)
   from_either x y (inr is) arc = from_v y (subst (λ (z : ℕ). R z y) is arc)
 
-  -- an arc from who isn't beyond
+  -- an arc from a vertex that isn't beyond
   falls_from : (x y : ℕ) → beyond x ≡ false → R x y → new (to y) < new (to x)
   falls_from x y not arc = elim (cases_Bool (beyond y)) [
     | inl is ↦ elim (new_others x not) [

@@ -16,7 +16,7 @@ module _ (d : Declaration) (old new fewer : Workqueues) (names : List ℕ) (need
   abbrev D : Type 0
   D = Deadlocks (wiring_of d fewer)
 
-  -- who stays in the one stays in the other
+  -- a group that stays in the one stays in the other
   stays-too : (g : ℕ) → g < d.groups → lane_in new g ≡ lane_in old g → lane_in fewer g ≡ lane_in old g
   stays-too g below stays = stays-not_moved old fewer g (λ moved. less.moved g below moved stays)
 

@@ -222,7 +222,7 @@ module _ (old : Workqueues) (given stays leaves leave bare named movable : List 
   below_group : {q : ℕ} → (holds : HoldsAny old q) → holds.group < length leaves
   below_group holds = omega (arith, holds.is_group, long)
 
-  -- who comes to a lane that held somebody comes to a named one
+  -- a group that moves to a lane that held groups moves to a named one
   pub AreHosted-made : AreHosted old movable leaves made
   AreHosted-made g is marked holds = elim (had_or_comes g is marked) [
     | inr came ↦ absurd (not_taken came.number holds.group (below_group holds) (sym came.on ∙ sym holds.on))

@@ -1,4 +1,4 @@
--- Who needs a rescuer has one in whatever may be compared, or that deadlocks.
+-- Each group that needs a rescuer has one in every assignment to be compared, or that assignment deadlocks.
 use Rattle.std.proofs.Common.{◌≡◌, ℕ, ◌<◌, ◌⊎◌, inl, inr, false, List, [], ◌∷◌, ◌++◌, length, get_or, refl, sym, ap, subst, ◌∙◌, arith}
 use Rattle.std.specs.Prelude.{Bool, slice_get, slice_index, Some}
 use Rattle.std.proofs.lemmas.Bool.{cases_Bool, cases_eq}
@@ -63,7 +63,7 @@ chain-some R S some [] chain = tt
 chain-some R S some (v ∷ []) chain = tt
 chain-some R S some (v ∷ w ∷ ws) chain = (some v w chain.0, chain-some R S some (w ∷ ws) chain.1)
 
--- who needs a rescuer whatever may move needs one if only these may
+-- a group that needs a rescuer whatever may move needs one if only these may move
 pub NeedsRescuerOf-any : (d : Declaration) (old : Workqueues) (names : List ℕ) (g : ℕ) → NeedsRescuer d old g → NeedsRescuerOf d old names g
 NeedsRescuerOf-any d old names g led = record {
   first = led.first;
@@ -80,7 +80,7 @@ module _ (d : Declaration) (ws : Workqueues) (declaration : IsDeclaration d) (as
   wiring : IsWiring (wiring_of d ws)
   wiring = IsWiring-workqueues d ws declaration assignment
 
-  -- whom a group waits for that has a rescuer, has one too, or there is a deadlock
+  -- if a group with a rescuer waits for another, that one has a rescuer, too, or there is a deadlock
   pub rescued-awaited : (g h : ℕ) → GroupWaits d g h → IsRescued ws (lane_in ws g) → IsRescued ws (lane_in ws h) ⊎ Deadlocks (wiring_of d ws)
   rescued-awaited g h waits rescued =
       let from = lane_of-group d ws waits.item g waits.of_item in
@@ -158,7 +158,8 @@ module _ (d : Declaration) (old new : Workqueues) (names : List ℕ) (declaratio
     | inl round ↦ Deadlocks-round d new declaration compared.assignment round
   ]
 
-  -- a circle of other workqueues, of groups that need a rescuer, is one of these if who shares a lane there shares one here
+  -- a circle of other workqueues, of groups that need a rescuer, is one of these if groups that share a lane there
+  -- share one here
   module _ (other : Workqueues) (needed : (g : ℕ) → g < d.groups → IsRescued other (lane_in other g) → NeedsRescuerOf d old names g)
       (together : (g h : ℕ) → g < d.groups → h < d.groups → IsRescued other (lane_in other g) → lane_in other g ≡ lane_in other h → lane_in new g ≡ lane_in new h) where
     -- a lane there, and the lane here of a group on it
@@ -208,7 +209,7 @@ module _ (d : Declaration) (old new : Workqueues) (names : List ℕ) (declaratio
 
 -- ---- where groups are at vertices
 
--- a circle of vertices, of groups that need a rescuer, is one of these if who shares a vertex shares a lane
+-- a circle of vertices, of groups that need a rescuer, is one of these if groups that share a vertex share a lane
 module _ (d : Declaration) (new : Workqueues) (declaration : IsDeclaration d) (assignment : IsAssignment d.groups new.assignment) (needed : List Bool) (at : List ℕ)
     (has : (g : ℕ) → g < d.groups → IsMarked needed g → IsRescued new (lane_in new g) ⊎ Deadlocks (wiring_of d new))
     (together : (g h : ℕ) → g < d.groups → h < d.groups → IsMarked needed g → IsMarked needed h → slice_index at g ≡ slice_index at h → lane_in new g ≡ lane_in new h) where

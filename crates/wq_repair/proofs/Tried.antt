@@ -1,4 +1,4 @@
--- What is read of lists of marks, and who is put to trial: its lane has a rescuer, or is given one.
+-- What is read of lists of marks, and which groups are tried: those on a lane that has a rescuer or is given one.
 use Rattle.std.proofs.Common.{◌≡◌, ℕ, ◌<◌, ◌⊎◌, inl, inr, Bool, true, false, List, length, get_or, refl, sym, ap, subst, ◌∙◌}
 use Rattle.std.specs.Prelude.{◌↔◌, not, slice_index_or}
 use Rattle.std.proofs.lemmas.Bool.{false≢true}

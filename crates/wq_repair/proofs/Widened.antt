@@ -28,7 +28,8 @@ KeepsNeeded-kept old new needed stay kept are_staying are_kept q marked =
 module _ (d : Declaration) (old new : Workqueues) (names : List ℕ) (needed all : List Bool) (declaration : IsDeclaration d) (before : IsAssignment d.groups old.assignment)
     (are : Marks (NeedsRescuerOf d old names) d.groups needed) (long : length all ≡ d.groups)
     (keeps : (g : ℕ) → g < length all → IsMarked all g → IsMarked needed g ⊎ KeepsNeeded old new needed (lane_in old g)) where
-  -- a group that needs a rescuer stays on the lane in whatever has fewer changes, so the lane has one; and who stays beside it has it too
+  -- a group that needs a rescuer stays on the lane in whatever has fewer changes, so the lane has one, and a group that
+  -- stays beside it has it, too
   NeedRescuers-wider : NeedRescuers d old names new all
   NeedRescuers-wider fewer compared less g is marked = elim (keeps g (omega (arith, is, long)) marked) [
     | inl needs ↦ rescued-needed d old fewer names declaration before compared g ((are.exactly g is).0 needs)

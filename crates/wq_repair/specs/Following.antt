@@ -15,7 +15,8 @@ pub record FoundGroups : Type 0 where
   pub marks : List Bool
   pub list : List ℕ
 
--- all of which P holds are found now, and nobody else who wasn't before. The order of those goes on
+-- all groups of which P holds are found now, and no other group that wasn't found before. The list is continued in
+-- order
 pub record HasGrown (old new : FoundGroups) (P : ℕ → Type 0) : Type 0 where
   pub one_each : length new.marks ≡ length old.marks
   pub kept : (g : ℕ) → IsMarked old.marks g → IsMarked new.marks g
@@ -47,8 +48,8 @@ pub record CanFollow (graph : List (List WaitArc)) (on : List (List ℕ)) (old :
     pub exactly : (q g : ℕ) → Contains (slice_index_or on q []) g
         ↔ ((g < length old.assignment.lane_of_group) × (lane_in old g ≡ q))
 
--- all found need a rescuer; those on lanes that have one are found, and whom the first `done` of the list bring along
--- is
+-- all found need a rescuer; the groups on lanes that have one are found, and so are the groups that the first `done` of
+-- the list bring along
 pub record IsFollowed (d : Declaration) (old : Workqueues) (names : List ℕ) (f : FoundGroups) (done : ℕ) : Type 0 where
   pub one_each : length f.marks ≡ d.groups
   pub lists : Lists f.marks f.list

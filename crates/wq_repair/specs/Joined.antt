@@ -23,9 +23,9 @@ NeededWaits d old g h = NeedsRescuer d old g × GroupWaits d g h
 abbrev pub HangsRound : Declaration → Workqueues → Type 0
 HangsRound d ws = Circle (RescuedWaits (wiring_of d ws))
 
--- the start: each group that may move and needs a rescuer has one for itself, and all others are where they were.
--- Nobody else is on a lane with a rescuer but who needs one. A lane that may be given a rescuer has one if a group that
--- needs it can't leave
+-- the start: each group that may move and needs a rescuer has one for itself, and all others are where they were. Only
+-- groups that need a rescuer are on a lane with one. A lane that may be given a rescuer has one if a group that needs
+-- it can't leave
 pub record IsStart (d : Declaration) (old : Workqueues) (names : List ℕ) (start : Workqueues) : Type 0 where
   pub compared : IsToBeCompared d old names start
   pub needed : (g : ℕ) → g < d.groups → IsRescued start (lane_in start g) → NeedsRescuerOf d old names g
@@ -79,8 +79,8 @@ pub record AreChangesNeeded (d : Declaration) (old new : Workqueues) (needed : L
       → HasToLeave old new needed g ⊎ IsTriedInVain d old new needed g
   pub given : (g : ℕ) → g < d.groups → IsGiven d old new (lane_in old g) → IsMarked needed g
 
--- a number for each lane, which falls from lane to lane along each wait of a group that needs a rescuer. Who needs one
--- is on a lane that has one, and nobody else is
+-- a number for each lane, which falls from lane to lane along each wait of a group that needs a rescuer. Exactly the
+-- groups that need one are on lanes that have one
 pub record FallsAlongWaits (d : Declaration) (new : Workqueues) (needed : List Bool) (number : ℕ → ℕ) : Type 0 where
   pub only : (g : ℕ) → g < d.groups → IsRescued new (lane_in new g) → IsMarked needed g
   pub rescued : (g : ℕ) → g < d.groups → IsMarked needed g → IsRescued new (lane_in new g)

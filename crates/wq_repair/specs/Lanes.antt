@@ -1,4 +1,4 @@
--- Lanes that are taken one after the other, and who has a rescuer then.
+-- Lanes that are taken one after the other, and which groups have a rescuer then.
 use Rattle.std.specs.Prelude.{◌≡◌, ◌≢◌, ℕ, ◌+◌, ◌-◌, ◌<◌, ◌≤◌, ◌⊎◌, nat_lt, if◌then◌else◌, false, List, Bool, length}
 use Rattle.std.specs.Prelude.{slice_index, slice_index_or, AllPairs}
 use Rattle.std.specs.List.{All}

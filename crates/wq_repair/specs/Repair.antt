@@ -18,8 +18,8 @@ use Rattle.wq_repair.specs.Joined.{NeededWaits, IsStart}
 
 -- the old workqueues deadlock and the new ones are safe; and whatever has only some of the changes deadlocks. No more
 -- lanes are made than there are groups, and the list that says which are bare isn't longer than they. A group is on
--- each new lane, and on each old one that has a rescuer now and had none. Who moved to a lane that held groups moved to
--- one that held a group that may move
+-- each new lane, and on each old one that has a rescuer now and had none. A group that moved to a lane that held groups
+-- moved to one that held a movable group
 pub record IsRepair (d : Declaration) (old : Workqueues) (names : List ℕ) (new : Workqueues) : Type 0 where
   pub deadlocked : Deadlocks (wiring_of d old)
   pub compared : IsToBeCompared d old names new

@@ -67,8 +67,8 @@ pub record KeepsNeeded (old new : Workqueues) (needed : List Bool) (q : ℕ) : T
 
 -- ---- placing
 
--- where groups go: those that leave go to lanes that have a rescuer, all others stay; who shares a lane and needs a
--- rescuer has the same rank. A group is on each new lane, and on each old one that has a rescuer now and had none
+-- where groups go: those that leave go to lanes that have a rescuer, all others stay; groups that share a lane and need
+-- a rescuer have the same rank. A group is on each new lane, and on each old one that has a rescuer now and had none
 pub record ArePlacedBy (old : Workqueues) (given stays leaves : List Bool) (ranks : List ℕ) (new : Workqueues)
     : Type 0 where
   pub one_each : length new.assignment.lane_of_group ≡ length leaves
@@ -90,8 +90,8 @@ pub record ArePlacedBy (old : Workqueues) (given stays leaves : List Bool) (rank
       → lane_in new g ≡ lane_in new h → slice_index ranks g ≡ slice_index ranks h
 
 -- what is known of those that leave when groups are placed: each may move and needs a rescuer, and either its lane has
--- none and gets none, or it was tried in vain. Who needs a rescuer and doesn't leave has one on its lane. Ranks fall
--- along all waits of those that need one
+-- none and gets none, or it was tried in vain. A group that needs a rescuer and doesn't leave has one on its lane.
+-- Ranks fall along all waits of those that need one
 pub record AreLeaving (d : Declaration) (old : Workqueues) (names : List ℕ) (needed given leaves : List Bool)
     (ranks : List ℕ) (new : Workqueues) : Type 0 where
   pub one_each : length leaves ≡ d.groups

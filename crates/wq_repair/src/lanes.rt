@@ -1,4 +1,4 @@
-//! Lanes that are taken one after the other: some that are there, and then new ones; and who has a rescuer then.
+//! Lanes that are taken one after the other: first old ones, then new ones; and which groups have a rescuer then.
 //!
 //! A lane takes constant time, and all rescuers time in the number of groups and lanes.
 

@@ -1,8 +1,8 @@
 //! The groups that need a rescuer.
 //!
-//! Those on lanes that have one do, and whom such a group waits for does. If one of them may not move and its lane has
-//! none, the lane has to be given one, if it may; so who else is on it needs one too. What is found is followed once,
-//! so it takes time and memory in the number of groups, lanes and flushes.
+//! A group needs one if its lane has one, or if a group that needs one waits for it. If such a group may not move and
+//! its lane has none, the lane has to be given one, if it may; so all groups on it need one, too. Each group that is
+//! found is followed once, in O(groups + lanes + flushes) time and memory.
 
 ghost use Rattle.std.specs.Prelude.{◌≡◌, ◌<◌, ◌≤◌, ◌↔◌, ℕ, [], length, slice_index, slice_index_or, IfOk, Contains};
 ghost use Rattle.std.specs.List.{All, Any};
@@ -76,7 +76,7 @@ impl<A: Allocator + Copy> Found<A> {
         Ok(())
     }
 
-    /// Whom a group brings along is found.
+    /// Finds the groups that a group brings along.
     fn follow(
         &mut self,
         graph: &WaitGraph<A>,

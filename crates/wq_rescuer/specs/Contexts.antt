@@ -1,4 +1,4 @@
--- Contexts: who runs what is queued, workqueue by workqueue. The code calls a workqueue a lane.
+-- Contexts: the threads that run what is queued, workqueue by workqueue. The code calls a workqueue a lane.
 use Rattle.std.specs.Prelude.{ℕ, List, ◌∷◌, map, flat_map}
 use Rattle.std.specs.List.{range_with_len}
 use Rattle.wq_core.specs.declared.step.Context.{Context}

@@ -1,4 +1,4 @@
-//! Who calls the runtime; what the thread of a caller is given, and what it hands back.
+//! Callers of the runtime: what the thread of one is given, and what it hands back.
 //!
 //! The thread is started with a promise of what it hands back: that this very caller did what it says of its calls.
 
@@ -11,7 +11,7 @@ use std::sync::Wait;
 use std::thread::Promise;
 use wq_api::{CallError, Naming, Seat, WqRuntime};
 
-/// Who calls a runtime, in a thread of its own.
+/// A caller of a runtime, in a thread of its own.
 pub trait Caller {
     ghost use Rattle.std.specs.Prelude.{ℕ, List, Result};
     ghost use Rattle.wq_core.specs.Wiring.{Wiring};

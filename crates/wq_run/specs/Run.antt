@@ -22,7 +22,7 @@ pub record IsRunnableInput {R : Type 0} (remaining : R → Option (List ℕ)) (o
   pub given : GivesText remaining old new max_declaration text
   pub runnable : IsRunnable text
 
--- the texts of a command that has only this one
+-- the texts of a command with this text alone
 abbrev pub only : List ℕ → Given
 only text = record { first = text; second = []; third = [] }
 

@@ -52,7 +52,7 @@ impl<A: Allocator + Copy> Finds<A> for RunCommand {
     ghost answers = { λ command s _ found end out. FindsRun command.helpers s found end out };
 }
 
-/// The texts of a command that has only this one.
+/// The texts of a command with this text alone.
 fn only<A: Allocator + Copy>(alloc: A, text: Vec<u8, A>) -> Texts<A>
     ensures { result ≡ only text.items }
 {
@@ -211,8 +211,7 @@ pub fn carry_out_run<
 ) -> Result<End, Stopped<RunStop>>
     requires few_helpers { command.now.helpers ≤ max_helpers }
 
-    // The answer to the text that the reader had is written, and nothing else; then
-    // it is said what there is to be said.
+    // The answer to the text that the reader had is written, and nothing else; then what there is to be said is said.
     ensures answered { IfOk result (λ end.
         IsAnsweredByRun command.now.helpers D.remaining declaration.old declaration.new end
         (WritesWhole W.contents writer.old writer.new)

@@ -1,4 +1,4 @@
--- Crews: the calls of the two callers who run a plan.
+-- Crews: the calls of the two callers that run a plan.
 use Rattle.std.specs.Prelude.{ℕ, ◌%◌, ◌==◌, List, [], ◌∷◌, ◌++◌, map}
 use Rattle.std.specs.List.{filter, range_with_len}
 use Rattle.wq_script.specs.declared.acting.Act.{Act}

@@ -1,4 +1,4 @@
-//! Who runs a plan: a scripted body for each rescuer and each helper, and two scripted callers that share the items.
+//! The crew of a plan: a scripted body for each rescuer and each helper, and two scripted callers that share the items.
 //!
 //! The bodies make the flushes that their items declare. A body or a caller takes time and memory in the number of
 //! items, and all bodies together in that times their number: 4 bytes for each pair of an item and a body.

@@ -31,7 +31,7 @@ pub record IsSaidOf (file what text : List ℕ) : Type 0 where
   pub lines : text ≡ shown_lines (plain_head file (line ∷ column ∷ []) what ∷ more)
   pub plain : IsPlain text
 
--- one block of lines for each of these words, in their order; each block begins with this file and says the words
+-- a block of lines for each of these, in their order: it begins with the name of the file, and says the words
 abbrev pub AreSaid : List ℕ → List (List ℕ) → List ℕ → Type 0
 AreSaid file [] text = text ≡ []
 AreSaid file (what ∷ more) text =

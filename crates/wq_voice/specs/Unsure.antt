@@ -133,7 +133,7 @@ abbrev pub AreHangNotes : Bool → List ℕ → Declared → Workqueues → List
 AreHangNotes false file s ws hops notes = notes ≡ []
 AreHangNotes true file s ws hops notes = AreNotesOf file s ws (needs hops) notes
 
--- the words of this file: the waits of a walk, and behind them these notes
+-- what is said in this file: the waits of a walk, and behind them these notes
 abbrev pub TellsHang : List ℕ → (Hop → List ℕ) → Declared → Workqueues → List Hop → List ℕ → Type 0
 TellsHang file words s ws hops text =
     (reason : List ℕ) × (notes : List ℕ) × (text ≡ reason ++ notes)

@@ -1,4 +1,4 @@
-//! What is said beside `safe` of workqueues.
+//! What is said beside `safe` about workqueues.
 //!
 //! A call takes the time and the memory of reading the names of the workqueues, and of the words; and time linear in
 //! the number of items.

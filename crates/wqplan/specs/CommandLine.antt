@@ -225,7 +225,7 @@ abbrev pub GivesArguments : List Row → Asked → Type 0
 GivesArguments rows asked = (files_in (file_form asked.verb) rows ≡ Some asked.files)
     × (behind_in (tail_form asked.verb) rows ≡ asked.behind) × IsRead (tail_form asked.verb) rows
 
--- a command that was met, with its matches, asks for this
+-- the words ask for this, if they led to this command with these matches
 abbrev pub AsksFor : Option (Text × List Row) → Asked → Type 0
 AsksFor met wanted = (rows : List Row) × (met ≡ Some (command_name wanted.verb, rows)) × GivesArguments rows wanted
 

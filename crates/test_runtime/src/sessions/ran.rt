@@ -22,8 +22,8 @@ pub(crate) enum Account {
 
 /// A body or a caller of which something is printed.
 pub(crate) trait Shown {
-    /// The code of its last fault, 0 if there was none, and whether it has seen
-    /// all that it looked for; none if it counts neither.
+    /// The code of the doer's last fault, or 0, and whether it has seen everything that it looked for; `None` if it
+    /// counts neither.
     fn shown(&self) -> Option<(u32, bool)>;
 }
 

@@ -37,7 +37,8 @@ pub fn without_helpers(words: &[String]) -> Option<(u8, &[String])> {
 }
 
 impl<'a> Setting<'a> {
-    /// The files at these paths, as many rows as a word says, if the word is a number, and this many helpers.
+    /// The files at these paths, the number of rows in this word, and this many helpers; `None` if the word is no
+    /// number.
     pub fn parse(
         declaration: &'a str,
         assignment: &'a str,
