@@ -276,7 +276,7 @@ module _ (d : Declaration) (old start : Workqueues) (names : List ℕ) (s : Scop
     safe = safe;
   }
 
--- who is on a lane with a rescuer is among those that need one
+-- each group on a lane with a rescuer is among those that need one
 pub CoversRescued-needed : (d : Declaration) (old : Workqueues) (names : List ℕ) (needed : List Bool)
     → Marks (NeedsRescuerOf d old names) d.groups needed → CoversRescued d old needed
 CoversRescued-needed d old names needed are g below rescued =

@@ -77,7 +77,7 @@ pub record CanBePlaced (old : Workqueues) (given stays leaves : List Bool) (rank
       → (h : ℕ) × (h < length leaves) × (lane_in old h ≡ lane_in old g) × (¬ IsMarked leaves h)
   pub fine : (g : ℕ) → IsMarked stays g → IsRescued old (lane_in old g) ⊎ IsMarked given (lane_in old g)
 
--- where who leaves comes to a lane that held somebody, a movable group was on it
+-- if a group that leaves moves to a lane that held groups, a movable group was on it
 abbrev pub AreHosted : Workqueues → List Bool → List Bool → Workqueues → Type 0
 AreHosted old movable leaves new = (g : ℕ) → g < length leaves → IsMarked leaves g → HoldsAny old (lane_in new g)
     → HoldsMarked old movable (lane_in new g)

@@ -20,12 +20,12 @@ pub record Scope : Type 0 where
   pub movable : List Bool
   pub given : List Bool
 
--- who is on a lane with a rescuer is among those that need one
+-- each group on a lane with a rescuer is among those that need one
 abbrev pub CoversRescued : Declaration → Workqueues → List Bool → Type 0
 CoversRescued d old needed = (g : ℕ) → g < d.groups → IsRescued old (lane_in old g) → IsMarked needed g
 
--- the lists say which groups may move and which lanes are given a rescuer; and who is on a lane with a rescuer is among
--- those that need one
+-- the lists say which groups may move and which lanes are given a rescuer; and each group on a lane with a rescuer is
+-- among those that need one
 pub record IsScope (d : Declaration) (old : Workqueues) (names : List ℕ) (s : Scope) : Type 0 where
   pub assignment : IsAssignment d.groups old.assignment
   pub one_each : length s.needed ≡ d.groups
@@ -48,7 +48,7 @@ pub record IsGraphOfNeeded (d : Declaration) (needed : List Bool) (graph : List 
   pub arcs : (g h : ℕ) → HasArc graph g h ↔ (IsMarked needed g × IsMarked needed h × GroupWaits d g h)
 
 -- it may be compared, all changes are needed, and numbers fall along all waits. A group is on each new lane, and on
--- each old one that has a rescuer now and had none. Who moved to a lane that held somebody moved to a named one
+-- each old one that has a rescuer now and had none. A group that moved to a lane that held groups moved to a named one
 pub record IsMinimal (d : Declaration) (old : Workqueues) (names : List ℕ) (needed : List Bool)
     (new : Workqueues) : Type 0 where
   pub compared : IsToBeCompared d old names new
