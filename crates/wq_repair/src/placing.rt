@@ -5,8 +5,8 @@
 //! lane, or to a new one. (All groups need a rescuer on a lane to which groups go. So a movable group was on it
 //! exactly if it is named.) It takes time and memory in the number of groups and lanes.
 
-ghost use Rattle.std.specs.Prelude.{◌≡◌, ◌<◌, ◌≤◌, ◌⊎◌, ℕ, length, slice_index, IfOk, IsSome, IsTrue};
-ghost use Rattle.wq_repair.specs.Changes.{IsRescued, lane_in};
+ghost use Rattle.std.specs.Prelude.{◌≡◌, ◌<◌, ◌≤◌, ℕ, length, slice_index, IfOk, IsSome, IsTrue};
+ghost use Rattle.wq_repair.specs.Changes.{IsRescued};
 ghost use Rattle.wq_repair.specs.Marks.{IsMarked, Marks};
 ghost use Rattle.wq_repair.specs.Steps.{ArePlacedBy};
 ghost use Rattle.wq_repair.specs.Together.{AreListed, Lists};

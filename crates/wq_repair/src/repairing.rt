@@ -5,10 +5,10 @@
 //! `wq_choice` says, if it is right (`checking`), and else as many as a plain loop finds (`plain`). The others go to
 //! lanes of their rank.
 
-ghost use Rattle.std.specs.Prelude.{◌≡◌, ◌⊎◌, ◌<◌, ◌≤◌, ℕ, List, true, length, map, not, slice_index, IfOk, OnErr};
+ghost use Rattle.std.specs.Prelude.{◌≡◌, ◌<◌, ℕ, List, length, map, not, slice_index, IfOk, OnErr};
 ghost use Rattle.std.specs.Prelude.{IfSome, IfNone};
 ghost use Rattle.std.specs.List.{All};
-ghost use Rattle.wq_groups.specs.Declaration.{Declaration, IsDeclaration};
+ghost use Rattle.wq_groups.specs.Declaration.{IsDeclaration};
 ghost use Rattle.wq_groups.specs.DeclaredGroups.{declared_waits};
 ghost use Rattle.wq_core.specs.Workqueues.{wiring_of};
 ghost use Rattle.wq_core.specs.Deadlock.{Deadlocks};

@@ -1,4 +1,4 @@
-use Rattle.std.proofs.Common.{◌<◌, arith}
+use Rattle.std.proofs.Common.{arith}
 use Rattle.wq_repair.proofs.Marks.{IsMarked-below}
 use Rattle.wq_repair.proofs.checking.are_within.Goals as goal
 
