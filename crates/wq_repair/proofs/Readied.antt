@@ -7,7 +7,6 @@ use Rattle.wq_groups.specs.Declaration.{Declaration, IsDeclaration, GroupWaits}
 use Rattle.wq_groups.specs.Assignment.{IsAssignment}
 use Rattle.wq_graph.specs.declared.arc.WaitArc.{WaitArc}
 use Rattle.wq_graph.specs.Graph.{HasArc, IsGraph}
-use Rattle.wq_levels.proofs.Ranks.{AreRanks-fall, AreRanks-few}
 use Rattle.wq_core.specs.Workqueues.{Workqueues}
 use Rattle.wq_core.proofs.LaneCircles.{Circle-map}
 use Rattle.wq_deadlock.specs.Judging.{rescued_graph}
@@ -21,7 +20,7 @@ use Rattle.wq_repair.specs.Ready.{Scope, IsReady, IsGraphOfNeeded, IsMinimal, Is
 use Rattle.wq_repair.specs.Settled.{Settled, IsSettled, WasInVain, StaysOr}
 use Rattle.wq_repair.proofs.Marks.{IsMarked-below, cases_marked}
 use Rattle.wq_repair.proofs.Rescuers.{cases_rescued, waiting-below, awaited-below}
-use Rattle.wq_repair.proofs.Judged.{group_arc, length-rescued_graph, IsGraph-rescued_graph, rescued_awaited-safe}
+use Rattle.wq_repair.proofs.Judged.{AreRanksOnLanes-by, rescued_awaited-safe}
 use Rattle.wq_repair.proofs.Placed.{IsToBeCompared-placed, AreChangesNeeded-placed, FallsAlongWaits-placed}
 
 -- all numbers below n are so, or one isn't
@@ -120,41 +119,6 @@ module _ (d : Declaration) (old : Workqueues) (names : List ℕ) (s : Scope) (st
     -- before any group is tried, those that can't move stay, and the ranks of the start fall along all arcs
     module _ (few : start.assignment.lanes ≤ 4096) (ranks : List ℕ) (of_groups : AreRanksOfGroups d start ranks)
         (fixed tried : List Bool) (are_fixed : Marks (IsButNot s.needed s.movable) d.groups fixed) where
-      lane_start : (g : ℕ) → g < d.groups → lane_in start g < length (rescued_graph d start)
-      lane_start g is = omega (
-        arith,
-        ready.by.within g (below g is),
-        length-rescued_graph d start declaration IsAssignment-start,
-      )
-
-      sound : IsGraph (rescued_graph d start)
-      sound = IsGraph-rescued_graph d start declaration IsAssignment-start few
-
-      low-start : (g : ℕ) → g < length graph → slice_index ranks g < 4096
-      low-start g lt =
-          let is : g < d.groups = omega (arith, lt, of.long) in
-          let rank_below = AreRanks-few (rescued_graph d start) of_groups.of_lanes sound of_groups.are
-          (lane_in start g) 0
-          (omega (arith, lane_start g is, of_groups.are.one_each)) in
-          omega (
-            arith,
-            of_groups.exactly g is,
-            rank_below,
-            length-rescued_graph d start declaration IsAssignment-start,
-            few,
-          )
-
-      fall-start : (g h : ℕ) → HasArc graph g h → slice_index ranks h < slice_index ranks g
-      fall-start g h has =
-          let parts = (of.arcs g h).0 has in
-          let g_is = waiting-below d declaration g h parts.2 in
-          let h_is = awaited-below d declaration g h parts.2 in
-          let arc = group_arc d start declaration IsAssignment-start g h parts.2 (ready.rescued g g_is parts.0)
-          (ready.rescued h h_is parts.1) in
-          let falls = AreRanks-fall (rescued_graph d start) of_groups.of_lanes sound of_groups.are (lane_in start g)
-          (lane_in start h) (lane_start g g_is) arc in
-          omega (arith, falls, of_groups.exactly g g_is, of_groups.exactly h h_is)
-
       lane-fixed : (g : ℕ) → IsMarked fixed g → (g < d.groups) × (lane_in start g ≡ lane_in old g)
       lane-fixed g marked =
           let is = marked_below fixed g are_fixed.one_each marked in
@@ -164,17 +128,12 @@ module _ (d : Declaration) (old : Workqueues) (names : List ℕ) (s : Scope) (st
       IsSettled-start = record {
         one_each = are_fixed.one_each ∙ sym of.long;
         within = record { kept = λ g marked. marked; only = λ g marked. inl marked };
-        ranks = of_groups.one_each ∙ sym of.long;
-        low = low-start;
-        fall = fall-start;
-        same = λ g h g_stays h_stays lane.
+        ranks = AreRanksOnLanes-by d start declaration IsAssignment-start few s.needed graph of ready.rescued ranks
+            of_groups old.assignment fixed (λ g h g_stays h_stays lane.
             let g_at = lane-fixed g g_stays in
             let h_at = lane-fixed h h_stays in
-            of_groups.exactly g g_at.0
-            ∙ ap (slice_index of_groups.of_lanes) (g_at.1 ∙ lane ∙ sym h_at.1)
-            ∙ sym (of_groups.exactly h h_at.0);
-        vain = λ g lt. absurd (omega (arith, lt));
-        held = λ g lt. absurd (omega (arith, lt));
+            (g_at.0, h_at.0, g_at.1 ∙ lane ∙ sym h_at.1));
+        each = λ g lt. absurd (omega (arith, lt));
       }
 
     -- ---- all groups are settled
@@ -261,7 +220,7 @@ module _ (d : Declaration) (old : Workqueues) (names : List ℕ) (s : Scope) (st
           → (h : ℕ) × (h < d.groups) × (lane_in old h ≡ lane_in old g) × (¬ IsMarked leaves h)
       held-leaving g lt leaving = elim (tried_or_not g lt (leaves_parts g lt leaving).0) [
         | inl of_tried ↦ (
-            let found = is.held g (in_graph g lt) of_tried in (
+            let found = (is.each g (in_graph g lt) of_tried).0 in (
               found.group,
               marked_below settled.stays found.group stays_long found.marked,
               found.beside,
@@ -321,7 +280,7 @@ module _ (d : Declaration) (old : Workqueues) (names : List ℕ) (s : Scope) (st
         why g lt leaving =
             let parts = leaves_parts g lt leaving in
             elim (tried_or_not g lt parts.0) [
-              | inl of_tried ↦ inr (in_vain g (is.vain g (in_graph g lt) of_tried parts.1))
+              | inl of_tried ↦ inr (in_vain g ((is.each g (in_graph g lt) of_tried).1 parts.1))
               | inr not ↦ inl not
             ]
 
@@ -334,7 +293,7 @@ module _ (d : Declaration) (old : Workqueues) (names : List ℕ) (s : Scope) (st
               (leaves_parts g lt marked).0 in (movable_named g lt movable, movable_needed g lt movable);
           why = why;
           others = others;
-          fall = λ g h waits needs. is.fall g h ((of.arcs g h).1 (needs, needed_next g h waits needs, waits));
+          fall = λ g h waits needs. is.ranks.fall g h ((of.arcs g h).1 (needs, needed_next g h waits needs, waits));
         }
 
         ranked : (g : ℕ) → g < d.groups → IsMarked s.needed g

@@ -17,10 +17,7 @@ use Rattle.wq_repair.proofs.Readied.{fine-staying, apart-staying, held-leaving, 
 -- the groups of one list that aren't in another, where both lists are known by other names
 pub Marks-but_not : (one other first second both : List Bool) (n : ℕ) → first ≡ one → second ≡ other → length one ≡ n →
     Marks (IsButNot first second) (length first) both → Marks (IsButNot one other) n both
-Marks-but_not one other first second both n same also long is =
-    subst (λ (k : ℕ). Marks (IsButNot one other) k both) long
-    (subst (λ (xs : List Bool). Marks (IsButNot xs other) (length xs) both) same
-    (subst (λ (ys : List Bool). Marks (IsButNot first ys) (length first) both) also is))
+Marks-but_not one other first second both n same also long is = rw (same, also, long) at is
 
 -- the graph of those that need a rescuer, where the list of them is known by another name
 pub graph-by : {d : Declaration} {s inside : Scope} {slice : List Bool} {graph : List (List WaitArc)} → IsDeclaration d
@@ -34,34 +31,21 @@ graph-by {d = d} {s = s} {graph = graph} declaration long view same is =
 -- the same of lists that are known by other names
 pub IsTried-as : (old : Workqueues) (s : Scope) {xs ys : List Bool} {n m : ℕ} → xs ≡ ys → m ≡ n
     → Marks (IsTried old s) m ys → Marks (IsTried old s) n xs
-IsTried-as old s {ys = ys} {n = n} same long is =
-    subst (Marks (IsTried old s) n) (sym same) (subst (λ (k : ℕ). Marks (IsTried old s) k ys) long is)
+IsTried-as old s same long is = rw same (rw long at is)
 
 pub can-as : {old : Workqueues} {given stays leaves xs ys zs : List Bool} {ranks rs : List ℕ} {most : ℕ} → xs ≡ given
     → ys ≡ stays → zs ≡ leaves → rs ≡ ranks
     → CanBePlaced old given stays leaves ranks most → CanBePlaced old xs ys zs rs most
-can-as {old = old} {stays = stays} {leaves = leaves} {xs = xs} {ys = ys} {zs = zs} {ranks = ranks} {most = most} one
-    two three four can =
-    subst (λ (k : List ℕ). CanBePlaced old xs ys zs k most) (sym four)
-    (subst (λ (k : List Bool). CanBePlaced old xs ys k ranks most) (sym three)
-    (subst (λ (k : List Bool). CanBePlaced old xs k leaves ranks most) (sym two)
-    (subst (λ (k : List Bool). CanBePlaced old k stays leaves ranks most) (sym one) can)))
+can-as one two three four can = rw (one, two, three, four) can
 
 pub placed-as : {old new : Workqueues} {given stays leaves xs ys zs : List Bool} {ranks rs : List ℕ} → xs ≡ given
     → ys ≡ stays → zs ≡ leaves → rs ≡ ranks
     → ArePlacedBy old xs ys zs rs new → ArePlacedBy old given stays leaves ranks new
-placed-as {old = old} {new = new} {given = given} {stays = stays} {leaves = leaves} {ys = ys} {zs = zs} {rs = rs} one
-    two three four placed =
-    subst (λ (k : List ℕ). ArePlacedBy old given stays leaves k new) four
-    (subst (λ (k : List Bool). ArePlacedBy old given stays k rs new) three
-    (subst (λ (k : List Bool). ArePlacedBy old given k zs rs new) two
-    (subst (λ (k : List Bool). ArePlacedBy old k ys zs rs new) one placed)))
+placed-as one two three four placed = rw (one, two, three, four) at placed
 
 pub hosted-as : (old new : Workqueues) {movable leaves xs zs : List Bool} → xs ≡ movable → zs ≡ leaves
     → AreHosted old xs zs new → AreHosted old movable leaves new
-hosted-as old new {movable = movable} {zs = zs} one two hosted =
-    subst (λ (k : List Bool). AreHosted old movable k new) two
-    (subst (λ (k : List Bool). AreHosted old k zs new) one hosted)
+hosted-as old new one two hosted = rw (one, two) at hosted
 
 -- of what is settled
 module _ {d : Declaration} {old : Workqueues} {s : Scope} {tried : List Bool} {settled : Settled}
@@ -70,7 +54,7 @@ module _ {d : Declaration} {old : Workqueues} {s : Scope} {tried : List Bool} {s
   stays_long-by = is.is.one_each ∙ is.of.long
 
   pub ranks_long-by : length settled.ranks ≡ d.groups
-  ranks_long-by = is.is.ranks ∙ is.of.long
+  ranks_long-by = is.is.ranks.one_each ∙ is.of.long
 
 module _ {d : Declaration} {old : Workqueues} {names : List ℕ} {s : Scope} {start : Workqueues} {tried : List Bool}
     (declaration : IsDeclaration d) (ready : IsReady d old names s start)
@@ -92,10 +76,10 @@ module _ {d : Declaration} {old : Workqueues} {names : List ℕ} {s : Scope} {st
       (are_leaving : Marks (IsButNot s.movable settled.stays) d.groups leaves) where
     pub CanBePlaced-by : (most : ℕ) → most ≡ 4096 → CanBePlaced old s.given settled.stays leaves settled.ranks most
     CanBePlaced-by most is_most = record {
-      below = λ g lt. omega (arith, is.is.low g (omega (arith, lt, is.is.ranks)), is_most);
+      below = λ g lt. omega (arith, is.is.ranks.low g (omega (arith, lt, is.is.ranks.one_each)), is_most);
       apart = apart-staying d old names s start declaration ready is.graph is.of is.fixed tried leaves settled
           is.are_fixed are_tried is.is are_leaving;
-      same = is.is.same;
+      same = is.is.ranks.same;
       held = λ g lt leaving.
           let long = are_leaving.one_each in
           let held = held-leaving d old names s start declaration ready is.graph is.of is.fixed tried leaves settled

@@ -6,7 +6,7 @@ use Rattle.wq_core.specs.Workqueues.{Workqueues}
 use Rattle.wq_repair.specs.Ready.{Scope, IsTrial}
 use Rattle.wq_repair.specs.Settled.{IsSettled}
 use Rattle.wq_repair.proofs.Readied.{IsSettled-start}
-use Rattle.wq_repair.proofs.Settling.{IsSettled-skip}
+use Rattle.wq_repair.proofs.Settling.{IsSettled-next}
 use Rattle.wq_repair.proofs.plain.settle.Goals as goal
 
 pub ranks_of_start-requires : goal.ranks_of_start-requires
@@ -39,11 +39,11 @@ pub loop-group-preserved-then-not-is_tried : goal.loop-group-preserved-then-not-
 loop-group-preserved-then-not-is_tried g c = record {
   one_each = c.loop-group.invariant.one_each;
   settled = λ graph trial.
-      IsSettled-skip graph c.args.old.now.assignment c.args.fixed.now c.args.tried.now c.loop-group.group
+      IsSettled-next graph c.args.old.now.assignment c.args.fixed.now c.args.tried.now c.loop-group.group
       c.loop-group.settled
       (c.loop-group.invariant.settled graph trial)
       (omega (arith, c.loop-group-test.true, c.requires.tried, trial.of.long))
-      (λ marked. false≢true (sym c.if-not-is_tried.true ∙ marked));
+      (λ marked. absurd (false≢true (sym c.if-not-is_tried.true ∙ marked)));
 }
 
 pub try_group-requires-clause-assigned : goal.try_group-requires-clause-assigned

@@ -1,9 +1,7 @@
-use Rattle.std.proofs.Common.{ℕ, Bool, List, length, sym, ap, subst, ◌∙◌}
+use Rattle.std.proofs.Common.{sym, ap, subst, ◌∙◌}
 use Rattle.std.proofs.lemmas.Result.{IfOk-weaker}
 use Rattle.wq_groups.specs.DeclaredGroups.{declared_waits}
-use Rattle.wq_groups.specs.Assignment.{Assignment}
 use Rattle.wq_repair.specs.Marks.{Marks}
-use Rattle.wq_repair.specs.Settled.{IsSettled}
 use Rattle.wq_repair.specs.Ready.{Scope, IsButNot, IsGraphOfNeeded}
 use Rattle.wq_repair.proofs.RepairedBy.{Marks-but_not, graph-by, IsTrial-ready}
 use Rattle.wq_repair.proofs.repairing.settled.Goals as goal
@@ -38,26 +36,17 @@ returns-then-branch g c =
     let of : IsGraphOfNeeded d s.needed c.in_ok-graph.graph =
     graph-by c.workqueues_of-few.ensures.declaration ready.scope.one_each c.scope.view_is c.as_slice.ensures.value
     c.in_ok-graph.ensures in
-    let graph = c.in_ok-graph.graph in
-    let tried = c.args.tried.now in
-    let n = length graph in
-    let is = subst (λ (a : Assignment). IsSettled graph a c.as_slice-6.result.now tried n
-    (record { stays = c.as_slice-7.result.now; ranks = c.as_slice-8.result.now }))
-    c.assignment-assignment.ensures (c.in_ok-is_settled.ensures c.if-branch.true) in
-    let old = c.args.old.now.assignment in
     record {
-      graph = graph;
+      graph = c.in_ok-graph.graph;
       fixed = fixed;
       of = of;
       are_fixed = are_fixed;
-      is =
-          subst (λ (rs : List ℕ). IsSettled graph old fixed tried n
-          (record { stays = c.in_ok-choice.choice.stays.items; ranks = rs })) c.as_slice-8.ensures.value
-          (subst (λ (xs : List Bool). IsSettled graph old fixed tried n
-          (record { stays = xs; ranks = c.as_slice-8.result.now })) c.as_slice-7.ensures.value
-          (subst (λ (xs : List Bool). IsSettled graph old xs tried n
-          (record { stays = c.as_slice-7.result.now; ranks = c.as_slice-8.result.now })) c.as_slice-6.ensures.value
-          is));
+      is = rw (
+        c.assignment-assignment.ensures,
+        c.as_slice-6.ensures.value,
+        c.as_slice-7.ensures.value,
+        c.as_slice-8.ensures.value,
+      ) at (c.in_ok-is_settled.ensures c.if-branch.true);
     }
 
 pub returns : goal.returns
@@ -74,12 +63,13 @@ returns g c =
     let of : IsGraphOfNeeded d s.needed c.in_ok-graph.graph =
     graph-by c.workqueues_of-few.ensures.declaration ready.scope.one_each c.scope.view_is c.as_slice.ensures.value
     c.in_ok-graph.ensures in
+    let same = subst (Marks (IsButNot s.needed s.movable) d.groups) (sym c.as_slice-else-branch.ensures.value)
+    are_fixed in
     IfOk-weaker c.settle.result _ _ (λ settled all. record {
       graph = c.in_ok-graph.graph;
       fixed = c.as_slice-else-branch.result.now;
       of = of;
-      are_fixed = subst (Marks (IsButNot s.needed s.movable) d.groups)
-          (sym c.as_slice-else-branch.ensures.value) are_fixed;
-      is = all c.in_ok-graph.graph (IsTrial-ready c.workqueues_of-few.ensures.declaration ready c.requires.tried of
-          (subst (Marks (IsButNot s.needed s.movable) d.groups) (sym c.as_slice-else-branch.ensures.value) are_fixed));
+      are_fixed = same;
+      is = all c.in_ok-graph.graph
+          (IsTrial-ready c.workqueues_of-few.ensures.declaration ready c.requires.tried of same);
     }) c.settle.ensures
