@@ -6,10 +6,8 @@ use Rattle.std.proofs.lemmas.List.{get_or_default}
 use Rattle.wq_groups.specs.Declaration.{Declaration, IsDeclaration, GroupWaits}
 use Rattle.wq_groups.specs.Assignment.{IsAssignment}
 use Rattle.wq_graph.specs.declared.arc.WaitArc.{WaitArc}
-use Rattle.wq_graph.specs.Graph.{HasArc, IsGraph}
 use Rattle.wq_core.specs.Workqueues.{Workqueues}
 use Rattle.wq_core.proofs.LaneCircles.{Circle-map}
-use Rattle.wq_deadlock.specs.Judging.{rescued_graph}
 use Rattle.wq_repair.specs.Changes.{IsRescued, IsBare, IsNamed, IsNamedLane, HoldsAny, HasMoved, lane_in}
 use Rattle.wq_repair.specs.Marks.{IsMarked, Marks}
 use Rattle.wq_repair.specs.Joined.{VerticesWait, StaysOrIs, IsTriedInVain}
