@@ -1,6 +1,6 @@
 -- What a verdict on workqueues says of groups.
-use Rattle.std.proofs.Common.{◌≡◌, ℕ, ◌<◌, ◌≤◌, inl, inr, Bool, true, false, not, List, [], ◌∷◌, length, refl, sym, ap, subst, ◌∙◌}
-use Rattle.std.proofs.Common.{arith}
+use Rattle.std.proofs.Common.{◌≡◌, ℕ, ◌<◌, ◌≤◌, inl, inr, Bool, true, false, not, List, [], ◌∷◌, length, refl}
+use Rattle.std.proofs.Common.{sym, ap, subst, ◌∙◌, arith}
 use Rattle.std.specs.Prelude.{◌↔◌, ◌&&◌, slice_get, slice_index, Some, Contains}
 use Rattle.std.proofs.lemmas.Bool.{false≢true}
 use Rattle.std.proofs.lemmas.Option.{get_or_from_slice_get}
@@ -30,7 +30,8 @@ use Rattle.wq_repair.specs.Joined.{HangsRound, IsStart}
 use Rattle.wq_repair.specs.Marks.{IsMarked}
 use Rattle.wq_repair.specs.Ready.{IsGraphOfNeeded, AreRanksOfGroups}
 use Rattle.wq_repair.specs.Settled.{AreRanksOnLanes}
-use Rattle.wq_repair.proofs.Rescuers.{rescued-awaited, waiting-below, awaited-below, Deadlocks-round, LaneWaits-group_waits}
+use Rattle.wq_repair.proofs.Rescuers.{rescued-awaited, waiting-below, awaited-below, Deadlocks-round}
+use Rattle.wq_repair.proofs.Rescuers.{LaneWaits-group_waits}
 use Rattle.wq_repair.proofs.Starts.{Deadlocks-start_bare, Deadlocks-start_circle}
 
 leads : (src dst : Bool) → (not src && dst) ≡ true → (src ≡ false) × (dst ≡ true)

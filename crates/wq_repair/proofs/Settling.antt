@@ -232,32 +232,32 @@ module _ (graph : List (List WaitArc)) (old : Assignment) (fixed tried : List Bo
   }
 
   -- it stays
-  module _ (marked_g : IsMarked tried g) (ranks : List ℕ) (are : AreRanksOnLanes graph old (set s.stays g true) ranks)
-    where
-      pub IsSettled-stays : IsSettled graph old fixed tried (g + 1) (record { stays = set s.stays g true; ranks = ranks })
-      IsSettled-stays = record {
-        one_each = length-set s.stays g true ∙ is.one_each;
-        within = record {
-          kept = λ h marked. kept-with s.stays g h (is.within.kept h marked);
-          only = λ h marked. elim (was-with s.stays g h marked) [
-            | inl last ↦ inr (subst (IsMarked tried) (sym last) marked_g)
-            | inr stay ↦ is.within.only h stay
-          ];
-        };
-        ranks = are;
-        each = λ h lt marked. elim (before h lt) [
-          | inl last ↦ (
-            record { group = g; marked = is-with s.stays g g_below; beside = ap (group_lane old) (sym last) },
-            λ out. absurd (out (subst (IsMarked more) (sym last) (is-with s.stays g g_below))),
-          )
-          | inr earlier ↦
-              let (held, vain) = is.each h earlier marked in (
-                record { group = held.group; marked = kept-with s.stays g held.group held.marked; beside = held.beside },
-                λ out. WasInVain-more graph old s.stays more h (kept-with s.stays g)
-                    (vain (λ stay. out (kept-with s.stays g h stay))),
-              )
+  module _ (marked_g : IsMarked tried g) (ranks : List ℕ)
+      (are : AreRanksOnLanes graph old (set s.stays g true) ranks) where
+    pub IsSettled-stays : IsSettled graph old fixed tried (g + 1) (record { stays = set s.stays g true; ranks = ranks })
+    IsSettled-stays = record {
+      one_each = length-set s.stays g true ∙ is.one_each;
+      within = record {
+        kept = λ h marked. kept-with s.stays g h (is.within.kept h marked);
+        only = λ h marked. elim (was-with s.stays g h marked) [
+          | inl last ↦ inr (subst (IsMarked tried) (sym last) marked_g)
+          | inr stay ↦ is.within.only h stay
         ];
-      }
+      };
+      ranks = are;
+      each = λ h lt marked. elim (before h lt) [
+        | inl last ↦ (
+          record { group = g; marked = is-with s.stays g g_below; beside = ap (group_lane old) (sym last) },
+          λ out. absurd (out (subst (IsMarked more) (sym last) (is-with s.stays g g_below))),
+        )
+        | inr earlier ↦
+            let (held, vain) = is.each h earlier marked in (
+              record { group = held.group; marked = kept-with s.stays g held.group held.marked; beside = held.beside },
+              λ out. WasInVain-more graph old s.stays more h (kept-with s.stays g)
+                  (vain (λ stay. out (kept-with s.stays g h stay))),
+            )
+      ];
+    }
 
   -- no group stays on its lane yet
   pub IsSettled-first : IsMarked tried g → ((h : ℕ) → IsMarked s.stays h → ¬ (group_lane old h ≡ group_lane old g))

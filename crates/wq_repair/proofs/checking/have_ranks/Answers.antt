@@ -15,14 +15,14 @@ loop-group-preserved g c =
     let i = c.loop-group.group in
     record {
       low = λ k lt. elim (cases_eq k i) [
-        | inl last ↦ omega (arith, ap (slice_index ranks) last, c.number_at.ensures, c.if-rank-ge-RANKS.false)
+        | inl last ↦ omega (arith, ap (slice_index ranks) last, c.number_at-rank.ensures, c.if-rank-ge-RANKS.false)
         | inr other ↦ c.loop-group.invariant.low k (omega (arith, lt, other))
       ];
       same = λ k lt. elim (cases_eq k i) [
         | inl last ↦
             ap (λ (x : ℕ). slice_index ranks (slice_index at x)) last
-            ∙ ap (slice_index ranks) (sym c.number_at-2.ensures) ∙ sym c.number_at-3.ensures
-            ∙ c.if-number_at.false ∙ c.number_at.ensures ∙ ap (slice_index ranks) (sym last)
+            ∙ ap (slice_index ranks) (sym c.number_at-vertex.ensures) ∙ sym c.number_at.ensures
+            ∙ c.if-number_at-rank.false ∙ c.number_at-rank.ensures ∙ ap (slice_index ranks) (sym last)
         | inr other ↦ c.loop-group.invariant.same k (omega (arith, lt, other))
       ];
       fall = λ k h lt arc. elim (cases_eq k i) [
@@ -30,7 +30,7 @@ loop-group-preserved g c =
             let here : HasArc graph i h = subst (λ (x : ℕ). HasArc graph x h) last arc in
             let lower = c.is_above.ensures c.if-not-is_above.false h
             (subst (Any (λ (b : WaitArc). b.head ≡ h)) (sym c.arcs.ensures) here) in
-            omega (arith, lower, c.number_at.ensures, ap (slice_index ranks) last)
+            omega (arith, lower, c.number_at-rank.ensures, ap (slice_index ranks) last)
         | inr other ↦ c.loop-group.invariant.fall k h (omega (arith, lt, other)) arc
       ];
     }
