@@ -8,7 +8,7 @@
 //! group that is kept with its home.
 
 use crate::bits::{Numbers, is_in};
-use crate::parts::Parts;
+use crate::parts::{Ordered, Parts};
 use crate::vertex_lists::count_one;
 use std::alloc::{AllocError, Allocator};
 use wq_graph::WaitGraph;
@@ -121,18 +121,19 @@ fn merge<A: Allocator + Copy>(
     Ok(())
 }
 
-/// Keeps some groups with the homes of their lanes. `homes` has the home of each lane, if it has one.
+/// Keeps some groups with the homes of their lanes. `homes` has the home of each lane, if it has one, and `waits` the
+/// waits of the parts. The answer says whether a group is kept, so that there are other parts now.
 fn keep_some<A: Allocator + Copy>(
     alloc: A,
-    graph: &WaitGraph<A>,
+    waits: &Ordered<A>,
     lane_of: &[u16],
     homes: &mut [Option<u16>],
     parts: &mut Parts<A>,
     groups: &[u16],
-) -> Result<(), AllocError> {
+) -> Result<bool, AllocError> {
     let mut asked = beside_homes(alloc, lane_of, homes, groups)?;
-    let waits = parts.waits(alloc, graph)?;
-    let mut leading = parts.leading(alloc, &waits, asked.vertices.as_slice())?;
+    let mut leading = parts.leading(alloc, waits, asked.vertices.as_slice())?;
+    let mut is_kept = false;
     let mut place = asked.first;
     for group in groups {
         let own = place;
@@ -150,6 +151,7 @@ fn keep_some<A: Allocator + Copy>(
                 merge(alloc, leading.as_mut_slice(), home, own)?;
                 if let Some(Some(vertex)) = homes.get(lane) {
                     parts.unite(&[*vertex, *group]);
+                    is_kept = true;
                 }
             }
             _ => {
@@ -162,7 +164,7 @@ fn keep_some<A: Allocator + Copy>(
             }
         }
     }
-    Ok(())
+    Ok(is_kept)
 }
 
 /// Keeps those of these groups together that leave the same lane, as far as that makes no circle.
@@ -176,8 +178,14 @@ pub(crate) fn keep_together<A: Allocator + Copy>(
 ) -> Result<(), AllocError> {
     let leaving = with_others(alloc, lane_of, lanes, leaving)?;
     let mut homes: Vec<Option<u16>, A> = vec![in alloc; None; lanes]?;
+    let mut known: Option<Ordered<A>> = None;
     for groups in leaving.chunks(TOGETHER) {
-        keep_some(alloc, graph, lane_of, homes.as_mut_slice(), parts, groups)?;
+        let waits = match known {
+            Some(waits) => waits,
+            None => parts.ordered(alloc, graph)?,
+        };
+        let is_kept = keep_some(alloc, &waits, lane_of, homes.as_mut_slice(), parts, groups)?;
+        known = if is_kept { None } else { Some(waits) };
     }
     Ok(())
 }

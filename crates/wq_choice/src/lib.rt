@@ -12,6 +12,8 @@ mod choosing;
 mod keeping;
 mod largest;
 mod parts;
+mod sharing;
 mod vertex_lists;
 
 pub use choosing::{Choice, Chooser, LargestSets};
+pub use sharing::shared_lanes;

@@ -20,6 +20,15 @@ const AT_A_TIME: usize = 64 * WORDS;
 /// Of some vertices those that lead to a part, or are in it: a bit for each.
 type Row = [u64; WORDS];
 
+/// The waits of parts.
+#[derive(Drop)]
+pub(crate) struct Ordered<A: Allocator> {
+    /// For each part those for which its vertices wait.
+    pub(crate) waits: VertexLists<A>,
+    /// The parts, each before those to which it leads.
+    pub(crate) downwards: Vec<u16, A>,
+}
+
 /// Which vertices have become one.
 #[derive(Drop)]
 pub(crate) struct Parts<A: Allocator> {
@@ -68,6 +77,13 @@ impl<A: Allocator + Copy> Parts<A> {
         Ok(waits.lists())
     }
 
+    /// The waits of the parts, with an order of the parts.
+    pub(crate) fn ordered(&self, alloc: A, graph: &WaitGraph<A>) -> Result<Ordered<A>, AllocError> {
+        let waits = self.waits(alloc, graph)?;
+        let downwards = downwards(alloc, &waits)?;
+        Ok(Ordered { waits, downwards })
+    }
+
     /// The part of a vertex.
     fn part(&self, vertex: u16) -> u16 {
         match self.part_of.get(usize::from(vertex)) {
@@ -90,8 +106,7 @@ impl<A: Allocator + Copy> Parts<A> {
 
     /// For each vertex the rank of its part: how many waits there are on a longest chain from it.
     pub(crate) fn ranks(&self, alloc: A, graph: &WaitGraph<A>) -> Result<Vec<u16, A>, AllocError> {
-        let waits = self.waits(alloc, graph)?;
-        let downwards = downwards(alloc, &waits)?;
+        let Ordered { waits, downwards } = self.ordered(alloc, graph)?;
         let mut of_parts = vec![in alloc; 0u16; self.part_of.len()]?;
         for place in (0..downwards.len()).rev() {
             let part = downwards[place];
@@ -107,13 +122,11 @@ impl<A: Allocator + Copy> Parts<A> {
         Ok(ranks)
     }
 
-    /// For each part which of these vertices, at most 256, lead to it or are in it. `targets` has for each part those
-    /// for which it waits, and `downwards` the parts, each before those to which it leads.
+    /// For each part which of these vertices, at most 256, lead to it or are in it.
     fn told(
         &self,
         alloc: A,
-        targets: &VertexLists<A>,
-        downwards: &[u16],
+        of_parts: &Ordered<A>,
         vertices: &[u16],
     ) -> Result<Vec<Row, A>, AllocError> {
         let mut rows = vec![in alloc; [0; WORDS]; self.part_of.len()]?;
@@ -122,12 +135,12 @@ impl<A: Allocator + Copy> Parts<A> {
                 row[place / 64 % WORDS] |= 1 << (place % 64);
             }
         }
-        for part in downwards {
+        for part in &of_parts.downwards {
             let row = row_of(rows.as_slice(), *part);
             if row.iter().all(|word| *word == 0) {
                 continue;
             }
-            for target in targets.of(*part) {
+            for target in of_parts.waits.of(*part) {
                 if let Some(told) = rows.get_mut(usize::from(*target)) {
                     add_row(told, &row);
                 }
@@ -136,19 +149,17 @@ impl<A: Allocator + Copy> Parts<A> {
         Ok(rows)
     }
 
-    /// For each of these vertices, each of another part, the places of those of them that lead to it. `targets` has for
-    /// each part those for which it waits.
+    /// For each of these vertices, each of another part, the places of those of them that lead to it.
     pub(crate) fn leading(
         &self,
         alloc: A,
-        targets: &VertexLists<A>,
+        of_parts: &Ordered<A>,
         vertices: &[u16],
     ) -> Result<Vec<Numbers<A>, A>, AllocError> {
-        let downwards = downwards(alloc, targets)?;
         let mut sets = empty_sets(alloc, vertices.len())?;
         let mut first: usize = 0;
         for some in vertices.chunks(AT_A_TIME) {
-            let rows = self.told(alloc, targets, downwards.as_slice(), some)?;
+            let rows = self.told(alloc, of_parts, some)?;
             for (set, vertex) in sets.iter_mut().zip(vertices.iter()) {
                 set.set_words(first, &row_of(rows.as_slice(), self.part(*vertex)));
             }

@@ -20,16 +20,14 @@ use Rattle.wq_levels.proofs.OneCircle.{HasCircle-walked}
 use Rattle.wq_core.specs.declared.step.Step.{Step}
 use Rattle.wq_core.specs.Workqueues.{Workqueues, wiring_of}
 use Rattle.wq_core.specs.Deadlock.{IsSafe, Deadlocks}
-use Rattle.wq_core.proofs.KnotRuns.{Deadlocks-knot}
 use Rattle.wq_core.proofs.LaneCircles.{Circle-map}
 use Rattle.wq_deadlock.specs.Judging.{bare_waits, rescued_graph, AreFirst, IsHang}
-use Rattle.wq_deadlock.proofs.BareLanes.{IsWiring-workqueues, IsKnot-first}
-use Rattle.wq_repair.specs.Changes.{IsRescued, IsNamed, IsNamedLane, lane_in}
+use Rattle.wq_repair.specs.Changes.{IsRescued, IsNamed, lane_in}
 use Rattle.wq_repair.specs.Needed.{BringsAlong, NeedsRescuer, NeedsRescuerOf}
 use Rattle.wq_repair.specs.Marks.{IsMarked, Marks}
 use Rattle.wq_repair.specs.Joined.{NeededWaits, IsStart}
-use Rattle.wq_repair.specs.Steps.{IsToBeGiven, IsMovable, IsStartBy}
-use Rattle.wq_repair.specs.Ready.{Scope, IsReady, IsGraphOfNeeded, IsMinimal}
+use Rattle.wq_repair.specs.Steps.{IsStartBy}
+use Rattle.wq_repair.specs.Ready.{Scope, IsScope, IsReady, IsGraphOfNeeded, IsMinimal, CoversRescued}
 use Rattle.wq_repair.specs.Repair.{IsRepair, AreNamesTooFew, IsNeededCircle}
 use Rattle.wq_repair.proofs.Rescuers.{stays-unnamed, rescued-first, waiting-below, awaited-below, IsLedTo-first, IsLedTo-next, rescued-needed, Deadlocks-needed_circle}
 use Rattle.wq_repair.proofs.Starts.{cases_named}
@@ -261,26 +259,28 @@ module _ (d : Declaration) (old start : Workqueues) (names : List ℕ) (declarat
         (rescued-first d old start names declaration before is.compared led.first led.is_group led.rescued) led.chain)
 
 -- all is ready
-pub IsReady-start : (d : Declaration) (old start : Workqueues) (names : List ℕ) (s : Scope) (named lanes : List Bool) → IsDeclaration d → IsAssignment d.groups old.assignment
-    → Marks (IsNamed d names) d.groups named → Marks (IsNamedLane d old names) old.assignment.lanes lanes → Marks (NeedsRescuerOf d old names) d.groups s.needed
-    → Marks (IsMovable named s.needed) d.groups s.movable → Marks (IsToBeGiven old lanes s.needed) old.assignment.lanes s.given → IsStartBy old s.movable s.given start
-    → IsSafe (wiring_of d start) → IsReady d old names s start
-IsReady-start d old start names s named lanes declaration before are_named are_lanes are_needed are_movable are_given by safe =
-    let is = IsStart-by d old start names named lanes s.needed s.movable s.given before are_named are_lanes are_needed are_movable are_given by in
-    record {
-      assignment = before;
-      one_each = are_needed.one_each;
-      named = named;
-      lanes = lanes;
-      are_named = are_named;
-      are_lanes = are_lanes;
-      are_movable = are_movable;
-      are_given = are_given;
-      first = λ g below rescued. (are_needed.exactly g below).1 (IsLedTo-first d old (BringsAlong d old names) g below rescued);
-      by = by;
-      rescued = λ g below marked. rescued-safe d old start names declaration before is safe g ((are_needed.exactly g below).0 marked);
-      safe = safe;
-    }
+module _ (d : Declaration) (old start : Workqueues) (names : List ℕ) (s : Scope) (scope : IsScope d old names s)
+    (are_needed : Marks (NeedsRescuerOf d old names) d.groups s.needed)
+    (by : IsStartBy old s.movable s.given start) where
+  pub IsStart-scope : IsStart d old names start
+  IsStart-scope = IsStart-by d old start names scope.named.groups scope.named.lanes s.needed s.movable s.given
+      scope.assignment scope.are_named.groups scope.are_named.lanes are_needed scope.are_movable scope.are_given by
+
+  pub IsReady-start : IsDeclaration d → IsSafe (wiring_of d start) → IsReady d old names s start
+  IsReady-start declaration safe = record {
+    scope = scope;
+    by = by;
+    rescued = λ g below marked.
+        rescued-safe d old start names declaration scope.assignment IsStart-scope safe g
+        ((are_needed.exactly g below).0 marked);
+    safe = safe;
+  }
+
+-- each group on a lane with a rescuer is among those that need one
+pub CoversRescued-needed : (d : Declaration) (old : Workqueues) (names : List ℕ) (needed : List Bool)
+    → Marks (NeedsRescuerOf d old names) d.groups needed → CoversRescued d old needed
+CoversRescued-needed d old names needed are g below rescued =
+    (are.exactly g below).1 (IsLedTo-first d old (BringsAlong d old names) g below rescued)
 
 -- the answer is a repair
 pub IsRepair-minimal : (d : Declaration) (old new : Workqueues) (names : List ℕ) (needed : List Bool) → IsDeclaration d → IsAssignment d.groups old.assignment

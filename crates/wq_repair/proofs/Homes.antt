@@ -1,8 +1,8 @@
 -- Homes of lanes, and the vertices of groups that stay there.
 use Rattle.std.proofs.Common.{◌≡◌, ◌≢◌, ℕ, ◌+◌, ◌<◌, ◌⊎◌, inl, inr, Bool, List, [], ◌∷◌, ◌++◌, length, get_or, set}
-use Rattle.std.proofs.Common.{replicate, refl, sym, ap, subst, ◌∙◌, arith, get_or-set_same, get_or-set_other}
+use Rattle.std.proofs.Common.{replicate, sym, ap, subst, ◌∙◌, arith, get_or-set_same, get_or-set_other}
 use Rattle.std.proofs.Common.{length-append}
-use Rattle.std.specs.Prelude.{Option, Some, None, IfNone, slice_index, slice_index_or}
+use Rattle.std.specs.Prelude.{Option, Some, None, slice_index, slice_index_or}
 use Rattle.std.specs.List.{All}
 use Rattle.std.proofs.Math.ListN.{length-set, length-replicate}
 use Rattle.std.proofs.lemmas.Bool.{cases_eq, cases_lt}
@@ -14,10 +14,6 @@ use Rattle.wq_repair.proofs.Marks.{IsMarked-below, cases_marked}
 
 some_same : (a b : ℕ) → Some a ≡ Some b → a ≡ b
 some_same a b e = cc
-
-pub IfNone_then : {A : Type 0} (o : Option A) {P Q : Type 0} → IfNone o P → (P → Q) → IfNone o Q
-IfNone_then None holds weaker = weaker holds
-IfNone_then (Some a) holds weaker = holds
 
 -- no lane is a home
 pub no_home : (n : ℕ) (homes : List (Option ℕ)) → homes ≡ replicate n None → (q v : ℕ) → ¬ IsHomeOf homes q v

@@ -1,5 +1,6 @@
 -- What a verdict on workqueues says of groups.
-use Rattle.std.proofs.Common.{◌≡◌, ℕ, ◌<◌, ◌≤◌, inl, inr, Bool, true, false, not, List, [], ◌∷◌, length, refl, sym, subst, ◌∙◌}
+use Rattle.std.proofs.Common.{◌≡◌, ℕ, ◌<◌, ◌≤◌, inl, inr, Bool, true, false, not, List, [], ◌∷◌, length, refl}
+use Rattle.std.proofs.Common.{sym, ap, subst, ◌∙◌, arith}
 use Rattle.std.specs.Prelude.{◌↔◌, ◌&&◌, slice_get, slice_index, Some, Contains}
 use Rattle.std.proofs.lemmas.Bool.{false≢true}
 use Rattle.std.proofs.lemmas.Option.{get_or_from_slice_get}
@@ -8,7 +9,7 @@ use Rattle.wq_items.specs.Chain.{Circle}
 use Rattle.wq_items.specs.Table.{ItemWaits}
 use Rattle.wq_items.proofs.Lists.{Contains-here}
 use Rattle.wq_groups.specs.Declaration.{Declaration, IsDeclaration, GroupWaits}
-use Rattle.wq_groups.specs.Assignment.{IsAssignment, item_lanes}
+use Rattle.wq_groups.specs.Assignment.{Assignment, IsAssignment, item_lanes, group_lane}
 use Rattle.wq_groups.proofs.Declarations.{waiting-item, awaited-item, GroupWaits-items}
 use Rattle.wq_groups.proofs.Lanes.{item_lanes-at}
 use Rattle.wq_graph.specs.declared.arc.WaitArc.{WaitArc}
@@ -16,6 +17,7 @@ use Rattle.wq_graph.specs.Graph.{HasArc, IsGraph, arcs_from, lane_graph}
 use Rattle.wq_graph.proofs.Graphs.{IsGraph-lane_graph, VertexWaits-lane_graph}
 use Rattle.wq_graph.proofs.LeavingOut.{length-without, HasArc-without, IsGraph-without}
 use Rattle.wq_levels.proofs.OneCircle.{HasCircle-walked}
+use Rattle.wq_levels.proofs.Ranks.{AreRanks-fall, AreRanks-few}
 use Rattle.wq_core.specs.Wiring.{RescuedWaits}
 use Rattle.wq_core.specs.Workqueues.{Workqueues, wiring_of}
 use Rattle.wq_core.specs.Deadlock.{IsSafe, Deadlocks}
@@ -25,7 +27,11 @@ use Rattle.wq_deadlock.proofs.BareLanes.{IsArc-bare_waits}
 use Rattle.wq_deadlock.proofs.Renumbered.{not_safe-deadlocks}
 use Rattle.wq_repair.specs.Changes.{IsRescued, IsToBeCompared, lane_in}
 use Rattle.wq_repair.specs.Joined.{HangsRound, IsStart}
-use Rattle.wq_repair.proofs.Rescuers.{rescued-awaited, Deadlocks-round, LaneWaits-group_waits}
+use Rattle.wq_repair.specs.Marks.{IsMarked}
+use Rattle.wq_repair.specs.Ready.{IsGraphOfNeeded, AreRanksOfGroups}
+use Rattle.wq_repair.specs.Settled.{AreRanksOnLanes}
+use Rattle.wq_repair.proofs.Rescuers.{rescued-awaited, waiting-below, awaited-below, Deadlocks-round}
+use Rattle.wq_repair.proofs.Rescuers.{LaneWaits-group_waits}
 use Rattle.wq_repair.proofs.Starts.{Deadlocks-start_bare, Deadlocks-start_circle}
 
 leads : (src dst : Bool) → (not src && dst) ≡ true → (src ≡ false) × (dst ≡ true)
@@ -100,6 +106,47 @@ module _ (d : Declaration) (ws : Workqueues) (declaration : IsDeclaration d) (as
       | inl also ↦ also
       | inr dead ↦ absurd (not_safe-deadlocks (wiring_of d ws) dead safe)
     ]
+
+-- ranks of lanes, by group, of those that need a rescuer and have one
+module _ (d : Declaration) (ws : Workqueues) (declaration : IsDeclaration d)
+    (assignment : IsAssignment d.groups ws.assignment) (few : ws.assignment.lanes ≤ 4096) (needed : List Bool)
+    (graph : List (List WaitArc)) (of : IsGraphOfNeeded d needed graph)
+    (rescued : (g : ℕ) → g < d.groups → IsMarked needed g → IsRescued ws (lane_in ws g))
+    (ranks : List ℕ) (of_groups : AreRanksOfGroups d ws ranks) where
+  lane_is : (g : ℕ) → g < d.groups → lane_in ws g < length (rescued_graph d ws)
+  lane_is g is = omega (
+    arith,
+    assignment.within g 0 (omega (arith, is, assignment.one_each)),
+    length-rescued_graph d ws declaration assignment,
+  )
+
+  sound : IsGraph (rescued_graph d ws)
+  sound = IsGraph-rescued_graph d ws declaration assignment few
+
+  -- they are ranks of those that stay, if these are on the same lanes here
+  pub AreRanksOnLanes-by : (old : Assignment) (stays : List Bool)
+      → ((g h : ℕ) → IsMarked stays g → IsMarked stays h → group_lane old g ≡ group_lane old h
+      → (g < d.groups) × (h < d.groups) × (lane_in ws g ≡ lane_in ws h)) → AreRanksOnLanes graph old stays ranks
+  AreRanksOnLanes-by old stays together = record {
+    one_each = of_groups.one_each ∙ sym of.long;
+    low = λ g lt.
+        let is : g < d.groups = omega (arith, lt, of.long) in
+        let below = AreRanks-few (rescued_graph d ws) of_groups.of_lanes sound of_groups.are (lane_in ws g) 0
+        (omega (arith, lane_is g is, of_groups.are.one_each)) in
+        omega (arith, of_groups.exactly g is, below, length-rescued_graph d ws declaration assignment, few);
+    fall = λ g h arc.
+        let parts = (of.arcs g h).0 arc in
+        let g_is = waiting-below d declaration g h parts.2 in
+        let h_is = awaited-below d declaration g h parts.2 in
+        let leads = group_arc d ws declaration assignment g h parts.2 (rescued g g_is parts.0)
+        (rescued h h_is parts.1) in
+        let falls = AreRanks-fall (rescued_graph d ws) of_groups.of_lanes sound of_groups.are (lane_in ws g)
+        (lane_in ws h) (lane_is g g_is) leads in
+        omega (arith, falls, of_groups.exactly g g_is, of_groups.exactly h h_is);
+    same = λ g h g_stays h_stays lane.
+        let (g_is, h_is, beside) = together g h g_stays h_stays lane in
+        of_groups.exactly g g_is ∙ ap (slice_index of_groups.of_lanes) beside ∙ sym (of_groups.exactly h h_is);
+  }
 
 module _ (d : Declaration) (old start new : Workqueues) (names : List ℕ) (declaration : IsDeclaration d) (before : IsAssignment d.groups old.assignment)
     (is : IsStart d old names start) (few : start.assignment.lanes ≤ 4096) (compared : IsToBeCompared d old names new) where

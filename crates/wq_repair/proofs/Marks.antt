@@ -28,32 +28,6 @@ none-marked n k marked = elim (cases_lt k n) [
       (omega (arith, past, length-replicate n false))) ∙ marked)
 ]
 
--- a list with one mark more at its end
-module _ (xs : List Bool) (b : Bool) (n : ℕ) (long : length xs ≡ n) where
-  pub marked-kept : (k : ℕ) → IsMarked xs k → IsMarked (xs ++ b ∷ []) k
-  marked-kept k marked = get_or_append_left xs (b ∷ []) false k (IsMarked-below xs k marked) ∙ marked
-
-  pub marked-last : b ≡ true → IsMarked (xs ++ b ∷ []) n
-  marked-last is = get_or_push xs b false n long ∙ is
-
-  pub marked-cases : (k : ℕ) → IsMarked (xs ++ b ∷ []) k → IsMarked xs k ⊎ ((k ≡ n) × (b ≡ true))
-  marked-cases k marked = elim (cases_eq k n) [
-    | inl last ↦ inr (
-      last,
-      sym (get_or_push xs b false n long)
-          ∙ ap (λ (x : ℕ). get_or (xs ++ b ∷ []) x false) (sym last) ∙ marked,
-    )
-    | inr other ↦
-        let lt : k < n = omega (
-          arith,
-          IsMarked-below (xs ++ b ∷ []) k marked,
-          length-append xs (b ∷ []),
-          long,
-          other,
-        ) in
-        inl (sym (get_or_append_left xs (b ∷ []) false k (omega (arith, lt, long))) ∙ marked)
-  ]
-
 -- the same said in other words
 pub Marks-as : (P Q : ℕ → Type 0) (n : ℕ) (xs : List Bool) → ((k : ℕ) → k < n → P k ↔ Q k) → Marks P n xs → Marks Q n xs
 Marks-as P Q n xs same is = record {

@@ -1,6 +1,6 @@
 -- Which vertices lead to one another, as it is told bit by bit.
-use Rattle.std.proofs.Common.{◌≡◌, ℕ, ◌⊎◌, inl, inr, List, sym, subst, ◌∙◌}
-use Rattle.std.specs.Prelude.{Option, slice_index}
+use Rattle.std.proofs.Common.{ℕ, inl, inr, List, sym, subst, ◌∙◌}
+use Rattle.std.specs.Prelude.{Option}
 use Rattle.wq_graph.specs.declared.arc.WaitArc.{WaitArc}
 use Rattle.wq_repair.specs.Together.{ArcBetween}
 use Rattle.wq_repair.specs.Near.{GainsAt, AreLedTo, AreLeading, AreOwn, IsAsked, IsTold, LeadsTo, LeadEitherWay}

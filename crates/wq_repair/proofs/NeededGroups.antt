@@ -15,7 +15,7 @@ use Rattle.wq_repair.specs.Changes.{IsRescued, IsNamed, IsNamedLane, lane_in}
 use Rattle.wq_repair.specs.Needed.{BringsAlong, NeedsRescuerOf}
 use Rattle.wq_repair.specs.Marks.{IsMarked, Marks}
 use Rattle.wq_repair.specs.Together.{Lists}
-use Rattle.wq_repair.specs.Steps.{HoldsMarked}
+use Rattle.wq_repair.specs.Steps.{Named, AreNamed, HoldsMarked}
 use Rattle.wq_repair.specs.Following.{FoundGroups, HasGrown, BringsAlongBy, IsFollowed}
 use Rattle.wq_repair.proofs.Rescuers.{IsLedTo-first, IsLedTo-next}
 use Rattle.wq_repair.proofs.Marks.{Marks-as}
@@ -30,28 +30,28 @@ Lists-few marks list lists = elim (cases_lt (length marks) (length list)) [
       absurd (lists.once again.0 again.1 0 again.2 again.3 again.4)
 ]
 
-module _ (d : Declaration) (old : Workqueues) (names : List ℕ) (declaration : IsDeclaration d) (before : IsAssignment d.groups old.assignment) (named lanes : List Bool)
-    (are_named : Marks (IsNamed d names) d.groups named) (are_lanes : Marks (IsNamedLane d old names) old.assignment.lanes lanes) where
+module _ (d : Declaration) (old : Workqueues) (names : List ℕ) (declaration : IsDeclaration d)
+    (before : IsAssignment d.groups old.assignment) (n : Named) (are : AreNamed d old names n) where
   lane_below : (g : ℕ) → g < d.groups → lane_in old g < old.assignment.lanes
   lane_below g is = before.within g 0 (omega (arith, is, before.one_each))
 
-  along-by : (g h : ℕ) → g < d.groups → BringsAlong d old names g h → BringsAlongBy (group_graph d) old named lanes g h
+  along-by : (g h : ℕ) → g < d.groups → BringsAlong d old names g h → BringsAlongBy (group_graph d) old n g h
   along-by g h is (inl waits) = inl ((GroupWaits-HasArc d declaration g h).0 waits)
   along-by g h is (inr beside) = inr (record {
-    unnamed = λ marked. beside.unnamed ((are_named.exactly g is).0 marked);
+    unnamed = λ marked. beside.unnamed ((are.groups.exactly g is).0 marked);
     bare = beside.bare;
-    named_lane = (are_lanes.exactly (lane_in old g) (lane_below g is)).1 beside.named_lane;
-    is_group = omega (arith, beside.is_group, are_named.one_each);
+    named_lane = (are.lanes.exactly (lane_in old g) (lane_below g is)).1 beside.named_lane;
+    is_group = omega (arith, beside.is_group, before.one_each);
     beside = beside.beside;
   })
 
-  by-along : (g h : ℕ) → g < d.groups → BringsAlongBy (group_graph d) old named lanes g h → BringsAlong d old names g h
+  by-along : (g h : ℕ) → g < d.groups → BringsAlongBy (group_graph d) old n g h → BringsAlong d old names g h
   by-along g h is (inl arc) = inl ((GroupWaits-HasArc d declaration g h).1 arc)
   by-along g h is (inr by) = inr (record {
-    unnamed = λ name. by.unnamed ((are_named.exactly g is).1 name);
+    unnamed = λ name. by.unnamed ((are.groups.exactly g is).1 name);
     bare = by.bare;
-    named_lane = (are_lanes.exactly (lane_in old g) (lane_below g is)).0 by.named_lane;
-    is_group = omega (arith, by.is_group, are_named.one_each);
+    named_lane = (are.lanes.exactly (lane_in old g) (lane_below g is)).0 by.named_lane;
+    is_group = omega (arith, by.is_group, before.one_each);
     beside = by.beside;
   })
 
@@ -73,7 +73,9 @@ module _ (d : Declaration) (old : Workqueues) (names : List ℕ) (declaration : 
     pub listed-below : (k : ℕ) → k < length f.list → slice_index f.list k < d.groups
     listed-below k lt = omega (arith, IsMarked-below f.marks (slice_index f.list k) (listed-marked k lt), is.one_each)
 
-    pub IsFollowed-next : (next : FoundGroups) → done < length f.list → HasGrown f next (BringsAlongBy (group_graph d) old named lanes (slice_index f.list done)) → IsFollowed d old names next (done + 1)
+    pub IsFollowed-next : (next : FoundGroups) → done < length f.list
+        → HasGrown f next (BringsAlongBy (group_graph d) old n (slice_index f.list done))
+        → IsFollowed d old names next (done + 1)
     IsFollowed-next next lt grown = record {
       one_each = grown.one_each ∙ is.one_each;
       lists = grown.lists is.lists;

@@ -10,7 +10,7 @@ use Rattle.wq_repair.specs.Marks.{IsMarked, Marks}
 use Rattle.wq_repair.specs.Steps.{ArePlacedBy, HoldsMarked}
 use Rattle.wq_repair.specs.Lanes.{nth_lane, AreFree, AreBareNow}
 use Rattle.wq_repair.specs.Placing.{IsLaneOfRank, HasNoLane, HoldsRanked, AreLanesOfRanks, HasRanked, AreEmpty, AreTaken, AreRankedLanes}
-use Rattle.wq_repair.specs.Placing.{AreHosted}
+use Rattle.wq_repair.specs.Placing.{AreHosted, CanBePlaced}
 use Rattle.wq_repair.proofs.Marks.{IsMarked-below, cases_marked}
 use Rattle.wq_repair.proofs.Readied.{all_or_one}
 use Rattle.wq_repair.proofs.Taking.{nth_lane-in, nth_lane-new, nth_lane-below, few-held}
@@ -29,11 +29,7 @@ module _ (old : Workqueues) (given stays leaves leave bare named movable : List 
     (stays_long : length stays ≡ length old.assignment.lane_of_group)
     (ranks_long : length ranks ≡ length old.assignment.lane_of_group)
     (within : (g : ℕ) → g < length leaves → lane_in old g < old.assignment.lanes)
-    (below : (g : ℕ) → g < length ranks → slice_index ranks g < most)
-    (same : (g h : ℕ) → IsMarked stays g → IsMarked stays h → lane_in old g ≡ lane_in old h → slice_index ranks g ≡ slice_index ranks h)
-    (fine : (g : ℕ) → IsMarked stays g → IsRescued old (lane_in old g) ⊎ IsMarked given (lane_in old g))
-    (apart : (g : ℕ) → IsMarked stays g → ¬ IsMarked leaves g)
-    (held : (g : ℕ) → g < length leaves → IsMarked leaves g → (h : ℕ) × (h < length leaves) × (lane_in old h ≡ lane_in old g) × (¬ IsMarked leaves h))
+    (can : CanBePlaced old given stays leaves ranks most)
     (groups : ℕ) (lanes : AreLanesOfRanks old stays named ranks most groups before)
     (are_named : Marks (HoldsMarked old movable) old.assignment.lanes named)
     (leaving : Marks (HasRanked leaves ranks) most leave)
@@ -75,7 +71,7 @@ module _ (old : Workqueues) (given stays leaves leave bare named movable : List 
         let equal : had.0 ≡ slice_index lane_of g = one_lane (slice_index_or after (slice_index ranks g) None) had.0 (slice_index lane_of g) (took.kept (slice_index ranks g) had.0 had.1) (ranked.marked g is marked) in
         inl (subst (IsLaneOfRank before (slice_index ranks g)) equal had.1)
     | inr none ↦
-        let r_below : slice_index ranks g < most = below g (omega (arith, is, long, ranks_long)) in
+        let r_below : slice_index ranks g < most = can.below g (omega (arith, is, long, ranks_long)) in
         let leaves_it : IsMarked leave (slice_index ranks g) = (leaving.exactly (slice_index ranks g) r_below).1 (record { group = g; marked = marked; ranked = refl }) in
         let at = took.took (slice_index ranks g) r_below leaves_it none in
         inr (record {
@@ -97,11 +93,12 @@ module _ (old : Workqueues) (given stays leaves leave bare named movable : List 
   stays_below g marked = omega (arith, IsMarked-below stays g marked, stays_long, long)
 
   stays_on : (g : ℕ) → IsMarked stays g → slice_index lane_of g ≡ lane_in old g
-  stays_on g marked = ranked.others g (stays_below g marked) (apart g marked)
+  stays_on g marked = ranked.others g (stays_below g marked) (can.apart g marked)
 
   ranked-stay : (g h : ℕ) → h < length leaves → IsMarked stays g → IsMarked leaves h → slice_index lane_of g ≡ slice_index lane_of h → slice_index ranks g ≡ slice_index ranks h
   ranked-stay g h h_is g_stays h_leaves equal = elim (comes h h_is h_leaves) [
-    | inl holds ↦ same g holds.group g_stays holds.marked (sym (stays_on g g_stays) ∙ equal ∙ sym holds.on) ∙ holds.ranked
+    | inl holds ↦
+        can.same g holds.group g_stays holds.marked (sym (stays_on g g_stays) ∙ equal ∙ sym holds.on) ∙ holds.ranked
     | inr came ↦ absurd (not_taken came.number g (stays_below g g_stays) (sym came.on ∙ sym equal ∙ stays_on g g_stays))
   ]
 
@@ -121,7 +118,8 @@ module _ (old : Workqueues) (given stays leaves leave bare named movable : List 
 
   ranked-any : (g h : ℕ) → g < length leaves → h < length leaves → IsMarked stays g ⊎ IsMarked leaves g → IsMarked stays h ⊎ IsMarked leaves h
       → slice_index lane_of g ≡ slice_index lane_of h → slice_index ranks g ≡ slice_index ranks h
-  ranked-any g h g_is h_is (inl g_stays) (inl h_stays) equal = same g h g_stays h_stays (sym (stays_on g g_stays) ∙ equal ∙ stays_on h h_stays)
+  ranked-any g h g_is h_is (inl g_stays) (inl h_stays) equal =
+      can.same g h g_stays h_stays (sym (stays_on g g_stays) ∙ equal ∙ stays_on h h_stays)
   ranked-any g h g_is h_is (inl g_stays) (inr h_leaves) equal = ranked-stay g h h_is g_stays h_leaves equal
   ranked-any g h g_is h_is (inr g_leaves) (inl h_stays) equal = sym (ranked-stay h g g_is h_stays g_leaves (sym equal))
   ranked-any g h g_is h_is (inr g_leaves) (inr h_leaves) equal = ranked-leave g h g_is h_is g_leaves h_leaves equal
@@ -173,7 +171,7 @@ module _ (old : Workqueues) (given stays leaves leave bare named movable : List 
       | inr some ↦ elim (cases_marked leaves some.0) [
         | inr not ↦ (some.0, omega (arith, some.2.0, ranked.one_each), ranked.others some.0 some.2.0 not ∙ some.2.1)
         | inl marked ↦ (
-            let other = held some.0 some.2.0 marked in
+            let other = can.held some.0 some.2.0 marked in
             (other.0, omega (arith, other.1, ranked.one_each), ranked.others other.0 other.1 other.3 ∙ other.2 ∙ some.2.1)
             )
       ]
@@ -202,7 +200,7 @@ module _ (old : Workqueues) (given stays leaves leave bare named movable : List 
       | inl marked ↦ elim (comes comer.group comer.is_group marked) [
         | inl holds ↦
             let equal : lane_in old holds.group ≡ lane_in old g = holds.on ∙ comer.on in
-            subst (λ (q : ℕ). IsRescued old q ⊎ IsMarked given q) equal (fine holds.group holds.marked)
+            subst (λ (q : ℕ). IsRescued old q ⊎ IsMarked given q) equal (can.fine holds.group holds.marked)
         | inr came ↦ absurd (not_taken came.number g is (sym came.on ∙ comer.on))
       ]
       | inr not ↦ elim comer.why [

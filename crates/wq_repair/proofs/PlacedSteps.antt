@@ -1,7 +1,8 @@
 -- Lanes of ranks, group by group and rank by rank.
-use Rattle.std.proofs.Common.{◌≡◌, ◌≢◌, ℕ, ◌+◌, ◌<◌, ◌≤◌, inl, inr, Bool, true, false, List, [], ◌∷◌, ◌++◌, length, set, replicate, refl, sym, ap, subst, ◌∙◌, arith, get_or-set_same, get_or-set_other, length-append}
+use Rattle.std.proofs.Common.{◌≡◌, ◌≢◌, ℕ, ◌+◌, ◌<◌, ◌≤◌, inl, inr, Bool, true, false, List, [], ◌∷◌, ◌++◌, length}
+use Rattle.std.proofs.Common.{set, replicate, refl, sym, ap, subst, ◌∙◌, arith, get_or-set_same, get_or-set_other}
 use Rattle.std.specs.Prelude.{◌⊎◌, ◌↔◌, Option, Some, None, slice_index, slice_index_or}
-use Rattle.std.proofs.Math.ListN.{length-set, length-replicate}
+use Rattle.std.proofs.Math.ListN.{length-set}
 use Rattle.std.specs.Option.{is_some}
 use Rattle.std.proofs.lemmas.Bool.{cases_eq, false≢true}
 use Rattle.std.proofs.lemmas.List.{get_or_append_left, get_or_push}
@@ -11,8 +12,8 @@ use Rattle.wq_repair.specs.Marks.{IsMarked, Marks}
 use Rattle.wq_repair.specs.Together.{AreListed, Lists}
 use Rattle.wq_repair.specs.Steps.{HoldsOther}
 use Rattle.wq_repair.specs.Lanes.{nth_lane, AreFree}
-use Rattle.wq_repair.specs.Placing.{IsLaneOfRank, HasNoLane, HoldsRanked, AreLanesOfRanks, HasRanked, AreEmpty, AreTaken, AreRankedLanes}
-use Rattle.wq_repair.proofs.Homes.{no_home}
+use Rattle.wq_repair.specs.Placing.{IsLaneOfRank, HasNoLane, HoldsRanked, AreLanesOfRanks, HasRanked, AreEmpty}
+use Rattle.wq_repair.specs.Placing.{AreTaken}
 use Rattle.wq_repair.proofs.Marks.{Marks-none, list-one_more, list-once_more}
 use Rattle.wq_repair.proofs.Marks.{IsMarked-below}
 use Rattle.wq_repair.proofs.Taking.{nth_lane-apart}

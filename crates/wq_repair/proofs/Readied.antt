@@ -6,11 +6,8 @@ use Rattle.std.proofs.lemmas.List.{get_or_default}
 use Rattle.wq_groups.specs.Declaration.{Declaration, IsDeclaration, GroupWaits}
 use Rattle.wq_groups.specs.Assignment.{IsAssignment}
 use Rattle.wq_graph.specs.declared.arc.WaitArc.{WaitArc}
-use Rattle.wq_graph.specs.Graph.{HasArc, IsGraph}
-use Rattle.wq_levels.proofs.Ranks.{AreRanks-fall, AreRanks-few}
 use Rattle.wq_core.specs.Workqueues.{Workqueues}
 use Rattle.wq_core.proofs.LaneCircles.{Circle-map}
-use Rattle.wq_deadlock.specs.Judging.{rescued_graph}
 use Rattle.wq_repair.specs.Changes.{IsRescued, IsBare, IsNamed, IsNamedLane, HoldsAny, HasMoved, lane_in}
 use Rattle.wq_repair.specs.Marks.{IsMarked, Marks}
 use Rattle.wq_repair.specs.Joined.{VerticesWait, StaysOrIs, IsTriedInVain}
@@ -21,7 +18,7 @@ use Rattle.wq_repair.specs.Ready.{Scope, IsReady, IsGraphOfNeeded, IsMinimal, Is
 use Rattle.wq_repair.specs.Settled.{Settled, IsSettled, WasInVain, StaysOr}
 use Rattle.wq_repair.proofs.Marks.{IsMarked-below, cases_marked}
 use Rattle.wq_repair.proofs.Rescuers.{cases_rescued, waiting-below, awaited-below}
-use Rattle.wq_repair.proofs.Judged.{group_arc, length-rescued_graph, IsGraph-rescued_graph, rescued_awaited-safe}
+use Rattle.wq_repair.proofs.Judged.{AreRanksOnLanes-by, rescued_awaited-safe}
 use Rattle.wq_repair.proofs.Placed.{IsToBeCompared-placed, AreChangesNeeded-placed, FallsAlongWaits-placed}
 
 -- all numbers below n are so, or one isn't
@@ -67,7 +64,7 @@ rank_on-same marks lane_of ranks g marked same (suc n) below = elim (cases_Bool 
 
 module _ (d : Declaration) (old : Workqueues) (names : List ℕ) (s : Scope) (start : Workqueues) (declaration : IsDeclaration d) (ready : IsReady d old names s start) where
   long : length s.movable ≡ d.groups
-  long = ready.are_movable.one_each
+  long = ready.scope.are_movable.one_each
 
   below : (g : ℕ) → g < d.groups → g < length s.movable
   below g is = omega (arith, is, long)
@@ -79,23 +76,26 @@ module _ (d : Declaration) (old : Workqueues) (names : List ℕ) (s : Scope) (st
   }
 
   lane_below : (g : ℕ) → g < d.groups → lane_in old g < old.assignment.lanes
-  lane_below g is = ready.assignment.within g 0 (omega (arith, is, ready.assignment.one_each))
+  lane_below g is = ready.scope.assignment.within g 0 (omega (arith, is, ready.scope.assignment.one_each))
 
   pub movable_needed : (g : ℕ) → g < d.groups → IsMarked s.movable g → IsMarked s.needed g
-  movable_needed g is marked = ((ready.are_movable.exactly g is).0 marked).1
+  movable_needed g is marked = ((ready.scope.are_movable.exactly g is).0 marked).1
 
   movable_named : (g : ℕ) → g < d.groups → IsMarked s.movable g → IsNamed d names g
-  movable_named g is marked = (ready.are_named.exactly g is).0 ((ready.are_movable.exactly g is).0 marked).0
+  movable_named g is marked =
+      (ready.scope.are_named.groups.exactly g is).0 ((ready.scope.are_movable.exactly g is).0 marked).0
 
   given_needed : (g : ℕ) → g < d.groups → IsMarked s.given (lane_in old g) → IsMarked s.needed g
-  given_needed g is marked = ((ready.are_given.exactly (lane_in old g) (lane_below g is)).0 marked).all g (omega (arith, is, ready.one_each)) refl
+  given_needed g is marked =
+      ((ready.scope.are_given.exactly (lane_in old g) (lane_below g is)).0 marked).all g
+      (omega (arith, is, ready.scope.one_each)) refl
 
   -- nobody else is on a lane with a rescuer in the start
   pub start_needed : (g : ℕ) → g < d.groups → IsRescued start (lane_in start g) → IsMarked s.needed g
   start_needed g is rescued = elim (cases_marked s.movable g) [
     | inl marked ↦ movable_needed g is marked
     | inr not ↦ elim (ready.by.only g (below g is) not (subst (IsRescued start) (ready.by.stay g (below g is) not) rescued)) [
-      | inl had ↦ ready.first g is had
+      | inl had ↦ ready.scope.first g is had
       | inr marked ↦ given_needed g is marked
     ]
   ]
@@ -117,41 +117,6 @@ module _ (d : Declaration) (old : Workqueues) (names : List ℕ) (s : Scope) (st
     -- before any group is tried, those that can't move stay, and the ranks of the start fall along all arcs
     module _ (few : start.assignment.lanes ≤ 4096) (ranks : List ℕ) (of_groups : AreRanksOfGroups d start ranks)
         (fixed tried : List Bool) (are_fixed : Marks (IsButNot s.needed s.movable) d.groups fixed) where
-      lane_start : (g : ℕ) → g < d.groups → lane_in start g < length (rescued_graph d start)
-      lane_start g is = omega (
-        arith,
-        ready.by.within g (below g is),
-        length-rescued_graph d start declaration IsAssignment-start,
-      )
-
-      sound : IsGraph (rescued_graph d start)
-      sound = IsGraph-rescued_graph d start declaration IsAssignment-start few
-
-      low-start : (g : ℕ) → g < length graph → slice_index ranks g < 4096
-      low-start g lt =
-          let is : g < d.groups = omega (arith, lt, of.long) in
-          let rank_below = AreRanks-few (rescued_graph d start) of_groups.of_lanes sound of_groups.are
-          (lane_in start g) 0
-          (omega (arith, lane_start g is, of_groups.are.one_each)) in
-          omega (
-            arith,
-            of_groups.exactly g is,
-            rank_below,
-            length-rescued_graph d start declaration IsAssignment-start,
-            few,
-          )
-
-      fall-start : (g h : ℕ) → HasArc graph g h → slice_index ranks h < slice_index ranks g
-      fall-start g h has =
-          let parts = (of.arcs g h).0 has in
-          let g_is = waiting-below d declaration g h parts.2 in
-          let h_is = awaited-below d declaration g h parts.2 in
-          let arc = group_arc d start declaration IsAssignment-start g h parts.2 (ready.rescued g g_is parts.0)
-          (ready.rescued h h_is parts.1) in
-          let falls = AreRanks-fall (rescued_graph d start) of_groups.of_lanes sound of_groups.are (lane_in start g)
-          (lane_in start h) (lane_start g g_is) arc in
-          omega (arith, falls, of_groups.exactly g g_is, of_groups.exactly h h_is)
-
       lane-fixed : (g : ℕ) → IsMarked fixed g → (g < d.groups) × (lane_in start g ≡ lane_in old g)
       lane-fixed g marked =
           let is = marked_below fixed g are_fixed.one_each marked in
@@ -161,17 +126,12 @@ module _ (d : Declaration) (old : Workqueues) (names : List ℕ) (s : Scope) (st
       IsSettled-start = record {
         one_each = are_fixed.one_each ∙ sym of.long;
         within = record { kept = λ g marked. marked; only = λ g marked. inl marked };
-        ranks = of_groups.one_each ∙ sym of.long;
-        low = low-start;
-        fall = fall-start;
-        same = λ g h g_stays h_stays lane.
+        ranks = AreRanksOnLanes-by d start declaration IsAssignment-start few s.needed graph of ready.rescued ranks
+            of_groups old.assignment fixed (λ g h g_stays h_stays lane.
             let g_at = lane-fixed g g_stays in
             let h_at = lane-fixed h h_stays in
-            of_groups.exactly g g_at.0
-            ∙ ap (slice_index of_groups.of_lanes) (g_at.1 ∙ lane ∙ sym h_at.1)
-            ∙ sym (of_groups.exactly h h_at.0);
-        vain = λ g lt. absurd (omega (arith, lt));
-        held = λ g lt. absurd (omega (arith, lt));
+            (g_at.0, h_at.0, g_at.1 ∙ lane ∙ sym h_at.1));
+        each = λ g lt. absurd (omega (arith, lt));
       }
 
     -- ---- all groups are settled
@@ -258,7 +218,7 @@ module _ (d : Declaration) (old : Workqueues) (names : List ℕ) (s : Scope) (st
           → (h : ℕ) × (h < d.groups) × (lane_in old h ≡ lane_in old g) × (¬ IsMarked leaves h)
       held-leaving g lt leaving = elim (tried_or_not g lt (leaves_parts g lt leaving).0) [
         | inl of_tried ↦ (
-            let found = is.held g (in_graph g lt) of_tried in (
+            let found = (is.each g (in_graph g lt) of_tried).0 in (
               found.group,
               marked_below settled.stays found.group stays_long found.marked,
               found.beside,
@@ -276,9 +236,9 @@ module _ (d : Declaration) (old : Workqueues) (names : List ℕ) (s : Scope) (st
                         one_out.2.2 (movable_needed k one_out.1 (leaves_parts k one_out.1 k_leaves).0),
                   )
                   )
-              | inl all ↦ absurd (not.1 ((ready.are_given.exactly (lane_in old g) (lane_below g lt)).1 (record {
+              | inl all ↦ absurd (not.1 ((ready.scope.are_given.exactly (lane_in old g) (lane_below g lt)).1 (record {
                 bare = not.0;
-                named = (ready.are_lanes.exactly (lane_in old g) (lane_below g lt)).1
+                named = (ready.scope.are_named.lanes.exactly (lane_in old g) (lane_below g lt)).1
                     (record {
                       group = g;
                       is_group = lt;
@@ -287,7 +247,7 @@ module _ (d : Declaration) (old : Workqueues) (names : List ℕ) (s : Scope) (st
                           refl;
                     });
                 all = λ k k_lt on. (let k_is : k < d.groups =
-                    omega (arith, k_lt, ready.one_each) in all k k_is k_is on);
+                    omega (arith, k_lt, ready.scope.one_each) in all k k_is k_is on);
               })))
             ]
       ]
@@ -318,20 +278,20 @@ module _ (d : Declaration) (old : Workqueues) (names : List ℕ) (s : Scope) (st
         why g lt leaving =
             let parts = leaves_parts g lt leaving in
             elim (tried_or_not g lt parts.0) [
-              | inl of_tried ↦ inr (in_vain g (is.vain g (in_graph g lt) of_tried parts.1))
+              | inl of_tried ↦ inr (in_vain g ((is.each g (in_graph g lt) of_tried).1 parts.1))
               | inr not ↦ inl not
             ]
 
         leaving-placed : AreLeaving d old names s.needed s.given leaves settled.ranks new
         leaving-placed = record {
           one_each = are_leaving.one_each;
-          first = ready.first;
+          first = ready.scope.first;
           next = needed_next;
           movable = λ g lt marked. let movable =
               (leaves_parts g lt marked).0 in (movable_named g lt movable, movable_needed g lt movable);
           why = why;
           others = others;
-          fall = λ g h waits needs. is.fall g h ((of.arcs g h).1 (needs, needed_next g h waits needs, waits));
+          fall = λ g h waits needs. is.ranks.fall g h ((of.arcs g h).1 (needs, needed_next g h waits needs, waits));
         }
 
         ranked : (g : ℕ) → g < d.groups → IsMarked s.needed g
@@ -343,7 +303,7 @@ module _ (d : Declaration) (old : Workqueues) (names : List ℕ) (s : Scope) (st
                 → slice_index new.assignment.lane_of_group h ≡ slice_index new.assignment.lane_of_group g
                 → slice_index settled.ranks h ≡ slice_index settled.ranks g
             same h h_needs lane =
-                let h_is = marked_below s.needed h ready.one_each h_needs in
+                let h_is = marked_below s.needed h ready.scope.one_each h_needs in
                 placed.ranked h g (omega (arith, h_is, are_leaving.one_each))
                 (omega (arith, lt, are_leaving.one_each)) (stays_or_leaves h h_is h_needs)
                 (stays_or_leaves g lt needs) lane
@@ -363,14 +323,16 @@ module _ (d : Declaration) (old : Workqueues) (names : List ℕ) (s : Scope) (st
 
         pub IsMinimal-placed : AreHosted old s.movable leaves new → IsMinimal d old names s.needed new
         IsMinimal-placed are_hosted = record {
-          compared = IsToBeCompared-placed d old new names ready.lanes s.needed s.given settled.stays leaves
-              settled.ranks ready.assignment ready.are_lanes ready.one_each ready.are_given leaving-placed placed;
-          changes = AreChangesNeeded-placed d old new names ready.lanes s.needed s.given settled.stays leaves
-              settled.ranks ready.assignment ready.are_lanes ready.one_each ready.are_given leaving-placed placed;
+          compared = IsToBeCompared-placed d old new names ready.scope.named.lanes s.needed s.given settled.stays leaves
+              settled.ranks ready.scope.assignment ready.scope.are_named.lanes ready.scope.one_each
+              ready.scope.are_given leaving-placed placed;
+          changes = AreChangesNeeded-placed d old new names ready.scope.named.lanes s.needed s.given settled.stays
+              leaves settled.ranks ready.scope.assignment ready.scope.are_named.lanes ready.scope.one_each
+              ready.scope.are_given leaving-placed placed;
           number = λ (q : ℕ). rank_on s.needed new.assignment.lane_of_group settled.ranks q d.groups;
-          falls = FallsAlongWaits-placed d old new names ready.lanes s.needed s.given settled.stays leaves
-              settled.ranks ready.assignment ready.are_lanes ready.one_each ready.are_given leaving-placed placed
-              declaration
+          falls = FallsAlongWaits-placed d old new names ready.scope.named.lanes s.needed s.given settled.stays leaves
+              settled.ranks ready.scope.assignment ready.scope.are_named.lanes ready.scope.one_each
+              ready.scope.are_given leaving-placed placed declaration
               (λ (q : ℕ). rank_on s.needed new.assignment.lane_of_group settled.ranks q d.groups) ranked;
           few = omega (arith, placed.few, are_leaving.one_each);
           bare = placed.bare;

@@ -1,14 +1,13 @@
 -- All steps of a repair together, where lists are known by other names.
-use Rattle.std.proofs.Common.{◌≡◌, ℕ, ◌<◌, ◌≤◌, ◌⊎◌, Bool, List, length, not, sym, ap, subst, ◌∙◌, arith}
-use Rattle.std.specs.Prelude.{map, slice_index}
+use Rattle.std.proofs.Common.{◌≡◌, ℕ, ◌<◌, Bool, List, length, not, sym, ap, subst, ◌∙◌, arith}
+use Rattle.std.specs.Prelude.{map}
 use Rattle.wq_groups.specs.Declaration.{Declaration, IsDeclaration}
 use Rattle.wq_graph.specs.declared.arc.WaitArc.{WaitArc}
 use Rattle.wq_graph.specs.Graph.{group_graph, without}
 use Rattle.wq_core.specs.Workqueues.{Workqueues}
-use Rattle.wq_repair.specs.Changes.{IsRescued, lane_in}
-use Rattle.wq_repair.specs.Marks.{IsMarked, Marks}
+use Rattle.wq_repair.specs.Marks.{Marks}
 use Rattle.wq_repair.specs.Steps.{ArePlacedBy}
-use Rattle.wq_repair.specs.Placing.{AreHosted}
+use Rattle.wq_repair.specs.Placing.{AreHosted, CanBePlaced}
 use Rattle.wq_repair.specs.Settled.{Settled}
 use Rattle.wq_repair.specs.Ready.{Scope, IsReady, IsGraphOfNeeded, IsMinimal, IsTried, IsButNot, IsSettledIn, IsTrial}
 use Rattle.wq_repair.proofs.Answered.{IsGraphOfNeeded-without}
@@ -18,10 +17,7 @@ use Rattle.wq_repair.proofs.Readied.{fine-staying, apart-staying, held-leaving, 
 -- the groups of one list that aren't in another, where both lists are known by other names
 pub Marks-but_not : (one other first second both : List Bool) (n : ℕ) → first ≡ one → second ≡ other → length one ≡ n →
     Marks (IsButNot first second) (length first) both → Marks (IsButNot one other) n both
-Marks-but_not one other first second both n same also long is =
-    subst (λ (k : ℕ). Marks (IsButNot one other) k both) long
-    (subst (λ (xs : List Bool). Marks (IsButNot xs other) (length xs) both) same
-    (subst (λ (ys : List Bool). Marks (IsButNot first ys) (length first) both) also is))
+Marks-but_not one other first second both n same also long is = rw (same, also, long) at is
 
 -- the graph of those that need a rescuer, where the list of them is known by another name
 pub graph-by : {d : Declaration} {s inside : Scope} {slice : List Bool} {graph : List (List WaitArc)} → IsDeclaration d
@@ -35,27 +31,21 @@ graph-by {d = d} {s = s} {graph = graph} declaration long view same is =
 -- the same of lists that are known by other names
 pub IsTried-as : (old : Workqueues) (s : Scope) {xs ys : List Bool} {n m : ℕ} → xs ≡ ys → m ≡ n
     → Marks (IsTried old s) m ys → Marks (IsTried old s) n xs
-IsTried-as old s {ys = ys} {n = n} same long is =
-    subst (Marks (IsTried old s) n) (sym same) (subst (λ (k : ℕ). Marks (IsTried old s) k ys) long is)
+IsTried-as old s same long is = rw same (rw long at is)
 
-pub marked-as : {xs ys : List Bool} → xs ≡ ys → (g : ℕ) → IsMarked xs g → IsMarked ys g
-marked-as same g marked = subst (λ (zs : List Bool). IsMarked zs g) same marked
+pub can-as : {old : Workqueues} {given stays leaves xs ys zs : List Bool} {ranks rs : List ℕ} {most : ℕ} → xs ≡ given
+    → ys ≡ stays → zs ≡ leaves → rs ≡ ranks
+    → CanBePlaced old given stays leaves ranks most → CanBePlaced old xs ys zs rs most
+can-as one two three four can = rw (one, two, three, four) can
 
 pub placed-as : {old new : Workqueues} {given stays leaves xs ys zs : List Bool} {ranks rs : List ℕ} → xs ≡ given
     → ys ≡ stays → zs ≡ leaves → rs ≡ ranks
     → ArePlacedBy old xs ys zs rs new → ArePlacedBy old given stays leaves ranks new
-placed-as {old = old} {new = new} {given = given} {stays = stays} {leaves = leaves} {ys = ys} {zs = zs} {rs = rs} one
-    two three four placed =
-    subst (λ (k : List ℕ). ArePlacedBy old given stays leaves k new) four
-    (subst (λ (k : List Bool). ArePlacedBy old given stays k rs new) three
-    (subst (λ (k : List Bool). ArePlacedBy old given k zs rs new) two
-    (subst (λ (k : List Bool). ArePlacedBy old k ys zs rs new) one placed)))
+placed-as one two three four placed = rw (one, two, three, four) at placed
 
 pub hosted-as : (old new : Workqueues) {movable leaves xs zs : List Bool} → xs ≡ movable → zs ≡ leaves
     → AreHosted old xs zs new → AreHosted old movable leaves new
-hosted-as old new {movable = movable} {zs = zs} one two hosted =
-    subst (λ (k : List Bool). AreHosted old movable k new) two
-    (subst (λ (k : List Bool). AreHosted old k zs new) one hosted)
+hosted-as old new one two hosted = rw (one, two) at hosted
 
 -- of what is settled
 module _ {d : Declaration} {old : Workqueues} {s : Scope} {tried : List Bool} {settled : Settled}
@@ -64,17 +54,7 @@ module _ {d : Declaration} {old : Workqueues} {s : Scope} {tried : List Bool} {s
   stays_long-by = is.is.one_each ∙ is.of.long
 
   pub ranks_long-by : length settled.ranks ≡ d.groups
-  ranks_long-by = is.is.ranks ∙ is.of.long
-
-  pub below-as : {rs : List ℕ} → rs ≡ settled.ranks → (most : ℕ) → most ≡ 4096 → (g : ℕ) → g < length rs
-      → slice_index rs g < most
-  below-as {rs = rs} same most is_most g lt =
-      omega (
-        arith,
-        is.is.low g (omega (arith, lt, ap length same, is.is.ranks)),
-        ap (λ (xs : List ℕ). slice_index xs g) same,
-        is_most,
-      )
+  ranks_long-by = is.is.ranks.one_each ∙ is.of.long
 
 module _ {d : Declaration} {old : Workqueues} {names : List ℕ} {s : Scope} {start : Workqueues} {tried : List Bool}
     (declaration : IsDeclaration d) (ready : IsReady d old names s start)
@@ -83,7 +63,7 @@ module _ {d : Declaration} {old : Workqueues} {names : List ℕ} {s : Scope} {st
   pub IsTrial-ready : {fixed : List Bool} {graph : List (List WaitArc)} → IsGraphOfNeeded d s.needed graph
       → Marks (IsButNot s.needed s.movable) d.groups fixed → IsTrial d s.needed fixed tried graph
   IsTrial-ready {fixed = fixed} of are_fixed = record {
-    long = ready.one_each;
+    long = ready.scope.one_each;
     of = of;
     fixed_needed = λ g marked. ((are_fixed.exactly g
         (omega (arith, IsMarked-below fixed g marked, are_fixed.one_each))).0 marked).0;
@@ -94,18 +74,20 @@ module _ {d : Declaration} {old : Workqueues} {names : List ℕ} {s : Scope} {st
 
   module _ {settled : Settled} {leaves : List Bool} (is : IsSettledIn d old s tried settled)
       (are_leaving : Marks (IsButNot s.movable settled.stays) d.groups leaves) where
-    pub fine-by : (g : ℕ) → IsMarked settled.stays g → IsRescued old (lane_in old g) ⊎ IsMarked s.given (lane_in old g)
-    fine-by = fine-staying d old names s start declaration ready is.graph is.of is.fixed tried leaves settled
-        is.are_fixed are_tried is.is are_leaving
-
-    pub apart-by : (g : ℕ) → IsMarked settled.stays g → ¬ IsMarked leaves g
-    apart-by = apart-staying d old names s start declaration ready is.graph is.of is.fixed tried leaves settled
-        is.are_fixed are_tried is.is are_leaving
-
-    pub held-by : (g : ℕ) → g < d.groups → IsMarked leaves g → (h : ℕ) × (h < d.groups) ×
-        (lane_in old h ≡ lane_in old g) × (¬ IsMarked leaves h)
-    held-by = held-leaving d old names s start declaration ready is.graph is.of is.fixed tried leaves settled
-        is.are_fixed are_tried is.is are_leaving
+    pub CanBePlaced-by : (most : ℕ) → most ≡ 4096 → CanBePlaced old s.given settled.stays leaves settled.ranks most
+    CanBePlaced-by most is_most = record {
+      below = λ g lt. omega (arith, is.is.ranks.low g (omega (arith, lt, is.is.ranks.one_each)), is_most);
+      apart = apart-staying d old names s start declaration ready is.graph is.of is.fixed tried leaves settled
+          is.are_fixed are_tried is.is are_leaving;
+      same = is.is.ranks.same;
+      held = λ g lt leaving.
+          let long = are_leaving.one_each in
+          let held = held-leaving d old names s start declaration ready is.graph is.of is.fixed tried leaves settled
+          is.are_fixed are_tried is.is are_leaving g (omega (arith, lt, long)) leaving in
+          (held.0, omega (arith, held.1, long), held.2, held.3);
+      fine = fine-staying d old names s start declaration ready is.graph is.of is.fixed tried leaves settled
+          is.are_fixed are_tried is.is are_leaving;
+    }
 
     pub IsMinimal-by : (new : Workqueues) → ArePlacedBy old s.given settled.stays leaves settled.ranks new
         → AreHosted old s.movable leaves new → IsMinimal d old names s.needed new

@@ -1,32 +1,30 @@
 -- Which groups were tried in vain, and what ranks say of those that stay.
-use Rattle.std.proofs.Common.{◌≡◌, ℕ, ◌+◌, ◌<◌, ◌≤◌, ◌⊎◌, inl, inr, Bool, true, false, not, List, [], ◌∷◌, length}
+use Rattle.std.proofs.Common.{◌≡◌, ℕ, ◌+◌, ◌<◌, ◌≤◌, ◌⊎◌, inl, inr, Bool, true, false, not, List, [], length}
 use Rattle.std.proofs.Common.{map, set, refl, sym, ap, subst, ◌∙◌, arith, get_or-set_same, get_or-set_other}
-use Rattle.std.specs.Prelude.{Option, None, slice_index, slice_index_or, if◌then◌else◌, ◌==◌}
+use Rattle.std.specs.Prelude.{Option, slice_index, slice_index_or, if◌then◌else◌, ◌==◌}
 use Rattle.std.proofs.Math.ListN.{length-set}
 use Rattle.std.proofs.lemmas.Bool.{cases_eq, cases_lt, cases_Bool, eqb-true, eq-eqb, false≢true}
-use Rattle.std.proofs.lemmas.List.{get_or-map, get_or_past, get_or_default, length-map}
+use Rattle.std.proofs.lemmas.List.{get_or-map, get_or_past, get_or_default}
 use Rattle.wq_items.specs.Chain.{Circle}
-use Rattle.wq_groups.specs.Declaration.{Declaration, IsDeclaration, GroupWaits}
+use Rattle.wq_groups.specs.Declaration.{Declaration, IsDeclaration}
 use Rattle.wq_groups.specs.Assignment.{Assignment, IsAssignment, group_lane}
 use Rattle.wq_graph.specs.declared.arc.WaitArc.{WaitArc}
-use Rattle.wq_graph.specs.Graph.{HasArc, IsGraph, arcs_at}
+use Rattle.wq_graph.specs.Graph.{HasArc, IsGraph}
 use Rattle.wq_core.specs.Workqueues.{Workqueues}
 use Rattle.wq_core.proofs.LaneCircles.{Circle-map}
-use Rattle.wq_levels.specs.Ranks.{AreRanks}
 use Rattle.wq_levels.proofs.Graphs.{HasArc-below}
-use Rattle.wq_levels.proofs.Ranks.{AreRanks-fall, AreRanks-few}
 use Rattle.wq_deadlock.specs.Judging.{rescued_graph}
-use Rattle.wq_repair.specs.Changes.{IsRescued, lane_in}
+use Rattle.wq_repair.specs.Changes.{IsRescued}
 use Rattle.wq_repair.specs.Joined.{become}
 use Rattle.wq_repair.specs.Marks.{IsMarked}
-use Rattle.wq_repair.specs.Near.{LeadsTo, LeadEitherWay}
-use Rattle.wq_repair.specs.Ready.{IsGraphOfNeeded, IsTrial, AreRanksOfGroups}
+use Rattle.wq_repair.specs.Near.{LeadEitherWay}
+use Rattle.wq_repair.specs.Ready.{IsTrial, AreRanksOfGroups}
 use Rattle.wq_repair.specs.Together.{ArcBetween}
 use Rattle.wq_repair.specs.Settled.{Settled, IsHomeOf, AreHomes, AreVertices, HaveRanks, AreInVain, IsWithin, StaysOr}
-use Rattle.wq_repair.specs.Settled.{WasInVain, HasStaying, IsSettled, IsSettledBy, vertices_placed}
+use Rattle.wq_repair.specs.Settled.{WasInVain, HasStaying, AreRanksOnLanes, IsSettled, IsSettledBy, vertices_placed}
 use Rattle.wq_repair.proofs.Joining.{Circle-closed}
 use Rattle.wq_repair.proofs.Rescuers.{waiting-below, awaited-below}
-use Rattle.wq_repair.proofs.Judged.{group_arc, GroupsWait-arc, length-rescued_graph, IsGraph-rescued_graph}
+use Rattle.wq_repair.proofs.Judged.{GroupsWait-arc, AreRanksOnLanes-by}
 use Rattle.wq_repair.proofs.Marks.{IsMarked-below, cases_marked}
 use Rattle.wq_repair.proofs.Homes.{home_is, vertex_below, apart, together}
 
@@ -142,23 +140,24 @@ IsSettled-checked graph old fixed tried vain s homes at sound long within tried_
     record {
       one_each = long;
       within = within;
-      ranks = ranks.one_each;
-      low = ranks.low;
-      fall = ranks.fall;
-      same = λ g h g_stays h_stays lane.
-          sym (ranks.same g (omega (arith, IsMarked-below s.stays g g_stays, long)))
-          ∙ ap (slice_index s.ranks) (together old s.stays homes at are_homes are g h g_stays h_stays lane)
-          ∙ ranks.same h (omega (arith, IsMarked-below s.stays h h_stays, long));
-      vain = λ g lt marked out.
-          let leads = in_vain g (all g lt marked out) in
-          WasInVain-leads graph sound old s.stays homes at long are_homes are g leads.0
-          (omega (arith, lt, long)) out leads.1 leads.2;
-      held = λ g lt marked. elim (cases_marked s.stays g) [
-        | inl stay ↦ record { group = g; marked = stay; beside = refl }
+      ranks = record {
+        one_each = ranks.one_each;
+        low = ranks.low;
+        fall = ranks.fall;
+        same = λ g h g_stays h_stays lane.
+            sym (ranks.same g (omega (arith, IsMarked-below s.stays g g_stays, long)))
+            ∙ ap (slice_index s.ranks) (together old s.stays homes at are_homes are g h g_stays h_stays lane)
+            ∙ ranks.same h (omega (arith, IsMarked-below s.stays h h_stays, long));
+      };
+      each = λ g lt marked. elim (cases_marked s.stays g) [
+        | inl stay ↦ (record { group = g; marked = stay; beside = refl }, λ out. absurd (out stay))
         | inr out ↦
             let leads = in_vain g (all g lt marked out) in
-            let home = are_homes.on (group_lane old g) leads.0 leads.1 in
-            record { group = leads.0; marked = home.0; beside = home.1 }
+            let home = are_homes.on (group_lane old g) leads.0 leads.1 in (
+              record { group = leads.0; marked = home.0; beside = home.1 },
+              λ _. WasInVain-leads graph sound old s.stays homes at long are_homes are g leads.0
+                  (omega (arith, lt, long)) out leads.1 leads.2,
+            )
       ];
     }
 
@@ -183,9 +182,6 @@ WasInVain-more graph old stays more g kept vain = record {
 
 -- group g stays, too
 module _ (stays : List Bool) (g : ℕ) where
-  abbrev with_g : List Bool
-  with_g = set stays g true
-
   pub kept-with : (h : ℕ) → IsMarked stays h → IsMarked (set stays g true) h
   kept-with h marked = elim (cases_eq h g) [
     | inl same ↦ subst (IsMarked (set stays g true)) (sym same)
@@ -218,60 +214,26 @@ module _ (graph : List (List WaitArc)) (old : Assignment) (fixed tried : List Bo
     | inr other ↦ inr (omega (arith, lt, other))
   ]
 
-  -- it isn't tried
-  pub IsSettled-skip : (¬ IsMarked tried g) → IsSettled graph old fixed tried (g + 1) s
-  IsSettled-skip out = record {
-    one_each = is.one_each;
-    within = is.within;
-    ranks = is.ranks;
-    low = is.low;
-    fall = is.fall;
-    same = is.same;
-    vain = λ h lt marked. elim (before h lt) [
-      | inl last ↦ absurd (out (subst (IsMarked tried) last marked))
-      | inr earlier ↦ is.vain h earlier marked
-    ];
-    held = λ h lt marked. elim (before h lt) [
-      | inl last ↦ absurd (out (subst (IsMarked tried) last marked))
-      | inr earlier ↦ is.held h earlier marked
-    ];
-  }
-
-  -- it is tried in vain
-  pub IsSettled-vain : ((¬ IsMarked s.stays g) → WasInVain graph old s.stays g) → HasStaying old s.stays g
+  -- it isn't tried, or in vain
+  pub IsSettled-next : (IsMarked tried g
+      → HasStaying old s.stays g × ((¬ IsMarked s.stays g) → WasInVain graph old s.stays g))
       → IsSettled graph old fixed tried (g + 1) s
-  IsSettled-vain vain held = record {
+  IsSettled-next each = record {
     one_each = is.one_each;
     within = is.within;
     ranks = is.ranks;
-    low = is.low;
-    fall = is.fall;
-    same = is.same;
-    vain = λ h lt marked out. elim (before h lt) [
-      | inl last ↦ subst (WasInVain graph old s.stays) (sym last)
-          (vain (subst (λ (x : ℕ). ¬ IsMarked s.stays x) last out))
-      | inr earlier ↦ is.vain h earlier marked out
-    ];
-    held = λ h lt marked. elim (before h lt) [
-      | inl last ↦ subst (HasStaying old s.stays) (sym last) held
-      | inr earlier ↦ is.held h earlier marked
+    each = λ h lt marked. elim (before h lt) [
+      | inl last ↦
+          let now = each (subst (IsMarked tried) last marked) in
+          subst (λ (x : ℕ). HasStaying old s.stays x × ((¬ IsMarked s.stays x) → WasInVain graph old s.stays x))
+          (sym last) now
+      | inr earlier ↦ is.each h earlier marked
     ];
   }
 
   -- it stays
-  module _ (marked_g : IsMarked tried g) (ranks : List ℕ) (long : length ranks ≡ length graph)
-      (low : (h : ℕ) → h < length graph → slice_index ranks h < 4096)
-      (fall : (h k : ℕ) → HasArc graph h k → slice_index ranks k < slice_index ranks h)
-      (same : (h k : ℕ) → IsMarked (set s.stays g true) h → IsMarked (set s.stays g true) k
-      → group_lane old h ≡ group_lane old k → slice_index ranks h ≡ slice_index ranks k) where
-    staying-more : (h : ℕ) → HasStaying old s.stays h → HasStaying old more h
-    staying-more h has = record {
-      group = has.group;
-      marked = kept-with s.stays g has.group has.marked;
-      beside =
-          has.beside;
-    }
-
+  module _ (marked_g : IsMarked tried g) (ranks : List ℕ)
+      (are : AreRanksOnLanes graph old (set s.stays g true) ranks) where
     pub IsSettled-stays : IsSettled graph old fixed tried (g + 1) (record { stays = set s.stays g true; ranks = ranks })
     IsSettled-stays = record {
       one_each = length-set s.stays g true ∙ is.one_each;
@@ -282,25 +244,30 @@ module _ (graph : List (List WaitArc)) (old : Assignment) (fixed tried : List Bo
           | inr stay ↦ is.within.only h stay
         ];
       };
-      ranks = long;
-      low = low;
-      fall = fall;
-      same = same;
-      vain = λ h lt marked out. elim (before h lt) [
-        | inl last ↦ absurd (out (subst (IsMarked more) (sym last) (is-with s.stays g g_below)))
-        | inr earlier ↦ WasInVain-more graph old s.stays more h (kept-with s.stays g)
-            (is.vain h earlier marked (λ stay. out (kept-with s.stays g h stay)))
-      ];
-      held = λ h lt marked. elim (before h lt) [
-        | inl last ↦ record { group = g; marked = is-with s.stays g g_below; beside = ap (group_lane old) (sym last) }
-        | inr earlier ↦ staying-more h (is.held h earlier marked)
+      ranks = are;
+      each = λ h lt marked. elim (before h lt) [
+        | inl last ↦ (
+          record { group = g; marked = is-with s.stays g g_below; beside = ap (group_lane old) (sym last) },
+          λ out. absurd (out (subst (IsMarked more) (sym last) (is-with s.stays g g_below))),
+        )
+        | inr earlier ↦
+            let (held, vain) = is.each h earlier marked in (
+              record { group = held.group; marked = kept-with s.stays g held.group held.marked; beside = held.beside },
+              λ out. WasInVain-more graph old s.stays more h (kept-with s.stays g)
+                  (vain (λ stay. out (kept-with s.stays g h stay))),
+            )
       ];
     }
 
   -- no group stays on its lane yet
   pub IsSettled-first : IsMarked tried g → ((h : ℕ) → IsMarked s.stays h → ¬ (group_lane old h ≡ group_lane old g))
       → IsSettled graph old fixed tried (g + 1) (record { stays = set s.stays g true; ranks = s.ranks })
-  IsSettled-first marked none = IsSettled-stays marked s.ranks is.ranks is.low is.fall same
+  IsSettled-first marked none = IsSettled-stays marked s.ranks (record {
+    one_each = is.ranks.one_each;
+    low = is.ranks.low;
+    fall = is.ranks.fall;
+    same = same;
+  })
     where
       same : (h k : ℕ) → IsMarked more h → IsMarked more k → group_lane old h ≡ group_lane old k
           → slice_index s.ranks h ≡ slice_index s.ranks k
@@ -311,7 +278,7 @@ module _ (graph : List (List WaitArc)) (old : Assignment) (fixed tried : List Bo
         ]
         | inr h_was ↦ elim (was-with s.stays g k k_stays) [
           | inl k_last ↦ absurd (none h h_was (lane ∙ ap (group_lane old) k_last))
-          | inr k_was ↦ is.same h k h_was k_was lane
+          | inr k_was ↦ is.ranks.same h k h_was k_was lane
         ]
       ]
 
@@ -392,41 +359,15 @@ module _ (d : Declaration) (declaration : IsDeclaration d) (needed fixed tried s
   pub Circle-between : Circle (HasArc (rescued_graph d ws)) → Circle (ArcBetween graph at)
   Circle-between circle = Circle-map (HasArc (rescued_graph d ws)) (ArcBetween graph at) (λ v. v) between circle
 
-  module _ (ranks : List ℕ) (of_groups : AreRanksOfGroups d (vertices_placed needed at) ranks) where
-    sound : IsGraph (rescued_graph d ws)
-    sound = IsGraph-rescued_graph d ws declaration assignment lanes_few
-
-    lanes_long : length (rescued_graph d ws) ≡ d.groups
-    lanes_long = length-rescued_graph d ws declaration assignment ∙ at_long
-
-    pub long-placed : length ranks ≡ length graph
-    long-placed = of_groups.one_each ∙ sym trial.of.long
-
-    pub low-placed : (g : ℕ) → g < length graph → slice_index ranks g < 4096
-    low-placed g lt =
-        let is : g < d.groups = omega (arith, lt, trial.of.long) in
-        let below = AreRanks-few (rescued_graph d ws) of_groups.of_lanes sound of_groups.are (slice_index at g) 0
-        (omega (arith, below_at g is, of_groups.are.one_each, lanes_long)) in
-        omega (arith, of_groups.exactly g is, below, lanes_long, few)
-
-    pub fall-placed : (g h : ℕ) → HasArc graph g h → slice_index ranks h < slice_index ranks g
-    fall-placed g h arc =
-        let parts = (trial.of.arcs g h).0 arc in
-        let g_is = waiting-below d declaration g h parts.2 in
-        let h_is = awaited-below d declaration g h parts.2 in
-        let between_lanes = group_arc d ws declaration assignment g h parts.2 (rescued-at g g_is parts.0)
-        (rescued-at h h_is parts.1) in
-        let falls = AreRanks-fall (rescued_graph d ws) of_groups.of_lanes sound of_groups.are (slice_index at g)
-        (slice_index at h)
-        (omega (arith, below_at g g_is, lanes_long)) between_lanes in
-        omega (arith, falls, of_groups.exactly g g_is, of_groups.exactly h h_is)
-
-    pub same-placed : (g h : ℕ) → IsMarked stays g → IsMarked stays h → group_lane old g ≡ group_lane old h
-        → slice_index ranks g ≡ slice_index ranks h
-    same-placed g h g_stays h_stays lane =
-        of_groups.exactly g (omega (arith, IsMarked-below stays g g_stays, stays_long))
-        ∙ ap (slice_index of_groups.of_lanes) (together old stays homes at are_homes are g h g_stays h_stays lane)
-        ∙ sym (of_groups.exactly h (omega (arith, IsMarked-below stays h h_stays, stays_long)))
+  pub AreRanksOnLanes-placed : (ranks : List ℕ) → AreRanksOfGroups d (vertices_placed needed at) ranks
+      → AreRanksOnLanes graph old stays ranks
+  AreRanksOnLanes-placed ranks of_groups =
+      AreRanksOnLanes-by d ws declaration assignment lanes_few needed graph trial.of rescued-at ranks of_groups old
+      stays (λ g h g_stays h_stays lane. (
+        omega (arith, IsMarked-below stays g g_stays, stays_long),
+        omega (arith, IsMarked-below stays h h_stays, stays_long),
+        together old stays homes at are_homes are g h g_stays h_stays lane,
+      ))
 
 -- group g is tried, where others stay on its lane
 module _ (d : Declaration) (declaration : IsDeclaration d) (needed fixed tried : List Bool)
@@ -455,13 +396,7 @@ module _ (d : Declaration) (declaration : IsDeclaration d) (needed fixed tried :
   IsSettled-ranked ranks by =
       let more : List Bool = set s.stays g true in
       IsSettled-stays graph old fixed tried g s is g_below_graph marked_g ranks
-      (long-placed d declaration needed fixed tried more graph trial old by.homes by.vertices few more_long
-      more_needed by.are_homes by.are_vertices ranks by.holds)
-      (low-placed d declaration needed fixed tried more graph trial old by.homes by.vertices few more_long more_needed
-      by.are_homes by.are_vertices ranks by.holds)
-      (fall-placed d declaration needed fixed tried more graph trial old by.homes by.vertices few more_long
-      more_needed by.are_homes by.are_vertices ranks by.holds)
-      (same-placed d declaration needed fixed tried more graph trial old by.homes by.vertices few more_long
+      (AreRanksOnLanes-placed d declaration needed fixed tried more graph trial old by.homes by.vertices few more_long
       more_needed by.are_homes by.are_vertices ranks by.holds)
 
   -- that makes a circle
@@ -470,14 +405,17 @@ module _ (d : Declaration) (declaration : IsDeclaration d) (needed fixed tried :
       → HasStaying old s.stays g → IsSettled graph old fixed tried (g + 1) s
   IsSettled-circle by held =
       let more : List Bool = set s.stays g true in
-      IsSettled-vain graph old fixed tried g s is g_below_graph (λ out. record {
-        at = by.vertices;
-        together = λ h k h_is k_is same.
-            elim (apart old more by.homes by.vertices by.are_homes by.are_vertices h k
-            (omega (arith, h_is, more_long, trial.of.long)) (omega (arith, k_is, more_long, trial.of.long)) same) [
-              | inl one ↦ inl one
-              | inr two ↦ inr (was-with s.stays g h two.0, was-with s.stays g k two.1, two.2)
-            ];
-        circle = Circle-between d declaration needed fixed tried more graph trial old by.homes by.vertices few
-            more_long more_needed by.are_homes by.are_vertices by.holds;
-      }) held
+      IsSettled-next graph old fixed tried g s is g_below_graph (λ _. (
+        held,
+        λ _. record {
+          at = by.vertices;
+          together = λ h k h_is k_is same.
+              elim (apart old more by.homes by.vertices by.are_homes by.are_vertices h k
+              (omega (arith, h_is, more_long, trial.of.long)) (omega (arith, k_is, more_long, trial.of.long)) same) [
+                | inl one ↦ inl one
+                | inr two ↦ inr (was-with s.stays g h two.0, was-with s.stays g k two.1, two.2)
+              ];
+          circle = Circle-between d declaration needed fixed tried more graph trial old by.homes by.vertices few
+              more_long more_needed by.are_homes by.are_vertices by.holds;
+        },
+      ))

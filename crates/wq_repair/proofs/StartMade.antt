@@ -1,8 +1,8 @@
 -- The start that is made lane by lane.
 use Rattle.std.proofs.Common.{◌≡◌, ◌≢◌, ℕ, ◌+◌, ◌-◌, ◌<◌, ◌≤◌, ◌⊎◌, inl, inr, Bool, List, length, refl, sym, subst, ◌∙◌, arith}
-use Rattle.std.specs.Prelude.{false, max, slice_index}
-use Rattle.std.proofs.lemmas.Bool.{cases_eq, cases_lt, false≢true}
-use Rattle.std.proofs.lemmas.List.{get_or_past, get_or_default}
+use Rattle.std.specs.Prelude.{max, slice_index}
+use Rattle.std.proofs.lemmas.Bool.{cases_eq, cases_lt}
+use Rattle.std.proofs.lemmas.List.{get_or_default}
 use Rattle.std.proofs.lemmas.List.Elements.{Contains-get_or}
 use Rattle.wq_core.specs.Workqueues.{Workqueues}
 use Rattle.wq_repair.specs.Changes.{IsRescued, lane_in}

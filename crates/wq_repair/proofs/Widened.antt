@@ -4,53 +4,17 @@ use Rattle.std.proofs.lemmas.Bool.{cases_eq}
 use Rattle.wq_groups.specs.Declaration.{Declaration, IsDeclaration}
 use Rattle.wq_groups.specs.Assignment.{IsAssignment}
 use Rattle.wq_core.specs.Workqueues.{Workqueues, wiring_of}
-use Rattle.wq_core.specs.Deadlock.{IsSafe, Deadlocks}
-use Rattle.wq_repair.specs.Changes.{IsRescued, IsNamed, IsNamedLane, lane_in}
-use Rattle.wq_repair.specs.Needed.{NeedsRescuerOf, BringsAlong}
+use Rattle.wq_core.specs.Deadlock.{Deadlocks}
+use Rattle.wq_repair.specs.Changes.{IsRescued, lane_in}
+use Rattle.wq_repair.specs.Needed.{NeedsRescuerOf}
 use Rattle.wq_repair.specs.Marks.{IsMarked, Marks}
 use Rattle.wq_repair.specs.Joined.{NeedRescuers}
-use Rattle.wq_repair.specs.Steps.{IsToBeGiven, IsMovable, IsStartBy, HoldsMarked}
-use Rattle.wq_repair.specs.Ready.{Scope, IsReady, IsMinimal}
+use Rattle.wq_repair.specs.Steps.{HoldsMarked, KeepsNeeded}
+use Rattle.wq_repair.specs.Ready.{IsMinimal}
 use Rattle.wq_repair.specs.Repair.{IsRepair}
-use Rattle.wq_repair.specs.Wider.{IsScope, KeepsNeeded}
 use Rattle.wq_repair.proofs.Marks.{IsMarked-below}
-use Rattle.wq_repair.proofs.Rescuers.{IsLedTo-first, rescued-needed}
+use Rattle.wq_repair.proofs.Rescuers.{rescued-needed}
 use Rattle.wq_repair.proofs.Repaired.{IsRepair-needed}
-
--- the lists of a scope say so, if all that need a rescuer are among those that count as needing one
-pub IsScope-wider : (d : Declaration) (old : Workqueues) (names : List ℕ) (s : Scope) (named lanes needed : List Bool) → IsAssignment d.groups old.assignment
-    → Marks (IsNamed d names) d.groups named → Marks (IsNamedLane d old names) old.assignment.lanes lanes → Marks (NeedsRescuerOf d old names) d.groups needed → length s.needed ≡ d.groups
-    → ((g : ℕ) → g < d.groups → IsMarked needed g → IsMarked s.needed g)
-    → Marks (IsMovable named s.needed) d.groups s.movable → Marks (IsToBeGiven old lanes s.needed) old.assignment.lanes s.given → IsScope d old names s
-IsScope-wider d old names s named lanes needed before are_named are_lanes are_needed one_each among are_movable are_given = record {
-  assignment = before;
-  one_each = one_each;
-  named = named;
-  lanes = lanes;
-  are_named = are_named;
-  are_lanes = are_lanes;
-  are_movable = are_movable;
-  are_given = are_given;
-  first = λ g below rescued. among g below ((are_needed.exactly g below).1 (IsLedTo-first d old (BringsAlong d old names) g below rescued));
-}
-
--- with a start in which all of the scope have a rescuer, and that is safe, groups can be put back
-pub IsReady-scope : (d : Declaration) (old : Workqueues) (names : List ℕ) (s : Scope) (start : Workqueues) → IsScope d old names s → IsStartBy old s.movable s.given start
-    → ((g : ℕ) → g < d.groups → IsMarked s.needed g → IsRescued start (lane_in start g)) → IsSafe (wiring_of d start) → IsReady d old names s start
-IsReady-scope d old names s start is by rescued safe = record {
-  assignment = is.assignment;
-  one_each = is.one_each;
-  named = is.named;
-  lanes = is.lanes;
-  are_named = is.are_named;
-  are_lanes = is.are_lanes;
-  are_movable = is.are_movable;
-  are_given = is.are_given;
-  first = is.first;
-  by = by;
-  rescued = rescued;
-  safe = safe;
-}
 
 -- of the groups that stay, one that needs a rescuer is on each of these lanes
 pub KeepsNeeded-kept : (old new : Workqueues) (needed stay kept : List Bool) → Marks (λ (g : ℕ). IsMarked needed g × (lane_in new g ≡ lane_in old g)) (length needed) stay

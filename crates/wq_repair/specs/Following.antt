@@ -1,5 +1,5 @@
 -- Groups that are found one after the other.
-use Rattle.std.specs.Prelude.{◌≡◌, ℕ, ◌<◌, ◌≤◌, ◌⊎◌, List, Bool, length, slice_index}
+use Rattle.std.specs.Prelude.{◌≡◌, ◌↔◌, ℕ, ◌<◌, ◌≤◌, ◌⊎◌, List, [], Bool, length, slice_index, slice_index_or, Contains}
 use Rattle.wq_graph.specs.declared.arc.WaitArc.{WaitArc}
 use Rattle.wq_graph.specs.Graph.{HasArc}
 use Rattle.wq_core.specs.Workqueues.{Workqueues}
@@ -7,6 +7,7 @@ use Rattle.wq_groups.specs.Declaration.{Declaration}
 use Rattle.wq_repair.specs.Changes.{IsRescued, IsBare, lane_in}
 use Rattle.wq_repair.specs.Needed.{BringsAlong, NeedsRescuerOf}
 use Rattle.wq_repair.specs.Marks.{IsMarked}
+use Rattle.wq_repair.specs.Steps.{Named}
 use Rattle.wq_repair.specs.Together.{Lists}
 
 -- which groups are found, and in which order
@@ -26,16 +27,26 @@ pub record HasGrown (old new : FoundGroups) (P : ℕ → Type 0) : Type 0 where
   pub lists : Lists old.marks old.list → Lists new.marks new.list
 
 -- g isn't named and its lane, which has no rescuer, is, if these lists say so; and h is on it
-pub record IsBesideBy (old : Workqueues) (named lanes : List Bool) (g h : ℕ) : Type 0 where
-  pub unnamed : ¬ IsMarked named g
+pub record IsBesideBy (old : Workqueues) (n : Named) (g h : ℕ) : Type 0 where
+  pub unnamed : ¬ IsMarked n.groups g
   pub bare : IsBare old (lane_in old g)
-  pub named_lane : IsMarked lanes (lane_in old g)
-  pub is_group : h < length named
+  pub named_lane : IsMarked n.lanes (lane_in old g)
+  pub is_group : h < length old.assignment.lane_of_group
   pub beside : lane_in old h ≡ lane_in old g
 
 -- group g brings h along: an arc leads there, or h is beside it
-abbrev pub BringsAlongBy : List (List WaitArc) → Workqueues → List Bool → List Bool → ℕ → ℕ → Type 0
-BringsAlongBy graph old named lanes g h = HasArc graph g h ⊎ IsBesideBy old named lanes g h
+abbrev pub BringsAlongBy : List (List WaitArc) → Workqueues → Named → ℕ → ℕ → Type 0
+BringsAlongBy graph old n g h = HasArc graph g h ⊎ IsBesideBy old n g h
+
+-- the graph and what is found are of all groups, at most 4,096, and `on` has the groups of each lane
+pub record CanFollow (graph : List (List WaitArc)) (on : List (List ℕ)) (old : Workqueues) (f : FoundGroups) : Type 0
+  where
+    pub few : length old.assignment.lane_of_group ≤ 4096
+    pub marks : length f.marks ≡ length old.assignment.lane_of_group
+    pub graph_of : length graph ≡ length old.assignment.lane_of_group
+    pub on_each : length on ≡ old.assignment.lanes
+    pub exactly : (q g : ℕ) → Contains (slice_index_or on q []) g
+        ↔ ((g < length old.assignment.lane_of_group) × (lane_in old g ≡ q))
 
 -- all found need a rescuer; the groups on lanes that have one are found, and so are the groups that the first `done` of
 -- the list bring along

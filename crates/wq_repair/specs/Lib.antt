@@ -14,6 +14,5 @@ pub mod Lanes
 pub mod Following
 pub mod Ready
 pub mod Placing
-pub mod Wider
 pub mod Near
 pub mod Settled

@@ -1,8 +1,8 @@
 -- Lanes of ranks, and how groups come to them.
-use Rattle.std.specs.Prelude.{◌≡◌, ◌↔◌, ℕ, ◌<◌, ◌≤◌, List, Bool, Option, Some, None, length, slice_index}
+use Rattle.std.specs.Prelude.{◌≡◌, ◌↔◌, ℕ, ◌<◌, ◌≤◌, ◌⊎◌, List, Bool, Option, Some, None, length, slice_index}
 use Rattle.std.specs.Prelude.{slice_index_or, Contains}
 use Rattle.wq_core.specs.Workqueues.{Workqueues}
-use Rattle.wq_repair.specs.Changes.{HoldsAny, lane_in}
+use Rattle.wq_repair.specs.Changes.{IsRescued, HoldsAny, lane_in}
 use Rattle.wq_repair.specs.Marks.{IsMarked}
 use Rattle.wq_repair.specs.Lanes.{nth_lane}
 use Rattle.wq_repair.specs.Steps.{HoldsMarked}
@@ -65,6 +65,17 @@ pub record AreRankedLanes (old : Workqueues) (marks : List Bool) (ranks : List �
   pub marked : (g : ℕ) → g < groups → IsMarked marks g
       → IsLaneOfRank of_rank (slice_index ranks g) (slice_index lane_of g)
   pub others : (g : ℕ) → g < groups → (¬ IsMarked marks g) → slice_index lane_of g ≡ lane_in old g
+
+-- groups can be placed by their ranks, which are below `most`: a group that stays doesn't leave, and its lane has a
+-- rescuer or is given one. All that stay on a lane have the same rank, and another group is on a lane that one leaves
+pub record CanBePlaced (old : Workqueues) (given stays leaves : List Bool) (ranks : List ℕ) (most : ℕ) : Type 0 where
+  pub below : (g : ℕ) → g < length ranks → slice_index ranks g < most
+  pub apart : (g : ℕ) → IsMarked stays g → ¬ IsMarked leaves g
+  pub same : (g h : ℕ) → IsMarked stays g → IsMarked stays h → lane_in old g ≡ lane_in old h
+      → slice_index ranks g ≡ slice_index ranks h
+  pub held : (g : ℕ) → g < length leaves → IsMarked leaves g
+      → (h : ℕ) × (h < length leaves) × (lane_in old h ≡ lane_in old g) × (¬ IsMarked leaves h)
+  pub fine : (g : ℕ) → IsMarked stays g → IsRescued old (lane_in old g) ⊎ IsMarked given (lane_in old g)
 
 -- if a group that leaves moves to a lane that held groups, a movable group was on it
 abbrev pub AreHosted : Workqueues → List Bool → List Bool → Workqueues → Type 0

@@ -8,11 +8,11 @@ use Rattle.wq_core.specs.Workqueues.{Workqueues, wiring_of}
 use Rattle.wq_core.specs.Deadlock.{IsSafe}
 use Rattle.wq_levels.specs.Ranks.{AreRanks}
 use Rattle.wq_deadlock.specs.Judging.{rescued_graph}
-use Rattle.wq_repair.specs.Changes.{IsRescued, HoldsAny, IsNamed, IsNamedLane, HasMoved, IsToBeCompared, lane_in}
+use Rattle.wq_repair.specs.Changes.{IsRescued, HoldsAny, IsNamedLane, HasMoved, IsToBeCompared, lane_in}
 use Rattle.wq_repair.specs.Marks.{IsMarked, Marks}
 use Rattle.wq_repair.specs.Settled.{Settled, IsSettled}
 use Rattle.wq_repair.specs.Joined.{AreChangesNeeded, FallsAlongWaits}
-use Rattle.wq_repair.specs.Steps.{IsToBeGiven, IsMovable, IsStartBy}
+use Rattle.wq_repair.specs.Steps.{Named, AreNamed, IsToBeGiven, IsMovable, IsStartBy}
 
 -- which groups need a rescuer, which of them may move, and which lanes are given a rescuer
 pub record Scope : Type 0 where
@@ -20,18 +20,24 @@ pub record Scope : Type 0 where
   pub movable : List Bool
   pub given : List Bool
 
--- the lists say so; each group on a lane with a rescuer needs one; and the start, in which all that need one have one,
--- is safe
-pub record IsReady (d : Declaration) (old : Workqueues) (names : List ℕ) (s : Scope) (start : Workqueues) : Type 0 where
+-- each group on a lane with a rescuer is among those that need one
+abbrev pub CoversRescued : Declaration → Workqueues → List Bool → Type 0
+CoversRescued d old needed = (g : ℕ) → g < d.groups → IsRescued old (lane_in old g) → IsMarked needed g
+
+-- the lists say which groups may move and which lanes are given a rescuer; and each group on a lane with a rescuer is
+-- among those that need one
+pub record IsScope (d : Declaration) (old : Workqueues) (names : List ℕ) (s : Scope) : Type 0 where
   pub assignment : IsAssignment d.groups old.assignment
   pub one_each : length s.needed ≡ d.groups
-  pub named : List Bool
-  pub lanes : List Bool
-  pub are_named : Marks (IsNamed d names) d.groups named
-  pub are_lanes : Marks (IsNamedLane d old names) old.assignment.lanes lanes
-  pub are_movable : Marks (IsMovable named s.needed) d.groups s.movable
-  pub are_given : Marks (IsToBeGiven old lanes s.needed) old.assignment.lanes s.given
-  pub first : (g : ℕ) → g < d.groups → IsRescued old (lane_in old g) → IsMarked s.needed g
+  pub named : Named
+  pub are_named : AreNamed d old names named
+  pub are_movable : Marks (IsMovable named.groups s.needed) d.groups s.movable
+  pub are_given : Marks (IsToBeGiven old named.lanes s.needed) old.assignment.lanes s.given
+  pub first : CoversRescued d old s.needed
+
+-- and the start, in which all that need a rescuer have one, is safe
+pub record IsReady (d : Declaration) (old : Workqueues) (names : List ℕ) (s : Scope) (start : Workqueues) : Type 0 where
+  pub scope : IsScope d old names s
   pub by : IsStartBy old s.movable s.given start
   pub rescued : (g : ℕ) → g < d.groups → IsMarked s.needed g → IsRescued start (lane_in start g)
   pub safe : IsSafe (wiring_of d start)

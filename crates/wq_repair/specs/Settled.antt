@@ -1,6 +1,6 @@
 -- Which groups stay on their lanes, and what shows that no other could. The vertices are groups: a group that stays is
 -- at the home of its lane, and each other group is alone.
-use Rattle.std.specs.Prelude.{◌≡◌, ◌↔◌, ℕ, ◌<◌, ◌⊎◌, not, map, List, Bool, Option, None, Some, length, slice_index}
+use Rattle.std.specs.Prelude.{◌≡◌, ℕ, ◌<◌, ◌⊎◌, not, map, List, Bool, Option, None, Some, length, slice_index}
 use Rattle.std.specs.Prelude.{slice_index_or}
 use Rattle.wq_items.specs.Chain.{Circle}
 use Rattle.wq_groups.specs.Assignment.{Assignment, group_lane}
@@ -66,19 +66,24 @@ pub record HasStaying (old : Assignment) (stays : List Bool) (g : ℕ) : Type 0 
   pub marked : IsMarked stays group
   pub beside : group_lane old group ≡ group_lane old g
 
--- ranks fall along all arcs, and are the same for all that stay on a lane. Of the first `done` groups, each that may
--- stay does, or was tried in vain, and a group stays on its lane
+-- ranks fall along all arcs and are below 4,096, and are the same for all that stay on a lane
+pub record AreRanksOnLanes (graph : List (List WaitArc)) (old : Assignment) (stays : List Bool) (ranks : List ℕ)
+    : Type 0 where
+  pub one_each : length ranks ≡ length graph
+  pub low : (g : ℕ) → g < length graph → slice_index ranks g < 4096
+  pub fall : (g h : ℕ) → HasArc graph g h → slice_index ranks h < slice_index ranks g
+  pub same : (g h : ℕ) → IsMarked stays g → IsMarked stays h → group_lane old g ≡ group_lane old h
+      → slice_index ranks g ≡ slice_index ranks h
+
+-- the groups that stay have such ranks. Of the first `done` groups, each that may stay does, or was tried in vain, and
+-- a group stays on its lane
 pub record IsSettled (graph : List (List WaitArc)) (old : Assignment) (fixed tried : List Bool) (done : ℕ)
     (s : Settled) : Type 0 where
   pub one_each : length s.stays ≡ length graph
   pub within : IsWithin fixed tried s.stays
-  pub ranks : length s.ranks ≡ length graph
-  pub low : (g : ℕ) → g < length graph → slice_index s.ranks g < 4096
-  pub fall : (g h : ℕ) → HasArc graph g h → slice_index s.ranks h < slice_index s.ranks g
-  pub same : (g h : ℕ) → IsMarked s.stays g → IsMarked s.stays h → group_lane old g ≡ group_lane old h
-      → slice_index s.ranks g ≡ slice_index s.ranks h
-  pub vain : (g : ℕ) → g < done → IsMarked tried g → (¬ IsMarked s.stays g) → WasInVain graph old s.stays g
-  pub held : (g : ℕ) → g < done → IsMarked tried g → HasStaying old s.stays g
+  pub ranks : AreRanksOnLanes graph old s.stays s.ranks
+  pub each : (g : ℕ) → g < done → IsMarked tried g
+      → HasStaying old s.stays g × ((¬ IsMarked s.stays g) → WasInVain graph old s.stays g)
 
 -- the workqueues whose lanes are vertices, of which those have a rescuer whose groups need one
 abbrev pub vertices_placed : List Bool → List ℕ → Workqueues

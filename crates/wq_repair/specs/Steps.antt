@@ -2,9 +2,19 @@
 use Rattle.std.specs.Prelude.{◌≡◌, ℕ, ◌<◌, ◌≤◌, ◌⊎◌, List, Bool, length, slice_index, max}
 use Rattle.wq_groups.specs.Declaration.{Declaration, GroupWaits}
 use Rattle.wq_core.specs.Workqueues.{Workqueues}
-use Rattle.wq_repair.specs.Changes.{IsRescued, IsBare, HoldsAny, IsNamed, lane_in}
+use Rattle.wq_repair.specs.Changes.{IsRescued, IsBare, HoldsAny, IsNamed, IsNamedLane, lane_in}
 use Rattle.wq_repair.specs.Joined.{IsTriedInVain}
-use Rattle.wq_repair.specs.Marks.{IsMarked}
+use Rattle.wq_repair.specs.Marks.{IsMarked, Marks}
+
+-- which groups may move, and which lanes may be given a rescuer
+pub record Named : Type 0 where
+  pub groups : List Bool
+  pub lanes : List Bool
+
+-- the lists say so, if only the groups of these items may move
+pub record AreNamed (d : Declaration) (old : Workqueues) (names : List ℕ) (n : Named) : Type 0 where
+  pub groups : Marks (IsNamed d names) d.groups n.groups
+  pub lanes : Marks (IsNamedLane d old names) old.assignment.lanes n.lanes
 
 -- one of the marked groups is on lane q
 pub record HoldsMarked (ws : Workqueues) (marks : List Bool) (q : ℕ) : Type 0 where
@@ -46,6 +56,14 @@ pub record IsStartBy (old : Workqueues) (movable given : List Bool) (start : Wor
   pub given_one : (q : ℕ) → IsMarked given q → HoldsOther old movable q → IsRescued start q
   pub only : (g : ℕ) → g < length movable → (¬ IsMarked movable g) → IsRescued start (lane_in old g)
       → IsRescued old (lane_in old g) ⊎ IsMarked given (lane_in old g)
+
+-- a group of these was on lane q and still is
+pub record KeepsNeeded (old new : Workqueues) (needed : List Bool) (q : ℕ) : Type 0 where
+  pub group : ℕ
+  pub is_group : group < length needed
+  pub needs : IsMarked needed group
+  pub was : lane_in old group ≡ q
+  pub stays : lane_in new group ≡ q
 
 -- ---- placing
 

@@ -5,14 +5,15 @@
 //! rank, and each group that could stay and doesn't reaches the home of its lane, or is reached by it (`near`): with it
 //! at the home that is a circle.
 
-ghost use Rattle.std.specs.Prelude.{◌≡◌, ◌<◌, ◌≤◌, ℕ, Bool, List, length, slice_index, IfOk, IsTrue};
-ghost use Rattle.std.specs.List.{All, Any};
+ghost use Rattle.std.specs.Prelude.{◌≡◌, ◌<◌, ◌≤◌, ℕ, length, slice_index, IfOk, IsTrue, Some};
+ghost use Rattle.std.specs.List.{Any};
 ghost use Rattle.wq_groups.specs.Assignment.{group_lane};
 ghost use Rattle.wq_repair.specs.Marks.{IsMarked};
-ghost use Rattle.wq_repair.specs.Near.{IsAsked, LeadEitherWay};
+ghost use Rattle.wq_repair.specs.Near.{IsAsked};
 ghost use Rattle.wq_repair.specs.Settled.{IsHomeOf, AreHomes, AreVertices, HaveRanks, AreInVain, IsSettled, IsWithin};
 
-use crate::near::near_homes;
+use crate::listing::{either, is_marked, number_at};
+use crate::near::{home_of, near_homes};
 use crate::scope::but_not;
 use std::alloc::{AllocError, Allocator};
 use std::marker::Model;
@@ -87,11 +88,10 @@ pub(crate) fn vertices_of<A: Allocator + Copy>(
 
 /// Whether a rank is above those of the groups to which these arcs lead.
 fn is_above(ranks: &[u16], arcs: &[WaitArc], rank: u16) -> bool
-    requires { All (λ a. a.head < length ranks.now) arcs.now }
     ensures { IsTrue result → (h : ℕ) → Any (λ a. a.head ≡ h) arcs.now → slice_index ranks.now h < rank }
 {
     for arc in arcs {
-        if rank <= ranks[usize::from(arc.head)] {
+        if rank <= number_at(ranks, arc.head) {
             return false;
         }
     }
@@ -100,8 +100,6 @@ fn is_above(ranks: &[u16], arcs: &[WaitArc], rank: u16) -> bool
 
 /// Whether ranks fall along all waits, are low, and are those of the vertices of their groups.
 fn have_ranks<A: Allocator + Copy>(graph: &WaitGraph<A>, vertices: &[u16], ranks: &[u16]) -> bool
-    requires one_each { length vertices.now ≡ length graph.now }
-    requires within { All (λ v. v < length graph.now) vertices.now }
     ensures { IsTrue result → HaveRanks graph.now vertices.now ranks.now }
 {
     let groups = graph.vertices();
@@ -109,9 +107,9 @@ fn have_ranks<A: Allocator + Copy>(graph: &WaitGraph<A>, vertices: &[u16], ranks
         return false;
     }
     for group in 0..groups {
-        let rank = ranks[usize::from(group)];
-        let vertex = vertices[usize::from(group)];
-        if RANKS <= rank || ranks[usize::from(vertex)] != rank {
+        let rank = number_at(ranks, group);
+        let vertex = number_at(vertices, group);
+        if RANKS <= rank || number_at(ranks, vertex) != rank {
             return false;
         }
         if !is_above(ranks, graph.arcs(group), rank) {
@@ -121,43 +119,63 @@ fn have_ranks<A: Allocator + Copy>(graph: &WaitGraph<A>, vertices: &[u16], ranks
     true
 }
 
-/// For each of these groups the home of its lane, if it has one.
+/// The home of the lane of a group, if there is one and the group is marked.
+fn home_asked<A: Allocator>(
+    assignment: &Assignment<A>,
+    homes: &[Option<u16>],
+    marks: &[bool],
+    group: u16,
+) -> Option<u16>
+    ensures { (v : ℕ) → result ≡ Some v → IsHomeOf homes.now (group_lane assignment.now group) v }
+{
+    let place = usize::from(group);
+    if !is_marked(marks, place) || assignment.groups() <= place {
+        return None;
+    }
+    let lane = assignment.lane(GroupId::new(group)).get();
+    home_of(homes, usize::from(lane))
+}
+
+/// For each of so many groups the home of its lane, if it has one and is marked.
 fn homes_asked<A: Allocator + Copy>(
     alloc: A,
     assignment: &Assignment<A>,
-    groups: &[bool],
     homes: &[Option<u16>],
+    marks: &[bool],
+    groups: u16,
 ) -> Result<Vec<Option<u16>, A>, AllocError>
-    requires one_each { length groups.now ≡ length assignment.now.lane_of_group }
-    requires few { length groups.now ≤ 4096 }
-    requires homes { length homes.now ≡ assignment.now.lanes }
     ensures { IfOk result (λ asked. (g v : ℕ) → IsAsked asked.items g v
         → IsHomeOf homes.now (group_lane assignment.now g) v) }
 {
-    let _lanes = assignment.lanes();
-    let mut asked = Vec::with_capacity(alloc, groups.len())?;
-    for (group, is_one) in groups.iter().enumerate() {
-        if !*is_one {
-            asked.push(None)?;
-            continue;
-        }
-        let lane = assignment.lane(GroupId::new(group as u16)).get();
-        asked.push(homes[usize::from(lane)])?;
+    let mut asked = Vec::with_capacity(alloc, usize::from(groups))?;
+    for group in 0..groups {
+        asked.push(home_asked(assignment, homes, marks, group))?;
     }
     Ok(asked)
 }
 
 /// Whether all of the one list are of the other, too.
 fn are_among(some: &[bool], all: &[bool]) -> bool
-    requires { length all.now ≡ length some.now }
     ensures { IsTrue result → (g : ℕ) → IsMarked some.now g → IsMarked all.now g }
 {
     for (group, is_one) in some.iter().enumerate() {
-        if *is_one && !all[group] {
+        if *is_one && !is_marked(all, group) {
             return false;
         }
     }
     true
+}
+
+/// Whether all that can't move stay, and of the others only some that may.
+fn are_within(fixed: &[bool], tried: &[bool], stays: &[bool]) -> bool
+    ensures { IsTrue result → IsWithin fixed.now tried.now stays.now }
+{
+    for (group, does_stay) in stays.iter().enumerate() {
+        if *does_stay && !either(is_marked(fixed, group), is_marked(tried, group)) {
+            return false;
+        }
+    }
+    are_among(fixed, stays)
 }
 
 /// Whether each of these groups reaches the home of its lane, or is reached by it.
@@ -170,18 +188,10 @@ fn are_in_vain<A: Allocator + Copy>(
     ranks: &[u16],
     groups: &[bool],
 ) -> Result<bool, AllocError>
-    requires assigned { length assignment.now.lane_of_group ≡ length graph.now }
-    requires homes { length homes.now ≡ assignment.now.lanes }
-    requires one_each { length vertices.now ≡ length graph.now }
-    requires within { All (λ v. v < length graph.now) vertices.now }
-    requires ranks { length ranks.now ≡ length graph.now }
-    requires groups { length groups.now ≡ length graph.now }
     ensures { IfOk result (λ are. IsTrue are →
         AreInVain graph.now assignment.now homes.now vertices.now groups.now) }
 {
-    // There are at most 4,096 groups.
-    let _groups = graph.vertices();
-    let asked = homes_asked(alloc, assignment, groups, homes)?;
+    let asked = homes_asked(alloc, assignment, homes, groups, graph.vertices())?;
     let near = near_homes(alloc, graph, vertices, ranks, asked.as_slice())?;
     Ok(are_among(groups, near.as_slice()))
 }
@@ -191,6 +201,7 @@ fn is_right<A: Allocator + Copy>(
     alloc: A,
     graph: &WaitGraph<A>,
     assignment: &Assignment<A>,
+    fixed: &[bool],
     tried: &[bool],
     stays: &[bool],
     ranks: &[u16],
@@ -202,12 +213,15 @@ fn is_right<A: Allocator + Copy>(
     requires stays { length stays.now ≡ length graph.now }
     requires homes { AreHomes assignment.now stays.now homes.now }
     requires vertices { AreVertices assignment.now stays.now homes.now vertices.now }
-    ensures { IfOk result (λ is. IsTrue is → (fixed : List Bool) → IsWithin fixed tried.now stays.now →
-        IsSettled graph.now assignment.now fixed tried.now (length graph.now)
+    ensures { IfOk result (λ is. IsTrue is →
+        IsSettled graph.now assignment.now fixed.now tried.now (length graph.now)
         (record { stays = stays.now; ranks = ranks.now })) }
 {
     // There are at most 4,096 groups.
     let _groups = graph.vertices();
+    if !are_within(fixed, tried, stays) {
+        return Ok(false);
+    }
     if !have_ranks(graph, vertices, ranks) {
         return Ok(false);
     }
@@ -223,30 +237,32 @@ fn is_right<A: Allocator + Copy>(
     )
 }
 
-/// Whether a choice is right: no group that may stay (`tried`) and doesn't could, and ranks fall along all waits.
+/// Whether a choice is right: all that can't move (`fixed`) stay, and of the others only some that may (`tried`); no
+/// group that may stay and doesn't could; and ranks fall along all waits.
 pub(crate) fn is_settled<A: Allocator + Copy>(
     alloc: A,
     graph: &WaitGraph<A>,
     assignment: &Assignment<A>,
+    fixed: &[bool],
     tried: &[bool],
     stays: &[bool],
     ranks: &[u16],
 ) -> Result<bool, AllocError>
-    requires assigned { length assignment.now.lane_of_group ≡ length graph.now }
-    requires tried { length tried.now ≡ length graph.now }
-    requires stays { length stays.now ≡ length graph.now }
-    ensures { IfOk result (λ is. IsTrue is → (fixed : List Bool) → IsWithin fixed tried.now stays.now →
-        IsSettled graph.now assignment.now fixed tried.now (length graph.now)
+    ensures { IfOk result (λ is. IsTrue is →
+        IsSettled graph.now assignment.now fixed.now tried.now (length graph.now)
         (record { stays = stays.now; ranks = ranks.now })) }
 {
-    // There are at most 4,096 groups.
-    let _groups = graph.vertices();
+    let groups = usize::from(graph.vertices());
+    if assignment.groups() != groups || tried.len() != groups || stays.len() != groups {
+        return Ok(false);
+    }
     let homes = homes_of(alloc, assignment, stays)?;
     let vertices = vertices_of(alloc, assignment, stays, homes.as_slice())?;
     is_right(
         alloc,
         graph,
         assignment,
+        fixed,
         tried,
         stays,
         ranks,

@@ -3,7 +3,6 @@
 //! A lane takes constant time, and all rescuers time in the number of groups and lanes.
 
 ghost use Rattle.std.specs.Prelude.{◌≡◌, ◌+◌, ◌-◌, ◌<◌, ◌≤◌, length, IfOk};
-ghost use Rattle.std.specs.List.{All};
 ghost use Rattle.wq_repair.specs.Changes.{IsBare};
 ghost use Rattle.wq_repair.specs.Marks.{Marks};
 ghost use Rattle.wq_repair.specs.Lanes.{nth_lane, AreFree, AreOwnLanes, AreBareNow};

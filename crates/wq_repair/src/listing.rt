@@ -2,7 +2,7 @@
 //!
 //! It takes time in their length.
 
-ghost use Rattle.std.specs.Prelude.{◌≡◌, ◌≤◌, ◌↔◌, ◌⊎◌, true, length, IfOk, IsTrue};
+ghost use Rattle.std.specs.Prelude.{◌≡◌, ◌≤◌, ◌↔◌, ◌⊎◌, true, false, length, slice_index, slice_index_or, IfOk, IsTrue};
 ghost use Rattle.wq_repair.specs.Together.{Lists};
 
 use std::alloc::{AllocError, Allocator};
@@ -30,4 +30,34 @@ pub(crate) fn either(one: bool, other: bool) -> bool
     ensures { IsTrue result ↔ ((one ≡ true) ⊎ (other ≡ true)) }
 {
     one || other
+}
+
+/// Whether a number is marked. Past the end of the list none is.
+pub(crate) fn is_marked(marks: &[bool], number: usize) -> bool
+    ensures { result ≡ slice_index_or marks.now number false }
+{
+    match marks.get(number) {
+        Some(is_marked) => *is_marked,
+        None => false,
+    }
+}
+
+/// The number at a place, or 0 past the end of the list.
+pub(crate) fn number_at(numbers: &[u16], place: u16) -> u16
+    ensures { result ≡ slice_index numbers.now place }
+{
+    match numbers.get(usize::from(place)) {
+        Some(number) => *number,
+        None => 0,
+    }
+}
+
+/// The word at a place, or 0 past the end of the list.
+pub(crate) fn word_at(words: &[u64], place: u16) -> u64
+    ensures { result ≡ slice_index words.now place }
+{
+    match words.get(usize::from(place)) {
+        Some(word) => *word,
+        None => 0,
+    }
 }

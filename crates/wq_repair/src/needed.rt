@@ -9,12 +9,12 @@ ghost use Rattle.std.specs.List.{All, Any};
 ghost use Rattle.wq_groups.specs.DeclaredGroups.{declared_waits};
 ghost use Rattle.wq_repair.specs.Changes.{IsRescued, lane_in};
 ghost use Rattle.wq_repair.specs.Needed.{NeedsRescuerOf};
-ghost use Rattle.wq_repair.specs.Following.{HasGrown, BringsAlongBy};
+ghost use Rattle.wq_repair.specs.Following.{CanFollow, HasGrown, BringsAlongBy};
 ghost use Rattle.wq_repair.specs.Marks.{IsMarked, Marks};
 ghost use Rattle.wq_repair.specs.Together.{Lists};
 
 use crate::assigned::{graph_of_groups, workqueues_of};
-use crate::named::{named_groups, named_lanes};
+use crate::named::{Named, named_by};
 use std::alloc::{AllocError, Allocator};
 use std::marker::Model;
 use wq_buckets::Buckets;
@@ -82,34 +82,27 @@ impl<A: Allocator + Copy> Found<A> {
         graph: &WaitGraph<A>,
         on: &Buckets<A>,
         workqueues: &Workqueues<A>,
-        named: &[bool],
-        lanes: &[bool],
+        named: &Named<A>,
         group: u16,
     ) -> Result<(), AllocError>
-        requires group { group < length named.now }
-        requires few { length named.now ≤ 4096 }
-        requires marks { length self.old.marks ≡ length named.now }
-        requires graph { length graph.now ≡ length named.now }
-        requires assigned { length workqueues.now.assignment.lane_of_group ≡ length named.now }
-        requires lanes { length lanes.now ≡ workqueues.now.assignment.lanes }
-        requires on_each { length on.now ≡ workqueues.now.assignment.lanes }
-        requires on { (q g : ℕ) → Contains (slice_index_or on.now q []) g
-            ↔ ((g < length named.now) × (lane_in workqueues.now g ≡ q)) }
+        requires group { group < length workqueues.now.assignment.lane_of_group }
+        requires can { CanFollow graph.now on.now workqueues.now self.old }
         ensures { IfOk result (λ _.
-            HasGrown self.old self.new (BringsAlongBy graph.now workqueues.now named.now lanes.now group)) }
+            HasGrown self.old self.new (BringsAlongBy graph.now workqueues.now named.now group)) }
     {
         // Each arc leads to a group, and each lane is there.
         let _vertices = graph.vertices();
         let _lanes = workqueues.assignment().lanes();
         self.add_awaited(graph.arcs(group))?;
-        let lane = workqueues.assignment().lane(GroupId::new(group));
-        if named[usize::from(group)] {
+        let group = GroupId::new(group);
+        let lane = workqueues.assignment().lane(group);
+        if named.has_group(group) {
             return Ok(());
         }
         if !workqueues.is_bare(lane) {
             return Ok(());
         }
-        if !lanes[usize::from(lane.get())] {
+        if !named.has_lane(lane) {
             return Ok(());
         }
         self.add_lane(on.places(lane.get()))?;
@@ -178,21 +171,13 @@ pub(crate) fn needed_groups<A: Allocator + Copy>(
     let groups = assigned.groups().len();
     let graph = graph_of_groups(alloc, assigned)?;
     let on = groups_on_lanes(alloc, workqueues.assignment(), groups)?;
-    let named = named_groups(alloc, assigned, names)?;
-    let lanes = named_lanes(alloc, workqueues, named.as_slice())?;
+    let named = named_by(alloc, assigned, names)?;
     let mut found = on_rescuers(alloc, workqueues, groups)?;
     let mut done = 0;
     while done < found.list.len() {
         let group = found.list[done];
         done += 1;
-        found.follow(
-            &graph,
-            &on,
-            workqueues,
-            named.as_slice(),
-            lanes.as_slice(),
-            group,
-        )?;
+        found.follow(&graph, &on, workqueues, &named, group)?;
     }
     Ok(found.marks)
 }

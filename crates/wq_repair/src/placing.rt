@@ -5,14 +5,14 @@
 //! lane, or to a new one. (All groups need a rescuer on a lane to which groups go. So a movable group was on it
 //! exactly if it is named.) It takes time and memory in the number of groups and lanes.
 
-ghost use Rattle.std.specs.Prelude.{◌≡◌, ◌<◌, ◌≤◌, ◌⊎◌, ℕ, length, slice_index, IfOk, IsSome, IsTrue};
-ghost use Rattle.wq_repair.specs.Changes.{IsRescued, lane_in};
+ghost use Rattle.std.specs.Prelude.{◌≡◌, ◌<◌, ◌≤◌, ℕ, length, slice_index, IfOk, IsSome, IsTrue};
+ghost use Rattle.wq_repair.specs.Changes.{IsRescued};
 ghost use Rattle.wq_repair.specs.Marks.{IsMarked, Marks};
 ghost use Rattle.wq_repair.specs.Steps.{ArePlacedBy};
 ghost use Rattle.wq_repair.specs.Together.{AreListed, Lists};
 ghost use Rattle.wq_repair.specs.Lanes.{AreFree};
 ghost use Rattle.wq_repair.specs.Placing.{HasNoLane, AreLanesOfRanks, HasRanked, AreEmpty, AreTaken, AreRankedLanes};
-ghost use Rattle.wq_repair.specs.Placing.{AreHosted};
+ghost use Rattle.wq_repair.specs.Placing.{AreHosted, CanBePlaced};
 
 use crate::lanes::{bare_now, lanes_with, nth_lane};
 use crate::named::named_lanes;
@@ -218,16 +218,9 @@ pub(crate) fn place<A: Allocator + Copy>(
     requires leaves { length leaves.now ≡ length old.now.assignment.lane_of_group }
     requires one_each { length ranks.now ≡ length old.now.assignment.lane_of_group }
     requires few { length leaves.now ≤ 4096 }
-    requires below { (g : ℕ) → g < length ranks.now → slice_index ranks.now g < most }
     requires ranks_few { most ≤ 4096 }
     requires movable { length movable.now ≡ length old.now.assignment.lane_of_group }
-    requires apart { (g : ℕ) → IsMarked stays.now g → ¬ IsMarked leaves.now g }
-    requires same { (g h : ℕ) → IsMarked stays.now g → IsMarked stays.now h → lane_in old.now g ≡ lane_in old.now h →
-        slice_index ranks.now g ≡ slice_index ranks.now h }
-    requires held { (g : ℕ) → g < length leaves.now → IsMarked leaves.now g →
-        (h : ℕ) × (h < length leaves.now) × (lane_in old.now h ≡ lane_in old.now g) × (¬ IsMarked leaves.now h) }
-    requires fine { (g : ℕ) → IsMarked stays.now g →
-        IsRescued old.now (lane_in old.now g) ⊎ IsMarked given.now (lane_in old.now g) }
+    requires can { CanBePlaced old.now given.now stays.now leaves.now ranks.now most }
     ensures { IfOk result (λ new. ArePlacedBy old.now given.now stays.now leaves.now ranks.now new
         × AreHosted old.now movable.now leaves.now new) }
 {

@@ -4,7 +4,7 @@
 //! with g groups and w waits it takes time in g * (g + w), and memory in g + w.
 
 ghost use Rattle.std.specs.Prelude.{◌≡◌, ◌+◌, ◌<◌, ◌≤◌, ℕ, Bool, List, true, length, slice_index, slice_set};
-ghost use Rattle.std.specs.Prelude.{IfOk, IfSome, IfNone};
+ghost use Rattle.std.specs.Prelude.{IfOk, MatchOption};
 ghost use Rattle.std.specs.List.{All};
 ghost use Rattle.wq_groups.specs.DeclaredGroups.{declared_waits};
 ghost use Rattle.wq_items.specs.Chain.{Circle};
@@ -72,10 +72,9 @@ fn ranks_by_group<A: Allocator + Copy>(
     alloc: A,
     assigned: &Assigned<'_, '_, A>,
 ) -> Result<Option<Vec<u16, A>>, AllocError>
-    ensures some { IfOk result (λ ranks. IfSome ranks (λ ranks. AreRanksOfGroups
-        (declared_waits assigned.now.declared) assigned.now.workqueues ranks.items)) }
-    ensures none { IfOk result (λ ranks. IfNone ranks (Circle
-        (HasArc (rescued_graph (declared_waits assigned.now.declared) assigned.now.workqueues)))) }
+    ensures { IfOk result (λ ranks. MatchOption ranks
+        (Circle (HasArc (rescued_graph (declared_waits assigned.now.declared) assigned.now.workqueues)))
+        (λ ranks. AreRanksOfGroups (declared_waits assigned.now.declared) assigned.now.workqueues ranks.items)) }
 {
     let workqueues = workqueues_of(assigned);
     let graph = rescued_graph(alloc, assigned)?;
@@ -107,10 +106,9 @@ fn ranks_if<A: Allocator + Copy>(
     requires assigned { length assignment.now.lane_of_group ≡ start.now.declared.partition.groups }
     requires needed { length needed.now ≡ start.now.declared.partition.groups }
     requires stays { length stays.now ≡ start.now.declared.partition.groups }
-    ensures some { IfOk result (λ ranks. IfSome ranks (λ ranks. IsSettledBy assignment.now needed.now stays.now
-        (λ ws. AreRanksOfGroups (declared_waits start.now.declared) ws ranks.items))) }
-    ensures none { IfOk result (λ ranks. IfNone ranks (IsSettledBy assignment.now needed.now stays.now
-        (λ ws. Circle (HasArc (rescued_graph (declared_waits start.now.declared) ws))))) }
+    ensures { IfOk result (λ ranks. IsSettledBy assignment.now needed.now stays.now (λ ws. MatchOption ranks
+        (Circle (HasArc (rescued_graph (declared_waits start.now.declared) ws)))
+        (λ ranks. AreRanksOfGroups (declared_waits start.now.declared) ws ranks.items))) }
 {
     let _few = workqueues_of(start);
     let homes = homes_of(alloc, assignment, stays)?;

@@ -5,30 +5,30 @@
 //! `wq_choice` says, if it is right (`checking`), and else as many as a plain loop finds (`plain`). The others go to
 //! lanes of their rank.
 
-ghost use Rattle.std.specs.Prelude.{◌≡◌, ◌⊎◌, ◌<◌, ◌≤◌, ℕ, List, true, length, map, not, slice_index, IfOk, OnErr};
+ghost use Rattle.std.specs.Prelude.{◌≡◌, ◌<◌, ℕ, List, length, map, not, slice_index, IfOk, OnErr};
 ghost use Rattle.std.specs.Prelude.{IfSome, IfNone};
 ghost use Rattle.std.specs.List.{All};
-ghost use Rattle.wq_groups.specs.Declaration.{Declaration, IsDeclaration};
+ghost use Rattle.wq_groups.specs.Declaration.{IsDeclaration};
 ghost use Rattle.wq_groups.specs.DeclaredGroups.{declared_waits};
 ghost use Rattle.wq_core.specs.Workqueues.{wiring_of};
 ghost use Rattle.wq_core.specs.Deadlock.{Deadlocks};
 ghost use Rattle.wq_items.specs.Chain.{Circle};
 ghost use Rattle.wq_graph.specs.Graph.{group_graph, without};
 ghost use Rattle.wq_repair.specs.Marks.{Marks};
+ghost use Rattle.wq_repair.specs.Needed.{NeedsRescuer};
 ghost use Rattle.wq_repair.specs.Ready.{IsReady, IsMinimal, IsSettledIn, IsTried};
-ghost use Rattle.wq_repair.specs.Settled.{IsWithin};
 ghost use Rattle.wq_repair.specs.Joined.{NeededWaits};
 ghost use Rattle.wq_repair.specs.Repair.{IsAnswer, IsNeededCircle};
 
 use crate::answer::Answer;
 use crate::assigned::{graph_of_groups, judge_others, with_workqueues, workqueues_of};
 use crate::checking::{RANKS, Settled, is_settled};
-use crate::named::{named_groups, named_lanes};
+use crate::named::named_by;
 use crate::needed::needed_groups;
 use crate::placing::place;
 use crate::plain::settle;
 use crate::scope::{Scope, all_but, but_not, scope_of, tried_groups};
-use crate::start::start;
+use crate::start::start_of;
 use crate::wider::better_repair;
 use std::alloc::{AllocError, Allocator};
 use wq_choice::{Chooser, LargestSets};
@@ -67,40 +67,6 @@ fn graph_of_needed<A: Allocator + Copy>(
     graph_of_groups(alloc, assigned)?.without(alloc, out.as_slice())
 }
 
-/// Whether a group is chosen.
-fn is_chosen(chosen: &[bool], group: usize) -> bool {
-    match chosen.get(group) {
-        Some(is_chosen) => *is_chosen,
-        None => false,
-    }
-}
-
-/// Whether a group stays: if it can't move, or may stay and is chosen.
-fn does_stay(is_fixed: bool, is_tried: bool, is_chosen: bool) -> bool
-    ensures kept { is_fixed ≡ true → result ≡ true }
-    ensures only { result ≡ true → (is_fixed ≡ true) ⊎ (is_tried ≡ true) }
-{
-    is_fixed || is_tried && is_chosen
-}
-
-/// The groups that stay: those that can't move, and of those that may stay the chosen ones.
-fn with_chosen<A: Allocator + Copy>(
-    alloc: A,
-    fixed: &[bool],
-    tried: &[bool],
-    chosen: &[bool],
-) -> Result<Vec<bool, A>, AllocError>
-    requires { length tried.now ≡ length fixed.now }
-    ensures one_each { IfOk result (λ stays. length stays.items ≡ length fixed.now) }
-    ensures within { IfOk result (λ stays. IsWithin fixed.now tried.now stays.items) }
-{
-    let mut stays = Vec::with_capacity(alloc, fixed.len())?;
-    for (group, is_fixed) in fixed.iter().enumerate() {
-        stays.push(does_stay(*is_fixed, tried[group], is_chosen(chosen, group)))?;
-    }
-    Ok(stays)
-}
-
 /// Which groups stay on their lanes, and a rank for each group: by the chooser if it is right, and else by trying one
 /// after the other.
 fn settled<A: Allocator + Copy, C: Chooser<A>>(
@@ -128,17 +94,19 @@ fn settled<A: Allocator + Copy, C: Chooser<A>>(
         scope.movable.as_slice(),
         tried,
     )?;
-    let stays = with_chosen(alloc, fixed.as_slice(), tried, choice.stays.as_slice())?;
-    let ranks = choice.ranks;
     if is_settled(
         alloc,
         &graph,
         assignment,
+        fixed.as_slice(),
         tried,
-        stays.as_slice(),
-        ranks.as_slice(),
+        choice.stays.as_slice(),
+        choice.ranks.as_slice(),
     )? {
-        Ok(Settled { stays, ranks })
+        Ok(Settled {
+            stays: choice.stays,
+            ranks: choice.ranks,
+        })
     } else {
         settle(alloc, start, old, scope, fixed.as_slice(), tried)
     }
@@ -193,6 +161,19 @@ pub(crate) fn repaired<A: Allocator + Copy, C: Chooser<A>>(
     repaired_from(alloc, chooser, old, &begin, scope)
 }
 
+/// For each group whether it needs a rescuer, whatever may move.
+fn always_needed<A: Allocator + Copy>(
+    alloc: A,
+    assigned: &Assigned<'_, '_, A>,
+) -> Result<Vec<bool, A>, AllocError>
+    ensures { IfOk result (λ needed.
+        Marks (NeedsRescuer (declared_waits assigned.now.declared) assigned.now.workqueues)
+        assigned.now.declared.partition.groups needed.items) }
+{
+    let all = all_items(alloc, assigned.table())?;
+    needed_groups(alloc, assigned, all.as_slice())
+}
+
 /// The circle in which groups wait that need a rescuer whatever may move, if there is one.
 fn needed_circle<A: Allocator + Copy>(
     alloc: A,
@@ -204,8 +185,8 @@ fn needed_circle<A: Allocator + Copy>(
     ensures none { IfOk result (λ circle. IfNone circle
         (¬ Circle (NeededWaits (declared_waits assigned.now.declared) assigned.now.workqueues))) }
 {
-    let all = all_items(alloc, assigned.table())?;
-    let always = needed_groups(alloc, assigned, all.as_slice())?;
+    let _declared = workqueues_of(assigned);
+    let always = always_needed(alloc, assigned)?;
     let graph = graph_of_needed(alloc, assigned, always.as_slice())?;
     match rank(alloc, &graph)? {
         Ranked::Ranks(_) => Ok(None),
@@ -225,23 +206,11 @@ fn repair_without_circle<A: Allocator + Copy, C: Chooser<A>>(
     requires no_circle { ¬ Circle (NeededWaits (declared_waits assigned.now.declared) assigned.now.workqueues) }
     ensures { IfOk result (IsAnswer (declared_waits assigned.now.declared) assigned.now.workqueues names.now) }
 {
-    let workqueues = workqueues_of(assigned);
+    let _few = workqueues_of(assigned);
     let needed = needed_groups(alloc, assigned, names)?;
-    let named = named_groups(alloc, assigned, names)?;
-    let lanes = named_lanes(alloc, workqueues, named.as_slice())?;
-    let scope = scope_of(
-        alloc,
-        workqueues,
-        named.as_slice(),
-        lanes.as_slice(),
-        needed,
-    )?;
-    let begin = start(
-        alloc,
-        workqueues,
-        scope.movable.as_slice(),
-        scope.given.as_slice(),
-    )?;
+    let named = named_by(alloc, assigned, names)?;
+    let scope = scope_of(alloc, assigned, &named, needed)?;
+    let begin = start_of(alloc, assigned, &scope)?;
     match judge_others(alloc, assigned, &begin)? {
         Judged::Deadlock(steps) => Ok(Answer::TooFewNames(begin, steps)),
         Judged::Safe => {

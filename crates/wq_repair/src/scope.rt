@@ -2,17 +2,19 @@
 //!
 //! It takes time in the number of groups and lanes.
 
-ghost use Rattle.std.specs.Prelude.{◌≡◌, ◌≤◌, length, not, map, IfOk};
-ghost use Rattle.wq_repair.specs.Changes.{lane_in};
+ghost use Rattle.std.specs.Prelude.{◌≡◌, ◌≤◌, ℕ, List, length, not, map, IfOk};
+ghost use Rattle.wq_groups.specs.DeclaredGroups.{declared_waits};
 ghost use Rattle.wq_repair.specs.Marks.{Marks};
-ghost use Rattle.wq_repair.specs.Steps.{IsToBeGiven, IsMovable};
-ghost use Rattle.wq_repair.specs.Ready.{IsTried, IsButNot};
+ghost use Rattle.wq_repair.specs.Steps.{AreNamed};
+ghost use Rattle.wq_repair.specs.Ready.{CoversRescued, IsScope, IsTried, IsButNot};
 
-use crate::listing::either;
+use crate::assigned::workqueues_of;
+use crate::listing::{either, is_marked};
+use crate::named::Named;
 use crate::start::{given_lanes, movable_groups};
 use std::alloc::{AllocError, Allocator};
 use std::marker::Model;
-use wq_core::Workqueues;
+use wq_core::{Assigned, Workqueues};
 use wq_groups::GroupId;
 
 /// Which groups need a rescuer, which of them may move, and which lanes are given one.
@@ -34,23 +36,22 @@ impl<A: Allocator> Model for Scope<A> {
 /// The scope of a repair, if these groups may move, these lanes may be given a rescuer, and these groups need one.
 pub(crate) fn scope_of<A: Allocator + Copy>(
     alloc: A,
-    workqueues: &Workqueues<A>,
-    named: &[bool],
-    lanes: &[bool],
+    assigned: &Assigned<'_, '_, A>,
+    named: &Named<A>,
     needed: Vec<bool, A>,
 ) -> Result<Scope<A>, AllocError>
-    requires named { length named.now ≡ length workqueues.now.assignment.lane_of_group }
-    requires lanes { length lanes.now ≡ workqueues.now.assignment.lanes }
-    requires needed { length needed.items ≡ length workqueues.now.assignment.lane_of_group }
-    requires few { length needed.items ≤ 4096 }
+    requires named { (names : List ℕ)
+        × AreNamed (declared_waits assigned.now.declared) assigned.now.workqueues names named.now }
+    requires needed { length needed.items ≡ assigned.now.declared.partition.groups }
     ensures needed { IfOk result (λ scope. scope.needed ≡ needed.items) }
-    ensures movable { IfOk result (λ scope.
-        Marks (IsMovable named.now needed.items) (length named.now) scope.movable) }
-    ensures given { IfOk result (λ scope. Marks (IsToBeGiven workqueues.now lanes.now needed.items)
-        workqueues.now.assignment.lanes scope.given) }
+    ensures scope { IfOk result (λ scope. (names : List ℕ) →
+        AreNamed (declared_waits assigned.now.declared) assigned.now.workqueues names named.now →
+        CoversRescued (declared_waits assigned.now.declared) assigned.now.workqueues needed.items →
+        IsScope (declared_waits assigned.now.declared) assigned.now.workqueues names scope) }
 {
-    let given = given_lanes(alloc, workqueues, lanes, needed.as_slice())?;
-    let movable = movable_groups(alloc, named, needed.as_slice())?;
+    let workqueues = workqueues_of(assigned);
+    let given = given_lanes(alloc, workqueues, named.lanes.as_slice(), needed.as_slice())?;
+    let movable = movable_groups(alloc, named.groups.as_slice(), needed.as_slice())?;
     Ok(Scope {
         needed,
         movable,
@@ -86,12 +87,11 @@ pub(crate) fn but_not<A: Allocator + Copy>(
     one: &[bool],
     other: &[bool],
 ) -> Result<Vec<bool, A>, AllocError>
-    requires { length other.now ≡ length one.now }
     ensures { IfOk result (λ both. Marks (IsButNot one.now other.now) (length one.now) both.items) }
 {
     let mut both = Vec::with_capacity(alloc, one.len())?;
     for (group, is_one) in one.iter().enumerate() {
-        both.push(*is_one && !other[group])?;
+        both.push(*is_one && !is_marked(other, group))?;
     }
     Ok(both)
 }

@@ -3,14 +3,18 @@
 //! Whatever is compared with a repair comes from the start when lanes are put together. So where the start deadlocks,
 //! everything does. It takes time and memory in the number of groups and lanes.
 
-ghost use Rattle.std.specs.Prelude.{◌≡◌, ◌≤◌, length, IfOk};
+ghost use Rattle.std.specs.Prelude.{◌≡◌, ◌≤◌, ℕ, List, length, IfOk};
+ghost use Rattle.wq_groups.specs.DeclaredGroups.{declared_waits};
 ghost use Rattle.wq_repair.specs.Marks.{Marks};
+ghost use Rattle.wq_repair.specs.Ready.{IsScope};
 ghost use Rattle.wq_repair.specs.Steps.{HoldsOther, IsToBeGiven, IsMovable, IsStartBy};
 
+use crate::assigned::workqueues_of;
 use crate::lanes::{bare_now, lanes_with, own_lanes};
 use crate::listing::listed;
+use crate::scope::Scope;
 use std::alloc::{AllocError, Allocator};
-use wq_core::Workqueues;
+use wq_core::{Assigned, Workqueues};
 use wq_groups::{Assignment, GroupId, LaneId};
 
 /// For each lane whether it is given a rescuer: it has none and may be given one, and all groups on it need one.
@@ -83,7 +87,7 @@ pub(crate) fn free_lanes<A: Allocator + Copy>(
 /// Each movable group on a lane of its own, by number, upwards through the lanes that hold no other groups than these,
 /// and then on new ones; all others on theirs. The lanes of the former have a rescuer, and of the latter those that are
 /// given one.
-pub(crate) fn start<A: Allocator + Copy>(
+fn start<A: Allocator + Copy>(
     alloc: A,
     workqueues: &Workqueues<A>,
     movable: &[bool],
@@ -103,4 +107,23 @@ pub(crate) fn start<A: Allocator + Copy>(
     let bare = bare_now(alloc, workqueues, movable, given, lane_of.as_slice())?;
     let assignment = Assignment::new(lanes, lane_of).unwrap();
     Ok(Workqueues::new(assignment, bare))
+}
+
+/// The start of a repair of this scope.
+pub(crate) fn start_of<A: Allocator + Copy>(
+    alloc: A,
+    assigned: &Assigned<'_, '_, A>,
+    scope: &Scope<A>,
+) -> Result<Workqueues<A>, AllocError>
+    requires { (names : List ℕ)
+        × IsScope (declared_waits assigned.now.declared) assigned.now.workqueues names scope.now }
+    ensures { IfOk result (IsStartBy assigned.now.workqueues scope.now.movable scope.now.given) }
+{
+    let workqueues = workqueues_of(assigned);
+    start(
+        alloc,
+        workqueues,
+        scope.movable.as_slice(),
+        scope.given.as_slice(),
+    )
 }

@@ -1,9 +1,9 @@
 //! Another repair, in which more lanes are given a rescuer.
 //!
-//! A repair gives a lane a rescuer only if all groups on it need one. If two or more of them do, and the others wait
-//! for no group that needs none, one rescuer may be fewer changes than a move of each. So all groups of such lanes
-//! count here as needing one. If each of these lanes keeps a group that does need one, no change can be left out in
-//! this repair, either. It takes the time of a repair.
+//! A repair gives a lane a rescuer only if all groups on it need one. If one rescuer may be fewer changes than a move
+//! of each that does (`wq_choice` says of which lanes), all groups of such lanes count here as needing one. If each of
+//! these lanes keeps a group that does need one, no change can be left out in this repair, either. It takes the time
+//! of a repair.
 
 ghost use Rattle.std.specs.Prelude.{◌≡◌, ◌<◌, ◌≤◌, ◌⊎◌, ℕ, length, IfOk, IfSome, IsTrue, List, Some};
 ghost use Rattle.std.specs.List.{All};
@@ -13,96 +13,35 @@ ghost use Rattle.wq_core.specs.Deadlock.{Deadlocks};
 ghost use Rattle.wq_repair.specs.Changes.{IsRescued, lane_in};
 ghost use Rattle.wq_repair.specs.Marks.{IsMarked, Marks};
 ghost use Rattle.wq_repair.specs.Needed.{NeedsRescuerOf};
-ghost use Rattle.wq_repair.specs.Ready.{IsReady, IsMinimal};
+ghost use Rattle.wq_repair.specs.Ready.{IsReady, IsScope, IsMinimal};
 ghost use Rattle.wq_repair.specs.Repair.{IsRepair};
-ghost use Rattle.wq_repair.specs.Wider.{IsScope, KeepsNeeded};
+ghost use Rattle.wq_repair.specs.Steps.{KeepsNeeded};
 
 use crate::assigned::{graph_of_groups, others_are_safe, workqueues_of};
-use crate::listing::either;
-use crate::named::{named_groups, named_lanes};
+use crate::listing::{either, is_marked};
+use crate::named::{Named, named_by, named_lanes};
 use crate::repairing::repaired;
 use crate::scope::{Scope, scope_of};
-use crate::start::{given_lanes, start};
+use crate::start::start_of;
 use std::alloc::{AllocError, Allocator};
-use wq_choice::Chooser;
+use wq_choice::{Chooser, shared_lanes};
 use wq_core::{Assigned, Workqueues};
-use wq_graph::{WaitArc, WaitGraph};
 use wq_groups::{GroupId, LaneId};
 use wq_items::ItemId;
 
-/// For each lane how many of these groups are on it, up to 2.
-fn counts_on_lanes<A: Allocator + Copy>(
+/// For each lane whether it may be given a rescuer and has none.
+fn bare_of<A: Allocator + Copy>(
     alloc: A,
     workqueues: &Workqueues<A>,
-    groups: &[bool],
-) -> Result<Vec<u8, A>, AllocError>
-    requires one_each { length groups.now ≡ length workqueues.now.assignment.lane_of_group }
-    requires few { length groups.now ≤ 4096 }
-    ensures { IfOk result (λ counts. length counts.items ≡ workqueues.now.assignment.lanes) }
-{
-    let mut counts = vec![in alloc; 0u8; usize::from(workqueues.assignment().lanes())]?;
-    for (group, is_one) in groups.iter().enumerate() {
-        if !*is_one {
-            continue;
-        }
-        let lane = usize::from(
-            workqueues
-                .assignment()
-                .lane(GroupId::new(group as u16))
-                .get(),
-        );
-        if counts[lane] < 2 {
-            counts[lane] += 1;
-        }
+    named: &Named<A>,
+) -> Result<Vec<bool, A>, AllocError> {
+    let lanes = workqueues.assignment().lanes();
+    let mut bare = Vec::with_capacity(alloc, usize::from(lanes))?;
+    for lane in 0..lanes {
+        let lane = LaneId::new(lane);
+        bare.push(named.has_lane(lane) && workqueues.is_bare(lane))?;
     }
-    Ok(counts)
-}
-
-/// Whether these arcs lead to groups that need a rescuer.
-fn lead_to(arcs: &[WaitArc], needed: &[bool]) -> bool
-    requires { All (λ a. a.head < length needed.now) arcs.now }
-{
-    for arc in arcs {
-        if !needed[usize::from(arc.head)] {
-            return false;
-        }
-    }
-    true
-}
-
-/// The lanes that may be given a rescuer and aren't, on which two or more groups need one, and whose groups all wait
-/// for such groups only.
-fn shared_lanes<A: Allocator + Copy>(
-    alloc: A,
-    graph: &WaitGraph<A>,
-    workqueues: &Workqueues<A>,
-    named_lanes: &[bool],
-    needed: &[bool],
-) -> Result<Vec<bool, A>, AllocError>
-    requires one_each { length needed.now ≡ length workqueues.now.assignment.lane_of_group }
-    requires lanes { length named_lanes.now ≡ workqueues.now.assignment.lanes }
-    requires graph { length graph.now ≡ length needed.now }
-    requires few { length needed.now ≤ 4096 }
-    ensures { IfOk result (λ shared. length shared.items ≡ workqueues.now.assignment.lanes) }
-{
-    // Each arc leads to a group, and each lane is there.
-    let _vertices = graph.vertices();
-    let _lanes = workqueues.assignment().lanes();
-    let given = given_lanes(alloc, workqueues, named_lanes, needed)?;
-    let counts = counts_on_lanes(alloc, workqueues, needed)?;
-    let mut shared = Vec::with_capacity(alloc, named_lanes.len())?;
-    for (lane, is_named) in named_lanes.iter().enumerate() {
-        let is_bare = workqueues.is_bare(LaneId::new(lane as u16));
-        shared.push(*is_named && is_bare && !given[lane] && counts[lane] == 2)?;
-    }
-    for group in 0..needed.len() as u16 {
-        if lead_to(graph.arcs(group), needed) {
-            continue;
-        }
-        let lane = workqueues.assignment().lane(GroupId::new(group));
-        shared[usize::from(lane.get())] = false;
-    }
-    Ok(shared)
+    Ok(bare)
 }
 
 /// For each group whether it is one of these, or on one of these lanes.
@@ -113,17 +52,15 @@ fn with_all_on<A: Allocator + Copy>(
     lanes: &[bool],
 ) -> Result<Vec<bool, A>, AllocError>
     requires one_each { length groups.now ≡ length workqueues.now.assignment.lane_of_group }
-    requires lanes { length lanes.now ≡ workqueues.now.assignment.lanes }
     requires few { length groups.now ≤ 4096 }
     ensures { IfOk result (λ all.
         Marks (λ g. IsMarked groups.now g ⊎ IsMarked lanes.now (lane_in workqueues.now g))
         (length groups.now) all.items) }
 {
-    let _lanes = workqueues.assignment().lanes();
     let mut all = Vec::with_capacity(alloc, groups.len())?;
     for (group, is_one) in groups.iter().enumerate() {
         let lane = workqueues.assignment().lane(GroupId::new(group as u16));
-        all.push(either(*is_one, lanes[usize::from(lane.get())]))?;
+        all.push(either(*is_one, is_marked(lanes, usize::from(lane.get()))))?;
     }
     Ok(all)
 }
@@ -178,19 +115,19 @@ fn are_beside<A: Allocator>(
     lanes: &[bool],
 ) -> bool
     requires one_each { length groups.now ≡ length workqueues.now.assignment.lane_of_group }
-    requires needed { length needed.now ≡ length groups.now }
-    requires lanes { length lanes.now ≡ workqueues.now.assignment.lanes }
     requires few { length groups.now ≤ 4096 }
     ensures { IsTrue result → (g : ℕ) → g < length groups.now → IsMarked groups.now g →
         IsMarked needed.now g ⊎ IsMarked lanes.now (lane_in workqueues.now g) }
 {
-    let _lanes = workqueues.assignment().lanes();
     for (group, is_one) in groups.iter().enumerate() {
         if !*is_one {
             continue;
         }
         let lane = workqueues.assignment().lane(GroupId::new(group as u16));
-        if !either(needed[group], lanes[usize::from(lane.get())]) {
+        if !either(
+            is_marked(needed, group),
+            is_marked(lanes, usize::from(lane.get())),
+        ) {
             return false;
         }
     }
@@ -210,8 +147,8 @@ fn repaired_in<A: Allocator + Copy, C: Chooser<A>>(
         IsScope (declared_waits assigned.now.declared) assigned.now.workqueues names scope.now →
         IsMinimal (declared_waits assigned.now.declared) assigned.now.workqueues names scope.now.needed new)) }
 {
-    let old = workqueues_of(assigned);
-    let begin = start(alloc, old, scope.movable.as_slice(), scope.given.as_slice())?;
+    let _few = workqueues_of(assigned);
+    let begin = start_of(alloc, assigned, scope)?;
     if !all_rescued(&begin, scope.needed.as_slice()) {
         return Ok(None);
     }
@@ -256,15 +193,15 @@ fn wider_scope<A: Allocator + Copy>(
         (IsScope (declared_waits assigned.now.declared) assigned.now.workqueues names.now)) }
 {
     let old = workqueues_of(assigned);
-    let named = named_groups(alloc, assigned, names)?;
-    let lanes = named_lanes(alloc, old, named.as_slice())?;
+    let named = named_by(alloc, assigned, names)?;
     let graph = graph_of_groups(alloc, assigned)?;
-    let shared = shared_lanes(alloc, &graph, old, lanes.as_slice(), needed)?;
+    let bare = bare_of(alloc, old, &named)?;
+    let shared = shared_lanes(alloc, &graph, old.assignment(), bare, needed)?;
     if !shared.iter().any(|is_shared| *is_shared) {
         return Ok(None);
     }
     let all = with_all_on(alloc, old, needed, shared.as_slice())?;
-    let scope = scope_of(alloc, old, named.as_slice(), lanes.as_slice(), all)?;
+    let scope = scope_of(alloc, assigned, &named, all)?;
     Ok(Some(scope))
 }
 
@@ -307,23 +244,21 @@ fn changes<A: Allocator + Copy>(
     alloc: A,
     old: &Workqueues<A>,
     new: &Workqueues<A>,
-) -> Result<usize, AllocError>
-    requires new { length new.now.assignment.lane_of_group ≡ length old.now.assignment.lane_of_group }
-    requires few { length old.now.assignment.lane_of_group ≤ 4096 }
-{
-    let all = vec![in alloc; true; old.assignment().groups()]?;
-    let stay = staying(alloc, old, new, all.as_slice())?;
-    let mut given = named_lanes(alloc, old, stay.as_slice())?;
-    for lane in 0..old.assignment().lanes() {
-        let id = LaneId::new(lane);
-        if old.is_bare(id) && !new.is_bare(id) {
-            continue;
+) -> Result<usize, AllocError> {
+    let before = old.assignment().lanes_of_groups(alloc)?;
+    let after = new.assignment().lanes_of_groups(alloc)?;
+    let mut given = vec![in alloc; false; usize::from(old.assignment().lanes())]?;
+    let mut moved: usize = 0;
+    for (lane, now) in before.iter().zip(after.iter()) {
+        if lane != now {
+            moved = moved.saturating_add(1);
+        } else if old.is_bare(LaneId::new(*lane)) && !new.is_bare(LaneId::new(*lane)) {
+            if let Some(is_given) = given.get_mut(usize::from(*lane)) {
+                *is_given = true;
+            }
         }
-        given[usize::from(lane)] = false;
     }
-    let moved = stay.iter().filter(|stays| !**stays).count();
-    let given = given.iter().filter(|is_given| **is_given).count();
-    Ok(moved + given)
+    Ok(moved.saturating_add(given.iter().filter(|is_given| **is_given).count()))
 }
 
 /// Of a repair and perhaps another, the one with fewer changes; the first if both have as many.
@@ -333,10 +268,6 @@ pub(crate) fn with_fewer_changes<A: Allocator + Copy>(
     one: Workqueues<A>,
     other: Option<Workqueues<A>>,
 ) -> Result<Workqueues<A>, AllocError>
-    requires one { length one.assignment.lane_of_group ≡ length old.now.assignment.lane_of_group }
-    requires other { IfSome other (λ o.
-        length o.assignment.lane_of_group ≡ length old.now.assignment.lane_of_group) }
-    requires few { length old.now.assignment.lane_of_group ≤ 4096 }
     ensures { IfOk result (λ best. (best ≡ one) ⊎ (other ≡ Some best)) }
 {
     let Some(other) = other else {

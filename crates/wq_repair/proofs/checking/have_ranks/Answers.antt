@@ -1,4 +1,4 @@
-use Rattle.std.proofs.Common.{◌≡◌, ℕ, ◌+◌, ◌<◌, ◌≤◌, inl, inr, List, length, sym, ap, subst, ◌∙◌, arith}
+use Rattle.std.proofs.Common.{◌≡◌, ℕ, inl, inr, length, sym, ap, subst, ◌∙◌, arith}
 use Rattle.std.specs.Prelude.{slice_index}
 use Rattle.std.specs.List.{Any}
 use Rattle.std.proofs.lemmas.Bool.{cases_eq}
@@ -13,28 +13,24 @@ loop-group-preserved g c =
     let at = c.args.vertices.now in
     let ranks = c.args.ranks.now in
     let i = c.loop-group.group in
-    let rank = slice_index ranks c.from-in-loop-group.result in
-    let rank_is : slice_index ranks i ≡ rank = ap (slice_index ranks) (sym c.from-in-loop-group.ensures) in
     record {
       low = λ k lt. elim (cases_eq k i) [
-        | inl last ↦ omega (arith, ap (slice_index ranks) last, rank_is, c.if-rank-ge-RANKS.false)
+        | inl last ↦ omega (arith, ap (slice_index ranks) last, c.number_at-rank.ensures, c.if-rank-ge-RANKS.false)
         | inr other ↦ c.loop-group.invariant.low k (omega (arith, lt, other))
       ];
       same = λ k lt. elim (cases_eq k i) [
         | inl last ↦
             ap (λ (x : ℕ). slice_index ranks (slice_index at x)) last
-            ∙ ap (λ (x : ℕ). slice_index ranks (slice_index at x)) (sym c.from-in-loop-group-2.ensures)
-            ∙ ap (slice_index ranks) (sym c.from-else-rank-ge-RANKS.ensures) ∙ c.if-ranks-from-2.false ∙ sym rank_is
-            ∙ ap (slice_index ranks) (sym last)
+            ∙ ap (slice_index ranks) (sym c.number_at-vertex.ensures) ∙ sym c.number_at.ensures
+            ∙ c.if-number_at-rank.false ∙ c.number_at-rank.ensures ∙ ap (slice_index ranks) (sym last)
         | inr other ↦ c.loop-group.invariant.same k (omega (arith, lt, other))
       ];
       fall = λ k h lt arc. elim (cases_eq k i) [
         | inl last ↦
             let here : HasArc graph i h = subst (λ (x : ℕ). HasArc graph x h) last arc in
-            let lower : slice_index ranks h < rank =
-            c.is_above.ensures c.if-not-is_above.false h
+            let lower = c.is_above.ensures c.if-not-is_above.false h
             (subst (Any (λ (b : WaitArc). b.head ≡ h)) (sym c.arcs.ensures) here) in
-            omega (arith, lower, rank_is, ap (slice_index ranks) last)
+            omega (arith, lower, c.number_at-rank.ensures, ap (slice_index ranks) last)
         | inr other ↦ c.loop-group.invariant.fall k h (omega (arith, lt, other)) arc
       ];
     }

@@ -1,4 +1,4 @@
-use Rattle.std.proofs.Common.{◌≡◌, ℕ, ◌+◌, ◌<◌, ◌≤◌, inl, inr, sym, ap, subst, arith}
+use Rattle.std.proofs.Common.{ℕ, ◌<◌, inl, inr, sym, subst, arith}
 use Rattle.std.specs.Prelude.{slice_index}
 use Rattle.wq_graph.specs.declared.arc.WaitArc.{WaitArc}
 use Rattle.wq_repair.proofs.NeededFound.{HeadBelow-last}
@@ -8,12 +8,12 @@ pub loop-arc-preserved : goal.loop-arc-preserved
 loop-arc-preserved c =
     let arcs = c.args.arcs.now in
     let ranks = c.args.ranks.now in
-    let i = c.loop-arc.arc-index in
     let a : WaitArc = c.arc-item.result in
-    λ h below. elim (HeadBelow-last arcs i a c.loop-arc-test.true c.arc-item.is h below) [
+    λ h below.
+    elim (HeadBelow-last arcs c.loop-arc.arc-index a c.loop-arc-test.true c.arc-item.is h below) [
       | inl before ↦ c.loop-arc.invariant h before
       | inr same ↦ subst (λ (x : ℕ). slice_index ranks x < c.args.rank) (sym same)
-          (omega (arith, c.if-rank-ranks.false, ap (slice_index ranks) c.from.ensures))
+          (omega (arith, c.if-rank-number_at.false, c.number_at.ensures))
     ]
 
 pub returns : goal.returns

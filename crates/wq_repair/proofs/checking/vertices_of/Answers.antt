@@ -1,12 +1,10 @@
-use Rattle.std.proofs.Common.{◌≡◌, ℕ, ◌<◌, ◌+◌, ◌∷◌, ◌++◌, [], Option, List, length, refl, sym, ap, subst, ◌∙◌, arith}
-use Rattle.std.specs.Prelude.{Some, None, slice_index_or}
+use Rattle.std.proofs.Common.{◌≡◌, ℕ, ◌+◌, length, refl, sym, ap, subst, ◌∙◌, arith}
+use Rattle.std.specs.Prelude.{None, slice_index_or}
 use Rattle.std.proofs.lemmas.Bool.{false≢true}
 use Rattle.wq_groups.specs.Assignment.{group_lane}
-use Rattle.wq_repair.specs.Marks.{IsMarked}
-use Rattle.wq_repair.specs.Settled.{IsHomeOf}
 use Rattle.wq_repair.proofs.Homes.{AreVerticesBelow, AreVerticesBelow-push}
 use Rattle.wq_repair.proofs.Marks.{IsMarked-below}
-use Rattle.wq_repair.proofs.LaneReads.{lane-read, lane-within}
+use Rattle.wq_repair.proofs.LaneReads.{lane-read}
 use Rattle.wq_repair.proofs.checking.vertices_of.Goals as goal
 
 pub loop-group-init : goal.loop-group-init

@@ -1,4 +1,4 @@
-use Rattle.std.proofs.Common.{◌≡◌, ◌<◌, ℕ, List, length, sym, ap, subst, ◌∙◌, arith}
+use Rattle.std.proofs.Common.{◌≡◌, ℕ, List, length, sym, ap, subst, ◌∙◌, arith}
 use Rattle.std.specs.Prelude.{slice_index}
 use Rattle.wq_items.specs.Chain.{Circle}
 use Rattle.wq_groups.specs.Declaration.{IsDeclaration}
@@ -37,8 +37,8 @@ ranks_of_groups-requires-clause-one_each g c =
     ∙ sym (ap (λ (x : Assignment). x.lanes) c.assignment.ensures
     ∙ ap (λ (x : Workqueues). x.assignment.lanes) c.workqueues_of-workqueues.ensures.is)
 
-pub returns-in-Ranks-clause-some : goal.returns-in-Ranks-clause-some
-returns-in-Ranks-clause-some g c =
+pub returns-in-Ranks : goal.returns-in-Ranks
+returns-in-Ranks g c =
     let a = c.args.assigned.now in
     let d = declared_waits a.declared in
     let ws = a.workqueues in
@@ -65,8 +65,8 @@ returns-in-Ranks-clause-some g c =
           ∙ ap (λ (x : Assignment). slice_index c.in-Ranks.ranks.items (group_lane x v)) lanes;
     }
 
-pub returns-clause-none : goal.returns-clause-none
-returns-clause-none g c =
+pub returns : goal.returns
+returns g c =
     let has = HasCircle-walked c.in_ok-graph.graph c.vertices-vertices.ensures.graph c.in-Circle.field-0.items
     (rw c.in-Circle.is at c.in_ok-ranks.ensures.ranking) in
     subst (λ (graph : List (List WaitArc)). Circle (HasArc graph)) c.in_ok-graph.ensures.graph has.0

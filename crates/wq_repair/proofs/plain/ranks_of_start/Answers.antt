@@ -10,4 +10,4 @@ unreachable-requires g c =
     let start = c.args.start.now.workqueues in
     let ready = c.requires.3 in
     let assigned = IsAssignment-start d c.requires.0 c.requires.1 c.requires.2 start declaration ready in
-    no_circle-safe d start declaration assigned ready.safe (rw c.in-None.is at c.in_ok-ranks.ensures.none)
+    no_circle-safe d start declaration assigned ready.safe (rw c.in-None.is at c.in_ok-ranks.ensures)

@@ -1,13 +1,12 @@
-use Rattle.std.proofs.Common.{◌≡◌, ℕ, ◌+◌, ◌<◌, ◌≤◌, ◌++◌, Bool, List, length, sym, ap, subst, ◌∙◌, arith}
+use Rattle.std.proofs.Common.{◌≡◌, ℕ, ◌+◌, ◌≤◌, ◌++◌, Bool, List, length, sym, ap, subst, ◌∙◌, arith}
 use Rattle.std.proofs.lemmas.Bool.{false≢true}
 use Rattle.wq_groups.specs.Assignment.{Assignment}
 use Rattle.wq_groups.specs.DeclaredGroups.{declared_waits}
 use Rattle.wq_core.specs.Workqueues.{Workqueues}
-use Rattle.wq_repair.specs.Marks.{IsMarked}
 use Rattle.wq_repair.specs.Ready.{Scope, IsTrial}
-use Rattle.wq_repair.specs.Settled.{Settled, IsSettled}
+use Rattle.wq_repair.specs.Settled.{IsSettled}
 use Rattle.wq_repair.proofs.Readied.{IsSettled-start}
-use Rattle.wq_repair.proofs.Settling.{IsSettled-skip}
+use Rattle.wq_repair.proofs.Settling.{IsSettled-next}
 use Rattle.wq_repair.proofs.plain.settle.Goals as goal
 
 pub ranks_of_start-requires : goal.ranks_of_start-requires
@@ -40,20 +39,21 @@ pub loop-group-preserved-then-not-is_tried : goal.loop-group-preserved-then-not-
 loop-group-preserved-then-not-is_tried g c = record {
   one_each = c.loop-group.invariant.one_each;
   settled = λ graph trial.
-      IsSettled-skip graph c.args.old.now.assignment c.args.fixed.now c.args.tried.now c.loop-group.group
+      IsSettled-next graph c.args.old.now.assignment c.args.fixed.now c.args.tried.now c.loop-group.group
       c.loop-group.settled
       (c.loop-group.invariant.settled graph trial)
       (omega (arith, c.loop-group-test.true, c.requires.tried, trial.of.long))
-      (λ marked. false≢true (sym c.if-not-is_tried.true ∙ marked));
+      (λ marked. absurd (false≢true (sym c.if-not-is_tried.true ∙ marked)));
 }
 
 pub try_group-requires-clause-assigned : goal.try_group-requires-clause-assigned
 try_group-requires-clause-assigned g c =
-    ap (λ (a : Assignment). length a.lane_of_group) c.assignment.ensures ∙ c.requires.ready.1.assignment.one_each
+    ap (λ (a : Assignment). length a.lane_of_group) c.assignment.ensures ∙ c.requires.ready.1.scope.assignment.one_each
 
 pub try_group-requires-clause-needed : goal.try_group-requires-clause-needed
 try_group-requires-clause-needed g c =
-    ap length (c.as_slice.ensures.value ∙ ap (λ (x : Scope). x.needed) c.scope.view_is) ∙ c.requires.ready.1.one_each
+    ap length (c.as_slice.ensures.value ∙ ap (λ (x : Scope). x.needed) c.scope.view_is)
+    ∙ c.requires.ready.1.scope.one_each
 
 pub try_group-requires-clause-group : goal.try_group-requires-clause-group
 try_group-requires-clause-group g c = omega (arith, c.loop-group-test.true, c.requires.tried)

@@ -1,12 +1,7 @@
 use Rattle.std.proofs.Common.{◌≡◌, ◌+◌, ◌∙◌, Bool, List, true, length, set, sym, ap, subst, arith}
 use Rattle.std.proofs.Math.ListN.{length-set}
 use Rattle.wq_groups.specs.DeclaredGroups.{declared_waits}
-use Rattle.wq_items.specs.Chain.{Circle}
-use Rattle.wq_graph.specs.Graph.{HasArc}
-use Rattle.wq_core.specs.Workqueues.{Workqueues}
-use Rattle.wq_deadlock.specs.Judging.{rescued_graph}
-use Rattle.wq_repair.specs.Ready.{AreRanksOfGroups}
-use Rattle.wq_repair.specs.Settled.{Settled, IsSettled, IsSettledBy}
+use Rattle.wq_repair.specs.Settled.{Settled, IsSettled}
 use Rattle.wq_repair.proofs.Settling.{IsSettled-ranked, IsSettled-circle}
 use Rattle.wq_repair.proofs.plain.try_beside.Goals as goal
 
@@ -33,7 +28,7 @@ returns-in-Some-clause-settled g c =
     c.as_slice-2.ensures.value ∙ c.in_ok-stays.ensures
     ∙ ap (λ (xs : List Bool). set xs c.args.group true)
     (c.as_slice.ensures.value ∙ ap (λ (x : Settled). x.stays) c.settled.view_is) in
-    let found = rw c.in-Some.is at c.in_ok-ranks.ensures.some in
+    let found = rw c.in-Some.is at c.in_ok-ranks.ensures in
     λ graph fixed tried trial marked has is.
     subst (λ (xs : List Bool). IsSettled graph c.args.assignment.now fixed tried (c.args.group + 1)
     (record { stays = xs; ranks = c.in-Some.ranks.items }))
@@ -41,8 +36,7 @@ returns-in-Some-clause-settled g c =
     (IsSettled-ranked d c.workqueues_of-few.ensures.declaration c.args.needed.now fixed tried graph trial
     c.args.assignment.now c.workqueues_of-few.ensures.few
     c.args.group c.requires.group marked s is c.in-Some.ranks.items
-    (subst (λ (xs : List Bool). IsSettledBy c.args.assignment.now c.args.needed.now xs
-    (λ (ws : Workqueues). AreRanksOfGroups d ws c.in-Some.ranks.items)) more found))
+    (rw more at found))
 
 pub returns-in-None-clause-settled : goal.returns-in-None-clause-settled
 returns-in-None-clause-settled g c =
@@ -52,10 +46,9 @@ returns-in-None-clause-settled g c =
     c.as_slice-2.ensures.value ∙ c.in_ok-stays.ensures
     ∙ ap (λ (xs : List Bool). set xs c.args.group true)
     (c.as_slice.ensures.value ∙ ap (λ (x : Settled). x.stays) c.settled.view_is) in
-    let found = rw c.in-None.is at c.in_ok-ranks.ensures.none in
+    let found = rw c.in-None.is at c.in_ok-ranks.ensures in
     λ graph fixed tried trial marked has is.
     IsSettled-circle d c.workqueues_of-few.ensures.declaration c.args.needed.now fixed tried graph trial
     c.args.assignment.now c.workqueues_of-few.ensures.few
     c.args.group c.requires.group marked s is
-    (subst (λ (xs : List Bool). IsSettledBy c.args.assignment.now c.args.needed.now xs
-    (λ (ws : Workqueues). Circle (HasArc (rescued_graph d ws)))) more found) has
+    (rw more at found) has

@@ -1,11 +1,9 @@
-use Rattle.std.proofs.Common.{◌≡◌, ◌+◌, ◌∙◌, ◌<◌, ℕ, Bool, Option, List, true, length, set, refl, sym, ap, subst, arith}
+use Rattle.std.proofs.Common.{◌≡◌, ◌+◌, ◌∙◌, ◌<◌, ℕ, Bool, List, true, length, set, refl, sym, ap, subst, arith}
 use Rattle.std.specs.Prelude.{None, Some, slice_index_or}
-use Rattle.std.proofs.Math.ListN.{length-set}
 use Rattle.std.proofs.lemmas.List.{get_or_default}
 use Rattle.std.proofs.lemmas.Option.{none-some}
 use Rattle.std.proofs.lemmas.Result.{IfOk-weaker}
 use Rattle.wq_groups.specs.Assignment.{group_lane}
-use Rattle.wq_repair.specs.Marks.{IsMarked}
 use Rattle.wq_repair.specs.Settled.{Settled, AreHomes, IsHomeOf, IsSettled}
 use Rattle.wq_repair.proofs.LaneReads.{lane-read, lane-within}
 use Rattle.wq_repair.proofs.Settling.{IsSettled-first}

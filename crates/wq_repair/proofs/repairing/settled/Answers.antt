@@ -1,61 +1,10 @@
-use Rattle.std.proofs.Common.{◌≡◌, ◌<◌, ℕ, Bool, List, length, sym, ap, subst, ◌∙◌, arith}
+use Rattle.std.proofs.Common.{sym, ap, subst, ◌∙◌}
 use Rattle.std.proofs.lemmas.Result.{IfOk-weaker}
 use Rattle.wq_groups.specs.DeclaredGroups.{declared_waits}
-use Rattle.wq_groups.specs.Assignment.{Assignment}
 use Rattle.wq_repair.specs.Marks.{Marks}
-use Rattle.wq_repair.specs.Settled.{Settled, IsSettled, IsWithin}
-use Rattle.wq_repair.specs.Ready.{Scope, IsButNot, IsGraphOfNeeded, IsTried}
+use Rattle.wq_repair.specs.Ready.{Scope, IsButNot, IsGraphOfNeeded}
 use Rattle.wq_repair.proofs.RepairedBy.{Marks-but_not, graph-by, IsTrial-ready}
 use Rattle.wq_repair.proofs.repairing.settled.Goals as goal
-
-pub but_not-requires : goal.but_not-requires
-but_not-requires g c =
-    ap length (c.as_slice-3.ensures.value ∙ ap (λ (x : Scope). x.movable) c.scope.view_is)
-    ∙ c.requires.ready.1.are_movable.one_each ∙ sym c.requires.ready.1.one_each
-    ∙ sym (ap length (c.as_slice-2.ensures.value ∙ ap (λ (x : Scope). x.needed) c.scope.view_is))
-
-pub with_chosen-requires : goal.with_chosen-requires
-with_chosen-requires g c =
-    let d = declared_waits c.args.start.now.declared in
-    let s = c.args.scope.now in
-    let ready = c.requires.ready.1 in
-    let fixed = c.in_ok-fixed.fixed.items in
-    let are_fixed : Marks (IsButNot s.needed s.movable) d.groups fixed =
-    Marks-but_not s.needed s.movable c.as_slice-2.result.now c.as_slice-3.result.now fixed d.groups
-    (c.as_slice-2.ensures.value ∙ ap (λ (x : Scope). x.needed) c.scope.view_is)
-    (c.as_slice-3.ensures.value ∙ ap (λ (x : Scope). x.movable) c.scope.view_is) ready.one_each c.in_ok-fixed.ensures in
-    c.requires.tried.one_each ∙ sym are_fixed.one_each ∙ sym (ap length c.as_slice-6.ensures.value)
-
-pub is_settled-requires-clause-assigned : goal.is_settled-requires-clause-assigned
-is_settled-requires-clause-assigned g c =
-    let of : IsGraphOfNeeded (declared_waits c.args.start.now.declared) c.args.scope.now.needed c.in_ok-graph.graph =
-    graph-by c.workqueues_of-few.ensures.declaration c.requires.ready.1.one_each c.scope.view_is
-    c.as_slice.ensures.value c.in_ok-graph.ensures in
-    ap (λ (a : Assignment). length a.lane_of_group) c.assignment-assignment.ensures
-    ∙ c.requires.ready.1.assignment.one_each ∙ sym of.long
-
-pub is_settled-requires-clause-tried : goal.is_settled-requires-clause-tried
-is_settled-requires-clause-tried g c =
-    let of : IsGraphOfNeeded (declared_waits c.args.start.now.declared) c.args.scope.now.needed c.in_ok-graph.graph =
-    graph-by c.workqueues_of-few.ensures.declaration c.requires.ready.1.one_each c.scope.view_is
-    c.as_slice.ensures.value c.in_ok-graph.ensures in
-    c.requires.tried.one_each ∙ sym of.long
-
-pub is_settled-requires-clause-stays : goal.is_settled-requires-clause-stays
-is_settled-requires-clause-stays g c =
-    let d = declared_waits c.args.start.now.declared in
-    let s = c.args.scope.now in
-    let ready = c.requires.ready.1 in
-    let fixed = c.in_ok-fixed.fixed.items in
-    let are_fixed : Marks (IsButNot s.needed s.movable) d.groups fixed =
-    Marks-but_not s.needed s.movable c.as_slice-2.result.now c.as_slice-3.result.now fixed d.groups
-    (c.as_slice-2.ensures.value ∙ ap (λ (x : Scope). x.needed) c.scope.view_is)
-    (c.as_slice-3.ensures.value ∙ ap (λ (x : Scope). x.movable) c.scope.view_is) ready.one_each c.in_ok-fixed.ensures in
-    let of : IsGraphOfNeeded d s.needed c.in_ok-graph.graph =
-    graph-by c.workqueues_of-few.ensures.declaration ready.one_each c.scope.view_is c.as_slice.ensures.value
-    c.in_ok-graph.ensures in
-    ap length c.as_slice-8.ensures.value ∙ c.in_ok-stays.ensures.one_each ∙ ap length c.as_slice-6.ensures.value
-    ∙ are_fixed.one_each ∙ sym of.long
 
 pub settle-requires-clause-fixed : goal.settle-requires-clause-fixed
 settle-requires-clause-fixed g c =
@@ -66,7 +15,8 @@ settle-requires-clause-fixed g c =
     let are_fixed : Marks (IsButNot s.needed s.movable) d.groups fixed =
     Marks-but_not s.needed s.movable c.as_slice-2.result.now c.as_slice-3.result.now fixed d.groups
     (c.as_slice-2.ensures.value ∙ ap (λ (x : Scope). x.needed) c.scope.view_is)
-    (c.as_slice-3.ensures.value ∙ ap (λ (x : Scope). x.movable) c.scope.view_is) ready.one_each c.in_ok-fixed.ensures in
+    (c.as_slice-3.ensures.value ∙ ap (λ (x : Scope). x.movable) c.scope.view_is) ready.scope.one_each
+    c.in_ok-fixed.ensures in
     subst (Marks (IsButNot s.needed s.movable) d.groups) (sym c.as_slice-else-branch.ensures.value) are_fixed
 
 pub settle-requires-clause-tried : goal.settle-requires-clause-tried
@@ -81,30 +31,22 @@ returns-then-branch g c =
     let are_fixed : Marks (IsButNot s.needed s.movable) d.groups fixed =
     Marks-but_not s.needed s.movable c.as_slice-2.result.now c.as_slice-3.result.now fixed d.groups
     (c.as_slice-2.ensures.value ∙ ap (λ (x : Scope). x.needed) c.scope.view_is)
-    (c.as_slice-3.ensures.value ∙ ap (λ (x : Scope). x.movable) c.scope.view_is) ready.one_each c.in_ok-fixed.ensures in
+    (c.as_slice-3.ensures.value ∙ ap (λ (x : Scope). x.movable) c.scope.view_is) ready.scope.one_each
+    c.in_ok-fixed.ensures in
     let of : IsGraphOfNeeded d s.needed c.in_ok-graph.graph =
-    graph-by c.workqueues_of-few.ensures.declaration ready.one_each c.scope.view_is c.as_slice.ensures.value
+    graph-by c.workqueues_of-few.ensures.declaration ready.scope.one_each c.scope.view_is c.as_slice.ensures.value
     c.in_ok-graph.ensures in
-    let graph = c.in_ok-graph.graph in
-    let tried = c.args.tried.now in
-    let within : IsWithin fixed tried c.as_slice-8.result.now =
-    subst (IsWithin fixed tried) (sym c.as_slice-8.ensures.value)
-    (subst (λ (xs : List Bool). IsWithin xs tried c.in_ok-stays.stays.items) c.as_slice-6.ensures.value
-    c.in_ok-stays.ensures.within) in
-    let settled = c.in_ok-is_settled.ensures c.if-branch.true fixed within in
     record {
-      graph = graph;
+      graph = c.in_ok-graph.graph;
       fixed = fixed;
       of = of;
       are_fixed = are_fixed;
-      is =
-          subst (λ (xs : List Bool). IsSettled graph c.args.old.now.assignment fixed tried (length graph)
-          (record { stays = xs; ranks = c.in_ok-choice.choice.ranks.items })) c.as_slice-8.ensures.value
-          (subst (λ (rs : List ℕ). IsSettled graph c.args.old.now.assignment fixed tried (length graph)
-          (record { stays = c.as_slice-8.result.now; ranks = rs })) c.as_slice-9.ensures.value
-          (subst (λ (a : Assignment). IsSettled graph a fixed tried (length graph)
-          (record { stays = c.as_slice-8.result.now; ranks = c.as_slice-9.result.now }))
-          c.assignment-assignment.ensures settled));
+      is = rw (
+        c.assignment-assignment.ensures,
+        c.as_slice-6.ensures.value,
+        c.as_slice-7.ensures.value,
+        c.as_slice-8.ensures.value,
+      ) at (c.in_ok-is_settled.ensures c.if-branch.true);
     }
 
 pub returns : goal.returns
@@ -116,16 +58,18 @@ returns g c =
     let are_fixed : Marks (IsButNot s.needed s.movable) d.groups fixed =
     Marks-but_not s.needed s.movable c.as_slice-2.result.now c.as_slice-3.result.now fixed d.groups
     (c.as_slice-2.ensures.value ∙ ap (λ (x : Scope). x.needed) c.scope.view_is)
-    (c.as_slice-3.ensures.value ∙ ap (λ (x : Scope). x.movable) c.scope.view_is) ready.one_each c.in_ok-fixed.ensures in
+    (c.as_slice-3.ensures.value ∙ ap (λ (x : Scope). x.movable) c.scope.view_is) ready.scope.one_each
+    c.in_ok-fixed.ensures in
     let of : IsGraphOfNeeded d s.needed c.in_ok-graph.graph =
-    graph-by c.workqueues_of-few.ensures.declaration ready.one_each c.scope.view_is c.as_slice.ensures.value
+    graph-by c.workqueues_of-few.ensures.declaration ready.scope.one_each c.scope.view_is c.as_slice.ensures.value
     c.in_ok-graph.ensures in
+    let same = subst (Marks (IsButNot s.needed s.movable) d.groups) (sym c.as_slice-else-branch.ensures.value)
+    are_fixed in
     IfOk-weaker c.settle.result _ _ (λ settled all. record {
       graph = c.in_ok-graph.graph;
       fixed = c.as_slice-else-branch.result.now;
       of = of;
-      are_fixed = subst (Marks (IsButNot s.needed s.movable) d.groups)
-          (sym c.as_slice-else-branch.ensures.value) are_fixed;
-      is = all c.in_ok-graph.graph (IsTrial-ready c.workqueues_of-few.ensures.declaration ready c.requires.tried of
-          (subst (Marks (IsButNot s.needed s.movable) d.groups) (sym c.as_slice-else-branch.ensures.value) are_fixed));
+      are_fixed = same;
+      is = all c.in_ok-graph.graph
+          (IsTrial-ready c.workqueues_of-few.ensures.declaration ready c.requires.tried of same);
     }) c.settle.ensures

@@ -1,21 +1,12 @@
-use Rattle.std.proofs.Common.{◌≡◌, ◌⊎◌, inl, inr, sym, subst, ◌∙◌}
+use Rattle.std.proofs.Common.{◌≡◌, ◌⊎◌, inl, inr, sym, subst}
 use Rattle.std.specs.Prelude.{Some}
 use Rattle.std.proofs.lemmas.Result.{IfOk-weaker}
 use Rattle.wq_groups.specs.Declaration.{IsDeclaration}
 use Rattle.wq_groups.specs.DeclaredGroups.{declared_waits}
 use Rattle.wq_core.specs.Workqueues.{Workqueues}
-use Rattle.wq_repair.specs.Ready.{IsMinimal}
 use Rattle.wq_repair.specs.Repair.{IsRepair}
 use Rattle.wq_repair.proofs.Answered.{IsRepair-minimal}
 use Rattle.wq_repair.proofs.wider.better_repair.Goals as goal
-
-pub with_fewer_changes-requires-clause-one : goal.with_fewer_changes-requires-clause-one
-with_fewer_changes-requires-clause-one g c =
-    let d = declared_waits c.args.assigned.now.declared in
-    let names = c.args.names.now in
-    let minimal : IsMinimal d c.args.assigned.now.workqueues names c.args.scope.now.needed c.in_ok-one.one =
-    c.in_ok-one.ensures names c.requires.ready in
-    minimal.compared.assignment.one_each ∙ sym c.workqueues_of.ensures.assignment.assignment.one_each
 
 pub returns : goal.returns
 returns g c =
@@ -24,7 +15,7 @@ returns g c =
     let old = c.args.assigned.now.workqueues in
     let names = c.args.names.now in
     let one : IsRepair d old names c.in_ok-one.one =
-    IsRepair-minimal d old c.in_ok-one.one names c.args.scope.now.needed declaration c.requires.ready.assignment
+    IsRepair-minimal d old c.in_ok-one.one names c.args.scope.now.needed declaration c.requires.ready.scope.assignment
     c.requires.needed c.requires.deadlocked (c.in_ok-one.ensures names c.requires.ready) in
     IfOk-weaker c.with_fewer_changes.result (λ (best : Workqueues). (best ≡ c.in_ok-one.one) ⊎
     (c.in_ok-other.other ≡ Some best)) (IsRepair d old names)

@@ -4,8 +4,8 @@ use Rattle.wq_groups.specs.DeclaredGroups.{declared_waits}
 use Rattle.wq_core.specs.Workqueues.{Workqueues}
 use Rattle.wq_repair.specs.Changes.{lane_in}
 use Rattle.wq_repair.specs.Marks.{IsMarked}
-use Rattle.wq_repair.specs.Ready.{Scope, IsMinimal}
-use Rattle.wq_repair.specs.Wider.{IsScope, KeepsNeeded}
+use Rattle.wq_repair.specs.Ready.{Scope, IsScope, IsMinimal}
+use Rattle.wq_repair.specs.Steps.{KeepsNeeded}
 use Rattle.wq_repair.proofs.Widened.{IsRepair-wider}
 use Rattle.wq_repair.proofs.wider.wider.Goals as goal
 
