@@ -26,7 +26,7 @@ import time
 
 sys.dont_write_bytecode = True
 sys.path.append(str(pathlib.Path(__file__).resolve().parents[1] / "lib"))
-from programs import ask, counts_of, is_there, started  # noqa: E402  (in tests/lib)
+from programs import ask, counts_of, heeded, is_there, started  # noqa: E402  (in tests/lib)
 from tables import short, text_of  # noqa: E402  (there, too)
 from traced import KernelCall, may_trace, traced  # noqa: E402
 
@@ -324,4 +324,6 @@ def main(arguments):
 
 
 if __name__ == "__main__":
-    sys.exit(main(sys.argv[1:]))
+    # Only the main thread may say how signals are heeded, and programs are started in others.
+    with heeded():
+        sys.exit(main(sys.argv[1:]))
