@@ -14,7 +14,7 @@ ghost use Rattle.std.specs.Prelude.{◌≡◌, length};
 ghost use Rattle.wq_core.specs.Wiring.{wiring};
 ghost use Rattle.wq_groups.specs.DeclaredGroups.{declared_waits};
 
-use anyhow::{Context, Result, anyhow, bail};
+use anyhow::{Context, Error, Result, anyhow, bail};
 use disk::REQUESTS;
 use rdisk::{Rdisk, RdiskBody, make_bodies};
 use std::alloc::Global;
@@ -158,8 +158,10 @@ fn serve<'a, N: Naming + Send + Sync, R: Threads + Wait + Sync + AllocGlobal>(
     let alloc = rt.alloc();
     let bodies = make_bodies(alloc, rdisk, runtime.lanes(), items)?;
     let writers = make_writers(alloc, rdisk)?;
-    let ran = run_all(rt, alloc, runtime, bodies, writers).map_err(|refused| refused.why)?;
-    Ok(ran)
+    match run_all(rt, alloc, runtime, bodies, writers) {
+        Ok(ran) => Ok(ran),
+        Err(refused) => Err(Error::from(refused.why)),
+    }
 }
 
 /// Makes a runtime under a plan, has it served, closes it, and prints what came of it.
