@@ -9,7 +9,6 @@
 
 mod buckets;
 mod cuts;
-mod links;
 mod pieces;
 
 pub use buckets::Buckets;

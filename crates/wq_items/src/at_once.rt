@@ -345,15 +345,29 @@ pub fn read_at_once<'a, A: Allocator + Copy>(
 {
     let mut parts = Parts::new(alloc, seed);
     let mut seen = Orders::none(text.lines());
-    let mut here = text.lines();
     let mut lines = text.lines();
-    while let Some(line) = lines.next() {
+    'lines: loop {
+        if let Some((name, target)) = lines.next_pair(b"flush ") {
+            let kind = Kind {
+                whole: false,
+                unsure: false,
+            };
+            parts.take_one(kind, name, target)?;
+            continue 'lines;
+        }
+        if let Some(name) = lines.next_single(b"item ") {
+            parts.take_item(name)?;
+            continue 'lines;
+        }
+        let here = lines.again();
+        let Some(line) = lines.next() else {
+            break 'lines;
+        };
         if let Some(directive) = line_unjudged(&line)? {
             let is_ordered = directive.is_ordered();
             seen.note(&here, is_ordered);
             parts.take(directive)?;
         }
-        here = lines.again();
     }
     let (table, noted) = parts.finish(alloc)?;
     let ordered = OrderedLines::counted(seen.lines, seen.count);

@@ -1,28 +1,36 @@
 //! The names of a finished table, each with its number.
 //!
-//! While a table is read, `Names` numbers its names by a map. A map can grow, and the library that it comes from is
-//! large. So a finished table keeps its names in a vector and finds them by key: some bits of the hash that each name
-//! brings. It knows the last place of each key, and for each place the one before it with the same key. There are at
-//! least four keys for each name.
-//!
-//! So making it takes time and memory linear in the number of names, without hashing or comparing one. Finding a name
-//! takes constant time on average: it is hashed once, and compared with hardly any other. The names themselves stay in
-//! the text.
+//! A name is found by its key: some bits of the hash that each name brings. The table knows the last place of each key,
+//! and with each name the place before it with the same key. There are at least four keys for each name, all made at
+//! once with the first name. So a name is found and added in constant time on average: it is hashed once, and compared
+//! with hardly any other. The names themselves stay in the text.
 
 ghost use Rattle.std.specs.Prelude.{◌≡◌, ◌≢◌, ◌-◌, ◌<◌, ◌≤◌, ℕ, List, length, Some, slice_get, IfOk, IfErr, AllPairs};
 ghost use Rattle.std.specs.Int.Bits.{bit_and};
-ghost use Rattle.wq_items.specs.Hashing.{AreHashed, AreLinked, names_of, keys_of};
+ghost use Rattle.wq_items.specs.Hashing.{AreFound, hash_of, names_of};
+ghost use Rattle.wq_items.specs.declared.hashing.Seeded.{Seeded};
 ghost use Rattle.wq_items.specs.Table.{item_named};
 
-use crate::hashing::{Name, Seeded};
+use crate::hashing::{Name, Seeded, are_same};
 use std::alloc::{AllocError, Allocator};
 use std::marker::Model;
+
+/// How many keys there are: a power of two, four for each name of a full table.
+pub(crate) const KEYS: usize = 16_384;
+
+/// A name, and one more than the place of the previous one with the same key; 0 if there is none.
+#[derive(Clone, Copy)]
+pub(crate) struct Placed<'a> {
+    pub(crate) name: Name<'a>,
+    pub(crate) before: u16,
+}
 
 /// At most 4,096 different names. Contracts see the list of the names.
 #[derive(Drop)]
 pub(crate) struct Named<'a, A: Allocator> {
-    names: Vec<Name<'a>, A>,
-    places: Places<A>,
+    names: Vec<Placed<'a>, A>,
+    /// For each key, one more than the last place.
+    lasts: Vec<u16, A>,
     hasher: Seeded,
 }
 
@@ -34,95 +42,63 @@ impl<'a, A: Allocator> Model for Named<'a, A> {
 
     ghost view = { λ n. names_of n.names.items };
 
-    ghost invariant = { λ n. AreFound n.hasher n.names.items n.places.lasts.items n.places.befores.items };
-}
-
-/// Places by key. A place is stored as one more than it is; 0 stands for none.
-#[derive(Drop)]
-struct Places<A: Allocator> {
-    /// For each key, the last place.
-    lasts: Vec<u16, A>,
-    /// For each place, the previous one with the same key.
-    befores: Vec<u16, A>,
+    ghost invariant = { λ n. AreFound n.hasher n.names.items n.lasts.items };
 }
 
 /// The key of a hash, if `most` is the greatest key.
 #[inline(always)]
-fn key_of(hash: u64, most: usize) -> usize
+pub(crate) fn key_of(hash: u64, most: usize) -> usize
     ensures key { result ≡ bit_and hash most }
     ensures below { result ≤ most }
 {
     (hash & most as u64) as usize
 }
 
-/// How many keys there are for this many names: a power of two, at least four for each name.
-fn keys_for(names: usize) -> usize
-    requires some { 0 < names }
-    requires few { names ≤ 4096 }
-    ensures { 0 < result }
+/// The place of a name among these names.
+#[inline(always)]
+pub(crate) fn find_placed(
+    names: &[Placed<'_>],
+    lasts: &[u16],
+    wanted: &Name<'_>,
+) -> Option<usize>
+    requires { (hasher : Seeded) × AreFound hasher names.now lasts.now × (wanted.now.hash ≡ hash_of hasher wanted.now.bytes.now)
+        × (0 < length lasts.now) }
+    ensures { result ≡ item_named (names_of names.now) wanted.now.bytes.now }
 {
-    (4 * names).checked_next_power_of_two().unwrap_or(1)
-}
-
-impl<A: Allocator + Copy> Places<A> {
-    /// The places of these names by key.
-    fn new(alloc: A, names: &[Name<'_>]) -> Result<Self, AllocError>
-        requires some { 0 < length names.now }
-        requires few { length names.now ≤ 4096 }
-        ensures keyed { IfOk result (λ places. 0 < length places.lasts.items) }
-        ensures linked { IfOk result (λ places.
-            AreLinked (keys_of (length places.lasts.items - 1) names.now)
-            (length names.now) places.lasts.items places.befores.items) }
-    {
-        let count = keys_for(names.len());
-        let mut lasts = vec![in alloc; 0u16; count]?;
-        let mut befores = Vec::with_capacity(alloc, names.len())?;
-        for place in 0..names.len() {
-            let key = key_of(names[place].hash, count - 1);
-            befores.push(lasts[key])?;
-            lasts[key] = place as u16 + 1;
+    let mut end = lasts[key_of(wanted.hash, KEYS - 1)];
+    while end > 0 {
+        let place = usize::from(end - 1);
+        let placed = &names[place];
+        if placed.name.hash == wanted.hash && are_same(placed.name.bytes, wanted.bytes) {
+            return Some(place);
         }
-        Ok(Places { lasts, befores })
+        end = placed.before;
     }
+    None
 }
 
 impl<'a, A: Allocator + Copy> Named<'a, A> {
-    /// A table of these names, which were hashed by `hasher`.
-    ///
-    /// The only error is out of memory, which can't occur if there is no name.
-    pub(crate) fn new(alloc: A, hasher: Seeded, names: &[Name<'a>]) -> Result<Self, AllocError>
-        requires few { length names.now ≤ 4096 }
-        requires hashed { AreHashed hasher names.now }
-        requires distinct { AllPairs (λ (a b : List ℕ). a ≢ b) (names_of names.now) }
-        ensures names { IfOk result (λ named. named ≡ names_of names.now) }
-        ensures memory { IfErr result (λ _. 0 < length names.now) }
+    /// A table of these names.
+    pub(crate) fn of(names: Vec<Placed<'a>, A>, lasts: Vec<u16, A>, hasher: Seeded) -> Self
+        requires { AreFound hasher names.items lasts.items }
+        ensures { result ≡ names_of names.items }
     {
-        if names.is_empty() {
-            let places = Places {
-                lasts: Vec::new(alloc),
-                befores: Vec::new(alloc),
-            };
-            return Ok(Named {
-                names: Vec::new(alloc),
-                places,
-                hasher,
-            });
-        }
-        let places = Places::new(alloc, names)?;
-        let mut kept = Vec::with_capacity(alloc, names.len())?;
-        kept.extend_from_slice(names)?;
-        Ok(Named {
-            names: kept,
-            places,
+        Named {
+            names,
+            lasts,
             hasher,
-        })
+        }
     }
 
     /// A copy of the names.
     pub(crate) fn again(&self, alloc: A) -> Result<Self, AllocError>
         ensures { IfOk result (λ named. named ≡ self.now) }
     {
-        Named::new(alloc, self.hasher, self.names.as_slice())
+        Ok(Named {
+            names: Vec::from_slice(alloc, self.names.as_slice())?,
+            lasts: Vec::from_slice(alloc, self.lasts.as_slice())?,
+            hasher: self.hasher,
+        })
     }
 
     /// How many names there are.
@@ -137,26 +113,20 @@ impl<'a, A: Allocator + Copy> Named<'a, A> {
         requires { i < length self.now }
         ensures { slice_get self.now i ≡ Some result.now }
     {
-        self.names[i].bytes
+        self.names[i].name.bytes
     }
 
     /// The number of a name.
     pub(crate) fn find(&self, name: &[u8]) -> Option<usize>
         ensures { result ≡ item_named self.now name.now }
     {
-        let count = self.places.lasts.len();
-        if count == 0 {
+        if self.lasts.is_empty() {
             return None;
         }
-        let wanted = self.hasher.name(name);
-        let mut end = self.places.lasts[key_of(wanted.hash, count - 1)];
-        while end > 0 {
-            let place = usize::from(end - 1);
-            if self.names[place] == wanted {
-                return Some(place);
-            }
-            end = self.places.befores[place];
-        }
-        None
+        find_placed(
+            self.names.as_slice(),
+            self.lasts.as_slice(),
+            &self.hasher.name(name),
+        )
     }
 }

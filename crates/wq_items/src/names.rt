@@ -7,28 +7,29 @@ ghost use Rattle.std.specs.Prelude.{◌≡◌, ◌≢◌, ◌<◌, ◌≤◌, �
 ghost use Rattle.std.specs.Prelude.{IfOk, IfErr, OnErr, if◌then◌else◌};
 ghost use Rattle.wq_items.specs.Table.{item_named};
 
-use crate::hashing::{Brought, Name, Seeded};
-use crate::named::Named;
-use indexmap::IndexSet;
+use crate::hashing::Seeded;
+use crate::named::{KEYS, Named, Placed, find_placed, key_of};
 use std::alloc::{AllocError, Allocator};
 use std::marker::Model;
 
 /// Different names, in the order in which they were added. Contracts see the list of the names.
 #[derive(Drop)]
 pub(crate) struct Names<'a, A: Allocator> {
-    set: IndexSet<Name<'a>, Brought, A>,
+    names: Vec<Placed<'a>, A>,
+    /// For each key, one more than the last place; empty as long as there is no name.
+    lasts: Vec<u16, A>,
     hasher: Seeded,
 }
 
 impl<'a, A: Allocator> Model for Names<'a, A> {
     ghost use Rattle.std.specs.Prelude.{List, ℕ};
-    ghost use Rattle.wq_items.specs.Hashing.{AreHashed, names_of};
+    ghost use Rattle.wq_items.specs.Hashing.{AreFound, names_of};
 
     ghost Value = { List (List ℕ) };
 
-    ghost view = { λ n. names_of n.set.keys };
+    ghost view = { λ n. names_of n.names.items };
 
-    ghost invariant = { λ n. AreHashed n.hasher n.set.keys };
+    ghost invariant = { λ n. AreFound n.hasher n.names.items n.lasts.items };
 }
 
 impl<'a, A: Allocator + Copy> Names<'a, A> {
@@ -37,7 +38,8 @@ impl<'a, A: Allocator + Copy> Names<'a, A> {
         ensures { result ≡ [] }
     {
         Names {
-            set: IndexSet::with_hasher(alloc, Brought::new()),
+            names: Vec::new(alloc),
+            lasts: Vec::new(alloc),
             hasher: Seeded::new(seed),
         }
     }
@@ -46,46 +48,63 @@ impl<'a, A: Allocator + Copy> Names<'a, A> {
     pub(crate) fn len(&self) -> usize
         ensures { result ≡ length self.now }
     {
-        self.set.len()
+        self.names.len()
     }
 
     /// The number of a name.
     pub(crate) fn find(&self, name: &[u8]) -> Option<usize>
         ensures { result ≡ item_named self.now name.now }
     {
-        self.set.get_index_of(&self.hasher.name(name))
+        if self.lasts.is_empty() {
+            return None;
+        }
+        find_placed(
+            self.names.as_slice(),
+            self.lasts.as_slice(),
+            &self.hasher.name(name),
+        )
     }
 
     /// Adds a name unless it is there already, and returns whether it was added.
     pub(crate) fn add(&mut self, name: &'a [u8]) -> Result<bool, AllocError>
+        requires { length self.old < 4096 }
         ensures added { IfOk result (λ added. added ≡ not (is_some (item_named self.old name.now))) }
         ensures names { IfOk result (λ added. self.new ≡ (if added then self.old ++ (name.now ∷ []) else self.old)) }
         ensures absent { OnErr result (is_some (item_named self.old name.now) ≡ false) }
     {
-        let added = self.set.insert(self.hasher.name(name))?;
-        self.make_room();
-        Ok(added)
+        self.make_room()?;
+        let name = self.hasher.name(name);
+        let names = self.names.as_slice();
+        if find_placed(names, self.lasts.as_slice(), &name).is_some() {
+            return Ok(false);
+        }
+        let key = key_of(name.hash, KEYS - 1);
+        let before = self.lasts[key];
+        self.names.push(Placed { name, before })?;
+        self.lasts[key] = self.names.len() as u16;
+        Ok(true)
     }
 
-    /// If there is no room for another name, makes room for eight times as many, so that they are rarely moved. If this
-    /// allocation fails, the next addition asks for less.
-    fn make_room(&mut self)
+    /// Makes the keys, if there is no name yet. If there is no room for another name, makes room for eight times as
+    /// many, so that they are rarely moved; if that fails, the next addition asks for less.
+    #[inline(always)]
+    fn make_room(&mut self) -> Result<(), AllocError>
         ensures { self.new ≡ self.old }
     {
-        let len = self.set.len();
-        if len == self.set.capacity() {
-            self.set.reserve(len.saturating_mul(7)).ok();
+        let len = self.names.len();
+        if len == self.names.capacity() {
+            if len == 0 {
+                self.lasts.resize(KEYS, 0u16)?;
+            }
+            self.names.reserve(len.saturating_mul(7)).ok();
         }
+        Ok(())
     }
 
-    /// The names with their numbers, without the map. The only error is out of
-    /// memory, which can't occur if there is no name.
-    pub(crate) fn finish(self, alloc: A) -> Result<Named<'a, A>, AllocError>
-        requires few { length self ≤ 4096 }
-        requires distinct { AllPairs (λ (a b : List ℕ). a ≢ b) self }
-        ensures names { IfOk result (λ named. named ≡ self.entry) }
-        ensures memory { IfErr result (λ _. 0 < length self.entry) }
+    /// The names with their numbers.
+    pub(crate) fn finish(self) -> Named<'a, A>
+        ensures names { result ≡ self.entry }
     {
-        Named::new(alloc, self.hasher, self.set.as_slice())
+        Named::of(self.names, self.lasts, self.hasher)
     }
 }

@@ -416,7 +416,7 @@ impl<'a, A: Allocator + Copy> Building<'a, A> {
         } = self;
         let waits = waits.by_item(alloc)?;
         Ok(ItemTable {
-            names: names.finish(alloc)?,
+            names: names.finish(),
             spans,
             waits,
             flushes,

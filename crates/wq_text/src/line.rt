@@ -15,9 +15,9 @@ ghost use Rattle.wq_text.specs.Comments.{before_comment};
 ghost use Rattle.wq_text.specs.Words.{words_of, AllInWord};
 ghost use Rattle.wq_text.specs.Limits.{first_long_line};
 
-use crate::run::first_feed;
+use crate::run::{first_feed, greater_until};
 use crate::span::Span;
-use crate::word::Words;
+use crate::word::{Word, Words};
 use memchr::memchr;
 use std::marker::Model;
 
@@ -195,6 +195,50 @@ impl<'a> Lines<'a> {
             start: self.start,
             rest: self.rest,
         }
+    }
+
+    /// The words after the first, if the next line is exactly `front`, which ends with a space, and two words with a
+    /// space between them, and a line feed ends it. Then that line has been yielded. `None`, and no line has been
+    /// yielded, if it isn't, and perhaps if it is: that few bytes are looked at.
+    #[inline(always)]
+    pub fn next_pair(&mut self, front: &[u8]) -> Option<(Word<'a>, Word<'a>)> {
+        let text = self.rest;
+        if !text.starts_with(front) {
+            return None;
+        }
+        let begin = front.len();
+        let middle = greater_until(text, begin)?;
+        let end = greater_until(text, middle + 1)?;
+        if middle == begin || text[middle] != b' ' || end == middle + 1 || text[end] != b'\n' {
+            return None;
+        }
+        let start = self.start;
+        self.before += 1;
+        self.start = start + end as u32 + 1;
+        self.rest = &text[end + 1..];
+        Some((
+            Word::of(start + begin as u32, &text[begin..middle]),
+            Word::of(start + middle as u32 + 1, &text[middle + 1..end]),
+        ))
+    }
+
+    /// The same for one word.
+    #[inline(always)]
+    pub fn next_single(&mut self, front: &[u8]) -> Option<Word<'a>> {
+        let text = self.rest;
+        if !text.starts_with(front) {
+            return None;
+        }
+        let begin = front.len();
+        let end = greater_until(text, begin)?;
+        if end == begin || text[end] != b'\n' {
+            return None;
+        }
+        let start = self.start;
+        self.before += 1;
+        self.start = start + end as u32 + 1;
+        self.rest = &text[end + 1..];
+        Some(Word::of(start + begin as u32, &text[begin..end]))
     }
 
     /// The number of the first line with more than `limit` bytes, including its comment.

@@ -57,6 +57,25 @@ pub(crate) fn greater_at(text: &[u8], at: usize) -> usize
     greater_of_sixteen(text, at)
 }
 
+/// The index of the first byte from index `at` on that isn't greater than `#`, if sixteen bytes are left wherever it
+/// looks.
+pub(crate) fn greater_until(text: &[u8], at: usize) -> Option<usize>
+    requires { at ≤ length text.now }
+    ensures within { IfSome result (λ end. (at ≤ end) × (end < length text.now)) }
+    ensures greater { IfSome result (λ end. (k : ℕ) → at ≤ k → k < end
+        → nat_le (slice_index text.now k) 35 ≡ false) }
+{
+    let mut end = at;
+    while LANES <= text.len() - end {
+        let run = greater_of_sixteen(text, end);
+        end += run;
+        if run < LANES {
+            return Some(end);
+        }
+    }
+    None
+}
+
 /// The index of the first line feed.
 pub(crate) fn first_feed(text: &[u8]) -> Option<usize>
     ensures { IsFirstByte (is_byte 10) text.now result }
