@@ -4,7 +4,7 @@ use Rattle.std.specs.List.{All}
 use Rattle.std.specs.Int.Bits.{bit_and}
 use Rattle.std.specs.Hash as fed
 use Rattle.std.specs.Hash.FoldHasher as folding
-use Rattle.wq_items.specs.declared.named.Placed.{Placed}
+use Rattle.wq_items.specs.declared.hashing.Name.{Name}
 use Rattle.wq_items.specs.declared.hashing.Seeded.{Seeded}
 use Rattle.wq_items.specs.Short.{taken}
 use Rattle.wq_items.specs.Table.{max_items}
@@ -15,16 +15,16 @@ hash_of hasher name =
     folding.finish (fold folding.write (fold folding.write hasher.begun (taken name)) (fed.u64 hasher.seed))
 
 -- each name brings its own hash
-abbrev pub AreHashed : Seeded → List Placed → Type 0
-AreHashed hasher names = All (λ (p : Placed). p.name.hash ≡ hash_of hasher p.name.bytes.now) names
+abbrev pub AreHashed : Seeded → List Name → Type 0
+AreHashed hasher names = All (λ (n : Name). n.hash ≡ hash_of hasher n.bytes.now) names
 
 -- the names without their hashes
-abbrev pub names_of : List Placed → List (List ℕ)
-names_of names = map (λ (p : Placed). p.name.bytes.now) names
+abbrev pub names_of : List Name → List (List ℕ)
+names_of names = map (λ (n : Name). n.bytes.now) names
 
 -- the keys of the names, in turn, if the greatest key is `most`: some bits of their hashes
-abbrev pub keys_of : ℕ → List Placed → List ℕ
-keys_of most names = map (λ (p : Placed). bit_and p.name.hash most) names
+abbrev pub keys_of : ℕ → List Name → List ℕ
+keys_of most names = map (λ (n : Name). bit_and n.hash most) names
 
 -- `end` is the place after the last one of key k before the place `bound`, or 0 if there is none
 pub record EndsAfterLast (keys : List ℕ) (k bound end : ℕ) : Type 0 where
@@ -38,14 +38,10 @@ pub record AreLinked (keys : List ℕ) (n : ℕ) (lasts befores : List ℕ) : Ty
   pub lasts_lead : (k : ℕ) → k < length lasts → EndsAfterLast keys k n (slice_index lasts k)
   pub befores_lead : (p : ℕ) → p < n → EndsAfterLast keys (slice_index keys p) p (slice_index befores p)
 
--- the places before the names with the same keys
-abbrev pub befores_of : List Placed → List ℕ
-befores_of names = map (λ (p : Placed). p.before) names
-
--- at most 4,096 different names, which bring their hashes, and their places by key; if there is a name, there are keys
-pub record AreFound (hasher : Seeded) (names : List Placed) (lasts : List ℕ) : Type 0 where
+-- at most 4,096 different names, which bring their hashes, and their places by key; if there is a name, there is a key
+pub record AreFound (hasher : Seeded) (names : List Name) (lasts befores : List ℕ) : Type 0 where
   pub few : length names ≤ max_items
   pub hashed : AreHashed hasher names
   pub distinct : AllPairs (λ (a b : List ℕ). a ≢ b) (names_of names)
-  pub keyed : (length lasts ≡ 16384) ⊎ ((lasts ≡ []) × (names ≡ []))
-  pub linked : AreLinked (keys_of 16383 names) (length names) lasts (befores_of names)
+  pub keyed : 0 < length names → 0 < length lasts
+  pub linked : AreLinked (keys_of (length lasts - 1) names) (length names) lasts befores
