@@ -9,6 +9,7 @@
 
 mod buckets;
 mod cuts;
+mod links;
 mod pieces;
 
 pub use buckets::Buckets;

@@ -21,27 +21,14 @@ pub(crate) fn number_of(word: &[u8]) -> Option<u32>
     number(word)
 }
 
-/// The words after the first, if that is `wq` or, if `bare`, `norescuer`. Most lines begin with `wq` and a space, and
-/// for these no word is cut.
-#[inline(always)]
-fn after_wq<'a>(line: &Line<'a>, bare: bool) -> Option<Words<'a>> {
-    if let Some(words) = line.words_after(b"wq") {
-        return Some(words);
-    }
-    let mut words = line.words();
-    let word = words.next()?;
-    if is_wq(word.bytes(), bare) {
-        Some(words)
-    } else {
-        None
-    }
-}
-
 /// Whether a line is that of a workqueue: its first word is `wq` or, if `bare`, `norescuer`.
 pub(crate) fn begins_wq(line: &Line<'_>, bare: bool) -> bool
     ensures { result ≡ begins_with (codes "wq") (said_line bare line.now).words }
 {
-    after_wq(line, bare).is_some()
+    match line.words().next() {
+        Some(word) => is_wq(word.bytes(), bare),
+        None => false,
+    }
 }
 
 /// Whether the first word of a line is `keyword`.
@@ -95,18 +82,21 @@ fn is_wq(word: &[u8], bare: bool) -> bool
 pub(crate) fn wq_form<A: Allocator + Copy>(
     alloc: A,
     table: &ItemTable<'_, A>,
-    line: &Line<'_>,
+    mut words: Words<'_>,
     bare: bool,
 ) -> Result<Option<(u32, Vec<ItemId, A>)>, AllocError>
     ensures { IfOk result (λ workqueue. option_map (λ q. (q.0, q.1.items)) workqueue
-        ≡ wq_form table.now.names (said_line bare line.now).words) }
+        ≡ wq_form table.now.names (with_wq bare (bytes_of words.entry))) }
 {
-    let Some(mut words) = after_wq(line, bare) else {
+    let Some(word) = words.next() else {
         return Ok(None);
     };
     let Some(number) = words.next() else {
         return Ok(None);
     };
+    if !is_wq(word.bytes(), bare) {
+        return Ok(None);
+    }
     let Some(number) = number_of(number.bytes()) else {
         return Ok(None);
     };

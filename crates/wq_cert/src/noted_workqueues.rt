@@ -43,7 +43,7 @@ fn read_items<A: Allocator + Copy>(
     ensures items { IfOk result (λ items. wq_items table.now.names place (said_line bare line.now) ≡ Ok items.items) }
     ensures fault { IfErr result (λ e. IsCertFaultOf e (wq_items table.now.names place (said_line bare line.now))) }
 {
-    let Some((number, items)) = wq_form(alloc, table, line, bare)? else {
+    let Some((number, items)) = wq_form(alloc, table, line.words(), bare)? else {
         return Err(CertError::BadCertLine { line: line.no() });
     };
     if number != u32::from(place) || place >= MAX_ASSIGNED_LANES {

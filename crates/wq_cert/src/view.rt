@@ -73,7 +73,6 @@ fn holds_word(line: &Line<'_>) -> bool
 {
     match line.bytes() {
         [] | [b'#', ..] => false,
-        [first, ..] if *first > b'#' => true,
         _ => line.words().next().is_some(),
     }
 }
