@@ -1,52 +1,24 @@
-use Rattle.std.proofs.Common.{◌≡◌, ℕ, List, [], ◌∷◌, ◌++◌, cond, ap, sym, subst, not, ◌∙◌}
-use Rattle.std.specs.Prelude.{bytes_eq}
-use Rattle.std.specs.List.{list_any}
+use Rattle.std.proofs.Common.{◌≡◌, ◌<◌, ◌+◌, ◌-◌, ℕ, Option, None, List, [], ◌∷◌, ◌++◌, cond, length, set, ap, sym, subst, not, is_some, ◌∙◌, arith, false, true}
+use Rattle.std.specs.Prelude.{slice_index}
+use Rattle.std.specs.Int.Bits.{bit_and}
+use Rattle.std.proofs.lemmas.List.{length-map, map-append, get_or_default}
 use Rattle.wq_items.specs.declared.hashing.Name.{Name}
-use Rattle.wq_items.specs.Hashing.{hash_of, AreHashed, names_of}
-use Rattle.wq_items.proofs.WaitLemmas.{OnErr-always}
-use Rattle.wq_items.proofs.FoundNames.{found_key}
-use Rattle.wq_items.proofs.ByKeyLemmas.{list_any-hashed, hashed-added, names-added}
+use Rattle.wq_items.specs.Hashing.{hash_of, AreFound, names_of}
+use Rattle.wq_items.specs.Table.{item_named}
+use Rattle.wq_items.proofs.ByKeyLemmas.{AreFound-moved, AreFound-more}
 use Rattle.wq_items.proofs.names.Names.add.Goals as goal
 
-pub returns-in_err-added-clause-absent : goal.returns-in_err-added-clause-absent
-returns-in_err-added-clause-absent g c =
-    let keys = c.self.inside.set.keys in
-    let hasher = c.self.inside.hasher in
-    let own : c.name.result.hash ≡ hash_of hasher c.name.result.bytes.now = c.name.ensures.hash ∙ ap (hash_of hasher) (sym c.name.ensures.bytes) in
-    OnErr-always _ _ (
-    sym (
-    list_any-hashed hasher c.name.result keys own c.self.invariant
-    ∙ ap (λ (b : List ℕ). list_any (λ (k : Name). bytes_eq b k.bytes.now) keys) c.name.ensures.bytes
-    ∙ found_key (λ (k : Name). k.bytes.now) keys c.args.self.now c.args.name.now c.self.view_is
-    )
-    ∙ c.in_err-added.ensures.absent
-    )
+pub look_up-requires : goal.look_up-requires
+look_up-requires g c =
+    let s = c.self.inside in
+    subst (λ (l : List Name). AreFound s.hasher l s.places.lasts.items s.places.befores.items) (sym c.as_slice-names.ensures.value) c.self.invariant
 
-pub invariant_of-self-2 : goal.invariant_of-self-2
-invariant_of-self-2 g c =
-    let keys = c.self.inside.set.keys in
-    let hasher = c.self.inside.hasher in
-    let own : c.name.result.hash ≡ hash_of hasher c.name.result.bytes.now = c.name.ensures.hash ∙ ap (hash_of hasher) (sym c.name.ensures.bytes) in
-    subst (AreHashed hasher) (sym c.in_ok-added.ensures.keys) (hashed-added hasher keys c.name.result _ own c.self.invariant)
-
-pub returns-clause-added : goal.returns-clause-added
-returns-clause-added g c =
-    let keys = c.self.inside.set.keys in
-    let hasher = c.self.inside.hasher in
-    let own : c.name.result.hash ≡ hash_of hasher c.name.result.bytes.now = c.name.ensures.hash ∙ ap (hash_of hasher) (sym c.name.ensures.bytes) in
-    c.in_ok-added.ensures.added
-    ∙ ap not (
-    list_any-hashed hasher c.name.result keys own c.self.invariant
-    ∙ ap (λ (b : List ℕ). list_any (λ (k : Name). bytes_eq b k.bytes.now) keys) c.name.ensures.bytes
-    ∙ found_key (λ (k : Name). k.bytes.now) keys c.args.self.now c.args.name.now c.self.view_is
-    )
-
-pub returns-clause-names : goal.returns-clause-names
-returns-clause-names g c =
-    let keys = c.self.inside.set.keys in
-    let added = c.in_ok-added.added in
-    c.make_room.ensures
-    ∙ ap names_of c.in_ok-added.ensures.keys
-    ∙ names-added keys c.name.result _ added c.in_ok-added.ensures.added
-    ∙ ap (λ (b : List ℕ). cond added (names_of keys ++ (b ∷ [])) (names_of keys)) c.name.ensures.bytes
-    ∙ ap (λ (names : List (List ℕ)). cond added (names ++ (c.args.name.now ∷ [])) names) c.self.view_is
+pub make_room-requires : goal.make_room-requires
+make_room-requires g c =
+    let s = c.self.inside in
+    let found = subst (λ (l : List Name). AreFound s.hasher l s.places.lasts.items s.places.befores.items) (sym c.as_slice-names.ensures.value) c.self.invariant in
+    record {
+      few = omega (arith, c.requires, ap (λ (l : List (List ℕ)). length l) c.self.view_is, length-map s.names.items (λ (n : Name). n.bytes.now), ap (λ (l : List Name). length l) c.as_slice-names.ensures.value);
+      keyed = found.keyed;
+      linked = found.linked;
+    }
