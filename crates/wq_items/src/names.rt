@@ -108,7 +108,7 @@ impl<A: Allocator + Copy> Places<A> {
         ensures room { IfOk result (λ _. vec_len self.new.befores < vec_capacity self.new.befores) }
         ensures unchanged { OnErr result (self.new ≡ self.old) }
     {
-        if self.befores.len() == self.befores.capacity() {
+        if self.lasts.is_empty() || self.befores.len() >= self.befores.capacity() {
             let room = more_room(names.len());
             *self = Places::with_room(*self.lasts.allocator(), names, room)?;
         }
