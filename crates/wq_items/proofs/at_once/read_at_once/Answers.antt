@@ -1,5 +1,5 @@
-use Rattle.std.proofs.Common.{rules, arith, ◌≡◌, ◌||◌, Bool, Option, Ok, Some, None, sym, ap, subst, ◌∙◌}
-use Rattle.wq_text.specs.Lines.{lines_of}
+use Rattle.std.proofs.Common.{rules, arith, List, length, ◌≡◌, ◌||◌, Bool, Option, Ok, Some, None, sym, ap, subst, ◌∙◌}
+use Rattle.wq_text.specs.Lines.{LineView, lines_of}
 use Rattle.wq_decl.specs.declared.directive.Directive.{Directive}
 use Rattle.wq_decl.specs.Reading.{reading, is_ordered}
 use Rattle.wq_items.specs.AtOnce.{Foretells}
@@ -76,7 +76,7 @@ pub plain-preserved : goal.plain-preserved
 plain-preserved g c =
     let all = lines_of c.args.text.now in
     let before = c.plain in
-    let taken = c.in_ok-take_plain.ensures.taken c.plain-test.true in
+    let taken = c.in_ok-take_plain.ensures.taken c.if-branch.true in
     record {
       made = SoFar-taken before.parts c.take_plain.new.self _ before.lines c.take_plain.new.lines all taken before.invariant.made;
       ordered = OrdersSoFar-taken before.parts c.take_plain.new.self _ _ _ before.lines c.take_plain.new.lines all taken before.invariant.ordered;
@@ -84,13 +84,25 @@ plain-preserved g c =
     }
 
 pub plain-smaller : goal.plain-smaller
-plain-smaller g c = length-taken c.plain.parts c.take_plain.new.self c.plain.lines c.take_plain.new.lines (c.in_ok-take_plain.ensures.taken c.plain-test.true)
+plain-smaller g c = length-taken c.plain.parts c.take_plain.new.self c.plain.lines c.take_plain.new.lines (c.in_ok-take_plain.ensures.taken c.if-branch.true)
 
 pub loop-line-preserved : goal.loop-line-preserved
 loop-line-preserved g c =
     let all = lines_of c.args.text.now in
-    let same = c.in_ok-take_plain.ensures.other c.plain-test.false in
-    ?
+    let same = c.in_ok-take_plain.ensures.other c.if-branch.false in
+    record {
+      made =
+          subst (λ (t : Table). SoFar t c.match-branch-2.seen.any c.take_plain.new.lines all) (sym same.0)
+          (subst (λ (ls : List LineView). SoFar c.plain.parts c.match-branch-2.seen.any ls all) (sym same.1) c.plain.invariant.made);
+      ordered =
+          subst (λ (ls : List LineView). OrdersSoFar c.match-branch-2.seen.any c.match-branch-2.seen.lines c.match-branch-2.seen.count ls all) (sym same.1) c.plain.invariant.ordered;
+      at = c.again-here.ensures;
+    }
+
+pub loop-line-smaller : goal.loop-line-smaller
+loop-line-smaller g c =
+    let same = c.in_ok-take_plain.ensures.other c.if-branch.false in
+    omega (arith, ap (λ (ls : List LineView). length ls) same.1, c.plain.invariant.fewer, ap (λ (ls : List LineView). length ls) c.in-Some.ensures.steps)
 
 pub returns-in_err-take_plain-clause-memory : goal.returns-in_err-take_plain-clause-memory
 returns-in_err-take_plain-clause-memory g c =

@@ -26,23 +26,7 @@ loop-end-init g c =
     (Leads-all hasher names lasts c.args.places.now.befores.items c.requires wanted own (omega (arith, key, inside)))
 
 pub returns-then-eq-clause-place : goal.returns-then-eq-clause-place
-returns-then-eq-clause-place g c =
-    let hasher = c.args.hasher.now in
-    let names = c.args.names.now in
-    let lasts = c.args.places.now.lasts.items in
-    let wanted = c.name-wanted.result in
-    let own : wanted.hash ≡ hash_of hasher wanted.bytes.now = c.name-wanted.ensures.hash ∙ ap (hash_of hasher) (sym c.name-wanted.ensures.bytes) in
-    let place = c.from-place.result in
-    let on : c.loop-end.end ≡ place + 1 = omega (arith, c.from-place.ensures, c.loop-end-test.true) in
-    let inside : place < length names = place-within hasher names lasts c.args.places.now.befores.items c.requires wanted own c.loop-end.end place on c.loop-end.invariant in
-    let x = c.index.result.now in
-    let at : get_or (names_of names) place [] ≡ x.bytes.now = name-at hasher names lasts c.args.places.now.befores.items c.requires wanted own place x inside c.index.ensures in
-    let same : bytes_eq x.bytes.now wanted.bytes.now ≡ true =
-    sym (tested hasher names lasts c.args.places.now.befores.items c.requires wanted own place x inside c.index.ensures) ∙ sym c.eq.ensures ∙ c.if-eq.true in
-    sym (
-    item_named-at (names_of names) c.args.name.now place c.requires.distinct (omega (arith, inside, on, c.loop-end.invariant.within))
-    (at ∙ (bytes_eq-Decides x.bytes.now wanted.bytes.now).0 same ∙ c.name-wanted.ensures.bytes)
-    )
+returns-then-eq-clause-place g c = let h = c.eq in ?
 
 pub loop-end-smaller : goal.loop-end-smaller
 loop-end-smaller g c =
@@ -61,26 +45,7 @@ loop-end-smaller g c =
     omega (arith, on, next, before.within)
 
 pub loop-end-preserved : goal.loop-end-preserved
-loop-end-preserved g c =
-    let hasher = c.args.hasher.now in
-    let names = c.args.names.now in
-    let lasts = c.args.places.now.lasts.items in
-    let befores = c.args.places.now.befores.items in
-    let wanted = c.name-wanted.result in
-    let own : wanted.hash ≡ hash_of hasher wanted.bytes.now = c.name-wanted.ensures.hash ∙ ap (hash_of hasher) (sym c.name-wanted.ensures.bytes) in
-    let place = c.from-place.result in
-    let on : c.loop-end.end ≡ place + 1 = omega (arith, c.from-place.ensures, c.loop-end-test.true) in
-    let inside : place < length names = place-within hasher names lasts befores c.requires wanted own c.loop-end.end place on c.loop-end.invariant in
-    let next : c.index-end-in-loop-end.result.now ≡ slice_index befores place =
-    c.index-end-in-loop-end.ensures ∙ get_or_default befores place c.index-end-in-loop-end.result.now 0 (omega (arith, inside, c.requires.linked.one_each)) in
-    let x = c.index.result.now in
-    let at : get_or (names_of names) place [] ≡ x.bytes.now = name-at hasher names lasts befores c.requires wanted own place x inside c.index.ensures in
-    let other : get_or (names_of names) place [] ≢ wanted.bytes.now =
-    λ (same : get_or (names_of names) place [] ≡ wanted.bytes.now).
-    both_ways (bytes_eq x.bytes.now wanted.bytes.now) (sym (tested hasher names lasts befores c.requires wanted own place x inside c.index.ensures) ∙ sym c.eq.ensures ∙ c.if-eq.false)
-    ((bytes_eq-Decides x.bytes.now wanted.bytes.now).1 (sym at ∙ same)) in
-    subst (Leads (names_of names) (keys_of (length lasts - 1) names) wanted.bytes.now (bit_and wanted.hash (length lasts - 1))) (sym next)
-    (Leads-next hasher names lasts befores c.requires wanted own c.loop-end.end place on other c.loop-end.invariant)
+loop-end-preserved g c = let h = c.eq in ?
 
 pub returns-clause-place : goal.returns-clause-place
 returns-clause-place g c =

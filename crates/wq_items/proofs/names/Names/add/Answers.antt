@@ -8,8 +8,8 @@ use Rattle.wq_items.specs.Table.{item_named}
 use Rattle.wq_items.proofs.ByKeyLemmas.{AreFound-moved, AreFound-more}
 use Rattle.wq_items.proofs.names.Names.add.Goals as goal
 
-pub look_up-requires : goal.look_up-requires
-look_up-requires g c =
+pub look_up-place-requires : goal.look_up-place-requires
+look_up-place-requires g c =
     let s = c.self.inside in
     subst (λ (l : List Name). AreFound s.hasher l s.places.lasts.items s.places.befores.items) (sym c.as_slice-names.ensures.value) c.self.invariant
 
@@ -22,3 +22,6 @@ make_room-requires g c =
       keyed = found.keyed;
       linked = found.linked;
     }
+
+pub invariant_of-self-2 : goal.invariant_of-self-2
+invariant_of-self-2 g c = ?
