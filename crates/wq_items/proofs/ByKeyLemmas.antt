@@ -2,8 +2,8 @@
 use Rattle.std.proofs.Common.{◌≡◌, ◌≢◌, ℕ, ◌+◌, ◌-◌, ◌<◌, ◌≤◌, ◌==◌, inl, inr, Bool, true, false, List, [], ◌∷◌, ◌++◌, length, get_or, set, replicate, Option, Some, None, refl, sym, ap, subst, ◌∙◌, arith, eq-eqb}
 use Rattle.std.specs.Prelude.{◌&&◌, bytes_eq, slice_index, AllPairs}
 use Rattle.std.specs.Int.Bits.{bit_and}
-use Rattle.std.proofs.lemmas.Bool.{cases_eq}
-use Rattle.std.proofs.lemmas.List.{map-append, length-map, length-set, length-replicate, length_push, get_or-map, get_or-replicate, get_or-set_same, get_or-set_other, get_or_append_left, get_or_push}
+use Rattle.std.proofs.lemmas.Bool.{cases_eq, both_ways}
+use Rattle.std.proofs.lemmas.List.{map-append, length-map, length-set, length-replicate, length_push, get_or-map, get_or-replicate, get_or-set_same, get_or-set_other, get_or_append_left, get_or_push, get_or_default}
 use Rattle.std.proofs.lemmas.List.Elements.{All-nil, All-push}
 use Rattle.std.proofs.lemmas.List.Quantifiers.{all_pairs_push}
 use Rattle.std.proofs.lemmas.Slice.Eq.{bytes_eq-Decides}
@@ -147,11 +147,26 @@ module _ (hasher : Seeded) (names : List Name) (lasts befores : List ℕ) (are :
       }
 
   -- the name at a place is that of the element there, and one test is the other
-  pub name-at : (p : ℕ) (x : Name) → p < length names → x ≡ get_or names p x → get_or (names_of names) p [] ≡ x.bytes.now
+  name-at : (p : ℕ) (x : Name) → p < length names → x ≡ get_or names p x → get_or (names_of names) p [] ≡ x.bytes.now
   name-at p x lt is = get_or-map (λ (n : Name). n.bytes.now) names p x [] lt ∙ ap (λ (n : Name). n.bytes.now) (sym is)
 
-  pub tested : (p : ℕ) (x : Name) → p < length names → x ≡ get_or names p x → ((x.hash == name.hash) && bytes_eq x.bytes.now name.bytes.now) ≡ bytes_eq x.bytes.now name.bytes.now
+  tested : (p : ℕ) (x : Name) → p < length names → x ≡ get_or names p x → ((x.hash == name.hash) && bytes_eq x.bytes.now name.bytes.now) ≡ bytes_eq x.bytes.now name.bytes.now
   tested p x lt is = same-hashed hasher x name (subst (λ (n : Name). n.hash ≡ hash_of hasher n.bytes.now) (sym is) (are.hashed p x lt)) own
+
+  -- the test at a place tells whether the name is there
+  pub name-there : (p : ℕ) (d : Name) (r : Bool) → p < length names → r ≡ (((get_or names p d).hash == name.hash) && bytes_eq (get_or names p d).bytes.now name.bytes.now) → r ≡ true
+      → get_or (names_of names) p [] ≡ name.bytes.now
+  name-there p d r lt test yes =
+      let x = get_or names p d in
+      let is : x ≡ get_or names p x = get_or_default names p d x lt in
+      name-at p x lt is ∙ (bytes_eq-Decides x.bytes.now name.bytes.now).0 (sym (tested p x lt is) ∙ sym test ∙ yes)
+
+  pub name-elsewhere : (p : ℕ) (d : Name) (r : Bool) → p < length names → r ≡ (((get_or names p d).hash == name.hash) && bytes_eq (get_or names p d).bytes.now name.bytes.now) → r ≡ false
+      → get_or (names_of names) p [] ≢ name.bytes.now
+  name-elsewhere p d r lt test no same =
+      let x = get_or names p d in
+      let is : x ≡ get_or names p x = get_or_default names p d x lt in
+      both_ways (bytes_eq x.bytes.now name.bytes.now) (sym (tested p x lt is) ∙ sym test ∙ no) ((bytes_eq-Decides x.bytes.now name.bytes.now).1 (sym (name-at p x lt is) ∙ same))
 
   pub place-within : (end place : ℕ) → end ≡ place + 1 → Leads (names_of names) (keys_of most names) name.bytes.now key end → place < length names
   place-within end place on so_far = omega (arith, on, so_far.within, length-names)
