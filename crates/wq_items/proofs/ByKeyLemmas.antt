@@ -156,17 +156,17 @@ module _ (hasher : Seeded) (names : List Name) (lasts befores : List ℕ) (are :
   -- the test at a place tells whether the name is there
   pub name-there : (p : ℕ) (d : Name) (r : Bool) → p < length names → r ≡ (((get_or names p d).hash == name.hash) && bytes_eq (get_or names p d).bytes.now name.bytes.now) → r ≡ true
       → get_or (names_of names) p [] ≡ name.bytes.now
-  name-there p d r lt test yes =
+  name-there p d r lt test passed =
       let x = get_or names p d in
       let is : x ≡ get_or names p x = get_or_default names p d x lt in
-      name-at p x lt is ∙ (bytes_eq-Decides x.bytes.now name.bytes.now).0 (sym (tested p x lt is) ∙ sym test ∙ yes)
+      name-at p x lt is ∙ (bytes_eq-Decides x.bytes.now name.bytes.now).0 (sym (tested p x lt is) ∙ sym test ∙ passed)
 
   pub name-elsewhere : (p : ℕ) (d : Name) (r : Bool) → p < length names → r ≡ (((get_or names p d).hash == name.hash) && bytes_eq (get_or names p d).bytes.now name.bytes.now) → r ≡ false
       → get_or (names_of names) p [] ≢ name.bytes.now
-  name-elsewhere p d r lt test no same =
+  name-elsewhere p d r lt test failed same =
       let x = get_or names p d in
       let is : x ≡ get_or names p x = get_or_default names p d x lt in
-      both_ways (bytes_eq x.bytes.now name.bytes.now) (sym (tested p x lt is) ∙ sym test ∙ no) ((bytes_eq-Decides x.bytes.now name.bytes.now).1 (sym (name-at p x lt is) ∙ same))
+      both_ways (bytes_eq x.bytes.now name.bytes.now) (sym (tested p x lt is) ∙ sym test ∙ failed) ((bytes_eq-Decides x.bytes.now name.bytes.now).1 (sym (name-at p x lt is) ∙ same))
 
   pub place-within : (end place : ℕ) → end ≡ place + 1 → Leads (names_of names) (keys_of most names) name.bytes.now key end → place < length names
   place-within end place on so_far = omega (arith, on, so_far.within, length-names)

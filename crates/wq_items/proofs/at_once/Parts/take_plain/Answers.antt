@@ -22,6 +22,6 @@ returns-in-Some-next_single-clause-taken g c = λ _.
 
 pub returns-in_err-take_item-clause-memory : goal.returns-in_err-take_item-clause-memory
 returns-in_err-take_item-clause-memory g c =
-    IfNone-always c.from_residual.result _
+    IfNone-always c.from_residual-in_err-take_item.result _
     (subst (λ (ls : List LineView). IsRefused ls) c.in_default.ensures.none
     (IsRefused-item c.in-Some-next_single.name c.next_pair.new.self c.next_single.new.self c.in-Some-next_single.ensures.single))
