@@ -3,8 +3,8 @@
 //! `DeclView::new` and `ItemTable::read` scan a declaration one after the other, since the faults of the first pass
 //! come before those of the second. Here both passes are made at once, and the words of a line are cut once. Most lines
 //! are `flush` or `item` and names with one space between them: these are cut without looking for the end of the line
-//! first. A word that is found in the table isn't judged, since the table holds only names; only the name on an `item` line is. If
-//! the text has a fault, there is no answer: which fault it is, the two passes tell.
+//! first. A word that is found in the table isn't judged, since the table holds only names; only the name on an `item`
+//! line is. If the text has a fault, there is no answer: which fault it is, the two passes tell.
 //!
 //! The view of the directives keeps where the `ordered` lines are, so that reading the groups skips most other lines.
 //! The items that these lines name are noted and returned, so that most of them needn't be looked up again.
