@@ -415,30 +415,30 @@ module _ (name target : WordView) (lines left : List LineView)
   }
 
 module _ (name : WordView) (lines left : List LineView) (b : BeginsWithWords (codes "item") (name ∷ []) lines left)
-    where
-  item_said : Foretells (Some (Some (Item name))) (reading b.line)
-  item_said = plain_said (codes "item") (name ∷ []) lines left b
+  where
+    item_said : Foretells (Some (Some (Item name))) (reading b.line)
+    item_said = plain_said (codes "item") (name ∷ []) lines left b
 
-  pub IsTaken-item : (t u : Table) → IsTrue (is_whole (Item name)) → ((n : ℕ) → item_declared t n name ≡ Ok u)
-      → IsTaken t lines u left
-  IsTaken-item t u whole makes = record {
-    line = b.line;
-    directive = Item name;
-    first = b.first;
-    said = item_said.0 whole;
-    other = refl;
-    makes = makes b.line.no;
-  }
+    pub IsTaken-item : (t u : Table) → IsTrue (is_whole (Item name)) → ((n : ℕ) → item_declared t n name ≡ Ok u)
+        → IsTaken t lines u left
+    IsTaken-item t u whole makes = record {
+      line = b.line;
+      directive = Item name;
+      first = b.first;
+      said = item_said.0 whole;
+      other = refl;
+      makes = makes b.line.no;
+    }
 
-  pub IsRefused-item : IsRefused lines
-  IsRefused-item = record {
-    line = b.line;
-    directive = Item name;
-    left = left;
-    first = b.first;
-    said = item_said;
-    grows = inl refl;
-  }
+    pub IsRefused-item : IsRefused lines
+    IsRefused-item = record {
+      line = b.line;
+      directive = Item name;
+      left = left;
+      first = b.first;
+      said = item_said;
+      grows = inl refl;
+    }
 
 -- the lines so far, after one that was taken
 pub SoFar-taken : (t u : Table) (orders : Bool) (lines left all : List LineView) → IsTaken t lines u left
