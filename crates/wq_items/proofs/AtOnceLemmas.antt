@@ -382,7 +382,8 @@ OrdersSoFar-noted any first count here new_any new_first new_count line d left r
 -- ---- plain lines
 
 -- what a line says that begins with these words
-plain_said : (keyword : List ℕ) (words : List WordView) (lines left : List LineView) (b : BeginsWithWords keyword words lines left)
+plain_said : (keyword : List ℕ) (words : List WordView) (lines left : List LineView)
+    (b : BeginsWithWords keyword words lines left)
     → Foretells (unjudged (record { start = b.line.start; bytes = keyword } ∷ words)) (reading b.line)
 plain_said keyword words lines left b =
     subst (λ (ws : List WordView). Foretells (unjudged ws) (reading b.line)) b.holds (Foretells-reading b.line)
@@ -444,7 +445,8 @@ module _ (name : WordView) (lines left : List LineView) (b : BeginsWithWords (co
 pub SoFar-taken : (t u : Table) (orders : Bool) (lines left all : List LineView) → IsTaken t lines u left
     → SoFar t orders lines all → SoFar u orders left all
 SoFar-taken t u orders lines left all k h =
-    let same : (orders || is_ordered k.directive) ≡ orders = ap (λ (b : Bool). orders || b) k.other ∙ sym (or_false orders) in
+    let same : (orders || is_ordered k.directive) ≡ orders = ap (λ (b : Bool). orders || b) k.other
+        ∙ sym (or_false orders) in
     subst (λ (b : Bool). SoFar u b left all) same
     (SoFar-more t u orders k.line k.directive lines left all k.first k.said k.makes h)
 

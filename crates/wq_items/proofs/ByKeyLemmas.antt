@@ -1,9 +1,11 @@
 -- Names that bring their hashes, and how they are found by them.
-use Rattle.std.proofs.Common.{◌≡◌, ◌≢◌, ℕ, ◌+◌, ◌-◌, ◌<◌, ◌≤◌, ◌==◌, inl, inr, Bool, true, false, List, [], ◌∷◌, ◌++◌, length, get_or, set, replicate, Option, Some, None, refl, sym, ap, subst, ◌∙◌, arith, eq-eqb}
+use Rattle.std.proofs.Common.{◌≡◌, ◌≢◌, ℕ, ◌+◌, ◌-◌, ◌<◌, ◌≤◌, ◌==◌, inl, inr, Bool, true, false, List, [], ◌∷◌, ◌++◌,
+    length, get_or, set, replicate, Option, Some, None, refl, sym, ap, subst, ◌∙◌, arith, eq-eqb}
 use Rattle.std.specs.Prelude.{◌&&◌, bytes_eq, slice_index, AllPairs}
 use Rattle.std.specs.Int.Bits.{bit_and}
 use Rattle.std.proofs.lemmas.Bool.{cases_eq, both_ways}
-use Rattle.std.proofs.lemmas.List.{map-append, length-map, length-set, length-replicate, length_push, get_or-map, get_or-replicate, get_or-set_same, get_or-set_other, get_or_append_left, get_or_push, get_or_default}
+use Rattle.std.proofs.lemmas.List.{map-append, length-map, length-set, length-replicate, length_push, get_or-map,
+    get_or-replicate, get_or-set_same, get_or-set_other, get_or_append_left, get_or_push, get_or_default}
 use Rattle.std.proofs.lemmas.List.Elements.{All-nil, All-push}
 use Rattle.std.proofs.lemmas.List.Quantifiers.{all_pairs_push}
 use Rattle.std.proofs.lemmas.Slice.Eq.{bytes_eq-Decides}
@@ -150,23 +152,27 @@ module _ (hasher : Seeded) (names : List Name) (lasts befores : List ℕ) (are :
   name-at : (p : ℕ) (x : Name) → p < length names → x ≡ get_or names p x → get_or (names_of names) p [] ≡ x.bytes.now
   name-at p x lt is = get_or-map (λ (n : Name). n.bytes.now) names p x [] lt ∙ ap (λ (n : Name). n.bytes.now) (sym is)
 
-  tested : (p : ℕ) (x : Name) → p < length names → x ≡ get_or names p x → ((x.hash == name.hash) && bytes_eq x.bytes.now name.bytes.now) ≡ bytes_eq x.bytes.now name.bytes.now
+  tested : (p : ℕ) (x : Name) → p < length names → x ≡ get_or names p x
+      → ((x.hash == name.hash) && bytes_eq x.bytes.now name.bytes.now) ≡ bytes_eq x.bytes.now name.bytes.now
   tested p x lt is = same-hashed hasher x name (subst (λ (n : Name). n.hash ≡ hash_of hasher n.bytes.now) (sym is) (are.hashed p x lt)) own
 
   -- the test at a place tells whether the name is there
-  pub name-there : (p : ℕ) (d : Name) (r : Bool) → p < length names → r ≡ (((get_or names p d).hash == name.hash) && bytes_eq (get_or names p d).bytes.now name.bytes.now) → r ≡ true
+  pub name-there : (p : ℕ) (d : Name) (r : Bool) → p < length names
+      → r ≡ (((get_or names p d).hash == name.hash) && bytes_eq (get_or names p d).bytes.now name.bytes.now) → r ≡ true
       → get_or (names_of names) p [] ≡ name.bytes.now
   name-there p d r lt test passed =
       let x = get_or names p d in
       let is : x ≡ get_or names p x = get_or_default names p d x lt in
       name-at p x lt is ∙ (bytes_eq-Decides x.bytes.now name.bytes.now).0 (sym (tested p x lt is) ∙ sym test ∙ passed)
 
-  pub name-elsewhere : (p : ℕ) (d : Name) (r : Bool) → p < length names → r ≡ (((get_or names p d).hash == name.hash) && bytes_eq (get_or names p d).bytes.now name.bytes.now) → r ≡ false
+  pub name-elsewhere : (p : ℕ) (d : Name) (r : Bool) → p < length names
+      → r ≡ (((get_or names p d).hash == name.hash) && bytes_eq (get_or names p d).bytes.now name.bytes.now) → r ≡ false
       → get_or (names_of names) p [] ≢ name.bytes.now
   name-elsewhere p d r lt test failed same =
       let x = get_or names p d in
       let is : x ≡ get_or names p x = get_or_default names p d x lt in
-      both_ways (bytes_eq x.bytes.now name.bytes.now) (sym (tested p x lt is) ∙ sym test ∙ failed) ((bytes_eq-Decides x.bytes.now name.bytes.now).1 (sym (name-at p x lt is) ∙ same))
+      both_ways (bytes_eq x.bytes.now name.bytes.now) (sym (tested p x lt is) ∙ sym test ∙ failed)
+          ((bytes_eq-Decides x.bytes.now name.bytes.now).1 (sym (name-at p x lt is) ∙ same))
 
   pub place-within : (end place : ℕ) → end ≡ place + 1 → Leads (names_of names) (keys_of most names) name.bytes.now key end → place < length names
   place-within end place on so_far = omega (arith, on, so_far.within, length-names)
@@ -185,8 +191,10 @@ AreFound-none hasher names lasts befores no_names no_lasts no_befores =
     }
 
 -- other places of the same names
-pub AreFound-moved : (hasher : Seeded) (names : List Name) (lasts befores new_lasts new_befores : List ℕ) → 0 < length new_lasts
-    → AreLinked (keys_of (length new_lasts - 1) names) (length names) new_lasts new_befores → AreFound hasher names lasts befores → AreFound hasher names new_lasts new_befores
+pub AreFound-moved : (hasher : Seeded) (names : List Name) (lasts befores new_lasts new_befores : List ℕ)
+    → 0 < length new_lasts
+    → AreLinked (keys_of (length new_lasts - 1) names) (length names) new_lasts new_befores
+        → AreFound hasher names lasts befores → AreFound hasher names new_lasts new_befores
 AreFound-moved hasher names lasts befores new_lasts new_befores some linked are = record {
   few = are.few;
   hashed = are.hashed;
@@ -195,7 +203,8 @@ AreFound-moved hasher names lasts befores new_lasts new_befores some linked are 
   linked = linked;
 }
 
-EndsAfterLast-append : (keys more : List ℕ) (k bound end : ℕ) → bound ≤ length keys → EndsAfterLast keys k bound end → EndsAfterLast (keys ++ more) k bound end
+EndsAfterLast-append : (keys more : List ℕ) (k bound end : ℕ) → bound ≤ length keys → EndsAfterLast keys k bound end
+    → EndsAfterLast (keys ++ more) k bound end
 EndsAfterLast-append keys more k bound end le h = record {
   within = h.within;
   last = λ p lt e. h.last p lt (sym (get_or_append_left keys more 0 p (omega (arith, lt, le))) ∙ e);
@@ -203,19 +212,25 @@ EndsAfterLast-append keys more k bound end le h = record {
 }
 
 -- places that are linked stay linked if there are more keys
-AreLinked-append : (keys more lasts befores : List ℕ) (n : ℕ) → n ≤ length keys → AreLinked keys n lasts befores → AreLinked (keys ++ more) n lasts befores
+AreLinked-append : (keys more lasts befores : List ℕ) (n : ℕ) → n ≤ length keys → AreLinked keys n lasts befores
+    → AreLinked (keys ++ more) n lasts befores
 AreLinked-append keys more lasts befores n le h = record {
   one_each = h.one_each;
   lasts_lead = λ k lt. EndsAfterLast-append keys more k n (slice_index lasts k) le (h.lasts_lead k lt);
   befores_lead = λ p lt.
-      subst (λ (k : ℕ). EndsAfterLast (keys ++ more) k p (slice_index befores p)) (sym (get_or_append_left keys more 0 p (omega (arith, lt, le))))
-      (EndsAfterLast-append keys more (slice_index keys p) p (slice_index befores p) (omega (arith, lt, le)) (h.befores_lead p lt));
+      subst (λ (k : ℕ). EndsAfterLast (keys ++ more) k p (slice_index befores p))
+          (sym (get_or_append_left keys more 0 p (omega (arith, lt, le))))
+      (EndsAfterLast-append keys more (slice_index keys p) p (slice_index befores p) (omega (arith, lt, le))
+          (h.befores_lead p lt));
 }
 
 -- one more name, which isn't there yet
-pub AreFound-more : (hasher : Seeded) (names : List Name) (lasts befores : List ℕ) (name : Name) (key : ℕ) → length names < 4096 → name.hash ≡ hash_of hasher name.bytes.now
-    → item_named (names_of names) name.bytes.now ≡ None → key ≡ bit_and name.hash (length lasts - 1) → key < length lasts → AreFound hasher names lasts befores
-    → AreFound hasher (names ++ (name ∷ [])) (set lasts key (length names + 1)) (befores ++ (slice_index lasts key ∷ []))
+pub AreFound-more : (hasher : Seeded) (names : List Name) (lasts befores : List ℕ) (name : Name) (key : ℕ)
+    → length names < 4096 → name.hash ≡ hash_of hasher name.bytes.now
+    → item_named (names_of names) name.bytes.now ≡ None → key ≡ bit_and name.hash (length lasts - 1)
+        → key < length lasts → AreFound hasher names lasts befores
+    → AreFound hasher (names ++ (name ∷ [])) (set lasts key (length names + 1))
+        (befores ++ (slice_index lasts key ∷ []))
 AreFound-more hasher names lasts befores name key room own none key_is inside are =
     let n = length names in
     let most = length lasts - 1 in
@@ -227,15 +242,18 @@ AreFound-more hasher names lasts befores name key room own none key_is inside ar
     let long : length keys ≡ n = length-map names (λ (m : Name). bit_and m.hash most) in
     let at : slice_index new_keys n ≡ key = get_or_push keys its_key 0 n long ∙ sym key_is in
     let linked : AreLinked new_keys (n + 1) new_lasts new_befores =
-    AreLinked-more new_keys lasts befores n key inside at (AreLinked-append keys (its_key ∷ []) lasts befores n (omega (arith, long)) are.linked) in
+    AreLinked-more new_keys lasts befores n key inside at (AreLinked-append keys (its_key ∷ []) lasts befores n
+        (omega (arith, long)) are.linked) in
     let are_keys : keys_of (length new_lasts - 1) (names ++ (name ∷ [])) ≡ new_keys =
-    ap (λ (m : ℕ). keys_of (m - 1) (names ++ (name ∷ []))) (length-set lasts key (n + 1)) ∙ map-append (λ (m : Name). bit_and m.hash most) names (name ∷ []) in
+    ap (λ (m : ℕ). keys_of (m - 1) (names ++ (name ∷ []))) (length-set lasts key (n + 1))
+        ∙ map-append (λ (m : Name). bit_and m.hash most) names (name ∷ []) in
     record {
       few = omega (arith, room, length_push names name);
       hashed = All-push (λ (m : Name). m.hash ≡ hash_of hasher m.bytes.now) names name are.hashed own;
       distinct =
           subst (AllPairs (λ (a b : List ℕ). a ≢ b)) (sym (map-append (λ (m : Name). m.bytes.now) names (name ∷ [])))
-          (all_pairs_push (λ (a b : List ℕ). a ≢ b) (names_of names) name.bytes.now are.distinct (λ k d lt. differs-from-item_named (names_of names) name.bytes.now none k d lt));
+          (all_pairs_push (λ (a b : List ℕ). a ≢ b) (names_of names) name.bytes.now are.distinct
+              (λ k d lt. differs-from-item_named (names_of names) name.bytes.now none k d lt));
       keyed = λ _. omega (arith, inside, length-set lasts key (n + 1));
       linked =
           subst (λ (ks : List ℕ). AreLinked ks (length (names ++ (name ∷ []))) new_lasts new_befores) (sym are_keys)

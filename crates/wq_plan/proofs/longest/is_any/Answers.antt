@@ -6,7 +6,8 @@ use Rattle.std.proofs.lemmas.List.Folds.{list_any_at}
 use Rattle.wq_plan.proofs.longest.is_any.Goals as goal
 
 -- an element that doesn't pass a test that only `true` passes
-is_false : (p : Bool → Bool) (xs : List Bool) (k : ℕ) → p true ≡ true → list_any p xs ≡ false → k < length xs → get_or xs k false ≡ false
+is_false : (p : Bool → Bool) (xs : List Bool) (k : ℕ) → p true ≡ true → list_any p xs ≡ false → k < length xs
+    → get_or xs k false ≡ false
 is_false p xs k passes none lt = by (get_or xs k false) refl
   where
     by : (b : Bool) → get_or xs k false ≡ b → b ≡ false
