@@ -446,7 +446,7 @@ pub SoFar-taken : (t u : Table) (orders : Bool) (lines left all : List LineView)
     → SoFar t orders lines all → SoFar u orders left all
 SoFar-taken t u orders lines left all k h =
     let same : (orders || is_ordered k.directive) ≡ orders = ap (λ (b : Bool). orders || b) k.other
-        ∙ sym (or_false orders) in
+    ∙ sym (or_false orders) in
     subst (λ (b : Bool). SoFar u b left all) same
     (SoFar-more t u orders k.line k.directive lines left all k.first k.said k.makes h)
 

@@ -1,11 +1,54 @@
 -- Names that bring their hashes, and how they are found by them.
-use Rattle.std.proofs.Common.{◌≡◌, ◌≢◌, ℕ, ◌+◌, ◌-◌, ◌<◌, ◌≤◌, ◌==◌, inl, inr, Bool, true, false, List, [], ◌∷◌, ◌++◌,
-    length, get_or, set, replicate, Option, Some, None, refl, sym, ap, subst, ◌∙◌, arith, eq-eqb}
+use Rattle.std.proofs.Common.{
+  ◌≡◌,
+  ◌≢◌,
+  ℕ,
+  ◌+◌,
+  ◌-◌,
+  ◌<◌,
+  ◌≤◌,
+  ◌==◌,
+  inl,
+  inr,
+  Bool,
+  true,
+  false,
+  List,
+  [],
+  ◌∷◌,
+  ◌++◌,
+  length,
+  get_or,
+  set,
+  replicate,
+  Option,
+  Some,
+  None,
+  refl,
+  sym,
+  ap,
+  subst,
+  ◌∙◌,
+  arith,
+  eq-eqb,
+}
 use Rattle.std.specs.Prelude.{◌&&◌, bytes_eq, slice_index, AllPairs}
 use Rattle.std.specs.Int.Bits.{bit_and}
 use Rattle.std.proofs.lemmas.Bool.{cases_eq, both_ways}
-use Rattle.std.proofs.lemmas.List.{map-append, length-map, length-set, length-replicate, length_push, get_or-map,
-    get_or-replicate, get_or-set_same, get_or-set_other, get_or_append_left, get_or_push, get_or_default}
+use Rattle.std.proofs.lemmas.List.{
+  map-append,
+  length-map,
+  length-set,
+  length-replicate,
+  length_push,
+  get_or-map,
+  get_or-replicate,
+  get_or-set_same,
+  get_or-set_other,
+  get_or_append_left,
+  get_or_push,
+  get_or_default,
+}
 use Rattle.std.proofs.lemmas.List.Elements.{All-nil, All-push}
 use Rattle.std.proofs.lemmas.List.Quantifiers.{all_pairs_push}
 use Rattle.std.proofs.lemmas.Slice.Eq.{bytes_eq-Decides}
@@ -172,7 +215,7 @@ module _ (hasher : Seeded) (names : List Name) (lasts befores : List ℕ) (are :
       let x = get_or names p d in
       let is : x ≡ get_or names p x = get_or_default names p d x lt in
       both_ways (bytes_eq x.bytes.now name.bytes.now) (sym (tested p x lt is) ∙ sym test ∙ failed)
-          ((bytes_eq-Decides x.bytes.now name.bytes.now).1 (sym (name-at p x lt is) ∙ same))
+      ((bytes_eq-Decides x.bytes.now name.bytes.now).1 (sym (name-at p x lt is) ∙ same))
 
   pub place-within : (end place : ℕ) → end ≡ place + 1 → Leads (names_of names) (keys_of most names) name.bytes.now key end → place < length names
   place-within end place on so_far = omega (arith, on, so_far.within, length-names)
@@ -194,7 +237,7 @@ AreFound-none hasher names lasts befores no_names no_lasts no_befores =
 pub AreFound-moved : (hasher : Seeded) (names : List Name) (lasts befores new_lasts new_befores : List ℕ)
     → 0 < length new_lasts
     → AreLinked (keys_of (length new_lasts - 1) names) (length names) new_lasts new_befores
-        → AreFound hasher names lasts befores → AreFound hasher names new_lasts new_befores
+    → AreFound hasher names lasts befores → AreFound hasher names new_lasts new_befores
 AreFound-moved hasher names lasts befores new_lasts new_befores some linked are = record {
   few = are.few;
   hashed = are.hashed;
@@ -219,18 +262,18 @@ AreLinked-append keys more lasts befores n le h = record {
   lasts_lead = λ k lt. EndsAfterLast-append keys more k n (slice_index lasts k) le (h.lasts_lead k lt);
   befores_lead = λ p lt.
       subst (λ (k : ℕ). EndsAfterLast (keys ++ more) k p (slice_index befores p))
-          (sym (get_or_append_left keys more 0 p (omega (arith, lt, le))))
+      (sym (get_or_append_left keys more 0 p (omega (arith, lt, le))))
       (EndsAfterLast-append keys more (slice_index keys p) p (slice_index befores p) (omega (arith, lt, le))
-          (h.befores_lead p lt));
+      (h.befores_lead p lt));
 }
 
 -- one more name, which isn't there yet
 pub AreFound-more : (hasher : Seeded) (names : List Name) (lasts befores : List ℕ) (name : Name) (key : ℕ)
     → length names < 4096 → name.hash ≡ hash_of hasher name.bytes.now
     → item_named (names_of names) name.bytes.now ≡ None → key ≡ bit_and name.hash (length lasts - 1)
-        → key < length lasts → AreFound hasher names lasts befores
+    → key < length lasts → AreFound hasher names lasts befores
     → AreFound hasher (names ++ (name ∷ [])) (set lasts key (length names + 1))
-        (befores ++ (slice_index lasts key ∷ []))
+    (befores ++ (slice_index lasts key ∷ []))
 AreFound-more hasher names lasts befores name key room own none key_is inside are =
     let n = length names in
     let most = length lasts - 1 in
@@ -243,17 +286,17 @@ AreFound-more hasher names lasts befores name key room own none key_is inside ar
     let at : slice_index new_keys n ≡ key = get_or_push keys its_key 0 n long ∙ sym key_is in
     let linked : AreLinked new_keys (n + 1) new_lasts new_befores =
     AreLinked-more new_keys lasts befores n key inside at (AreLinked-append keys (its_key ∷ []) lasts befores n
-        (omega (arith, long)) are.linked) in
+    (omega (arith, long)) are.linked) in
     let are_keys : keys_of (length new_lasts - 1) (names ++ (name ∷ [])) ≡ new_keys =
     ap (λ (m : ℕ). keys_of (m - 1) (names ++ (name ∷ []))) (length-set lasts key (n + 1))
-        ∙ map-append (λ (m : Name). bit_and m.hash most) names (name ∷ []) in
+    ∙ map-append (λ (m : Name). bit_and m.hash most) names (name ∷ []) in
     record {
       few = omega (arith, room, length_push names name);
       hashed = All-push (λ (m : Name). m.hash ≡ hash_of hasher m.bytes.now) names name are.hashed own;
       distinct =
           subst (AllPairs (λ (a b : List ℕ). a ≢ b)) (sym (map-append (λ (m : Name). m.bytes.now) names (name ∷ [])))
           (all_pairs_push (λ (a b : List ℕ). a ≢ b) (names_of names) name.bytes.now are.distinct
-              (λ k d lt. differs-from-item_named (names_of names) name.bytes.now none k d lt));
+          (λ k d lt. differs-from-item_named (names_of names) name.bytes.now none k d lt));
       keyed = λ _. omega (arith, inside, length-set lasts key (n + 1));
       linked =
           subst (λ (ks : List ℕ). AreLinked ks (length (names ++ (name ∷ []))) new_lasts new_befores) (sym are_keys)

@@ -1,6 +1,27 @@
 -- Where a name is among names.
-use Rattle.std.proofs.Common.{◌≡◌, ℕ, suc, ◌+◌, Bool, true, false, not, cond, ltb, List, [], ◌∷◌, length, map, Option,
-    Some, None, refl, ap, ◌∙◌}
+use Rattle.std.proofs.Common.{
+  ◌≡◌,
+  ℕ,
+  suc,
+  ◌+◌,
+  Bool,
+  true,
+  false,
+  not,
+  cond,
+  ltb,
+  List,
+  [],
+  ◌∷◌,
+  length,
+  map,
+  Option,
+  Some,
+  None,
+  refl,
+  ap,
+  ◌∙◌,
+}
 use Rattle.std.specs.Prelude.{position}
 use Rattle.std.specs.List.{All, prefix_len, position_or_len}
 use Rattle.std.proofs.lemmas.List.Elements.{All-head, All-tail}

@@ -72,7 +72,8 @@ Foretells (Some None) said = said ≡ Ok None
 Foretells (Some (Some directive)) said =
     (IsTrue (is_whole directive) → said ≡ Ok (Some directive)) × (IsOk said → IsTrue (is_whole directive))
 
--- the first of the lines has no fault and isn't `ordered`; its directive makes table u of table t, and the others are left
+-- the first of the lines has no fault and isn't `ordered`; its directive makes table u of table t, and the others are
+-- left
 pub record IsTaken (t : Table) (lines : List LineView) (u : Table) (left : List LineView) : Type 0 where
   pub line : LineView
   pub directive : Directive

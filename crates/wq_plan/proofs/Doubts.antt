@@ -302,7 +302,7 @@ least_doubts-sure unsure graph lane none (suc below) v =
     by [] = refl
     by (a ∷ arcs) =
         let rest = map (λ (b : WaitArc). least_doubts unsure graph lane below b.head + cond (unsure b.place) 1 0)
-            arcs in
+        arcs in
         ap (λ (n : ℕ). fold min (n + cond (unsure a.place) 1 0) rest)
         (least_doubts-sure unsure graph lane none below a.head)
         ∙ ap (λ (b : Bool). fold min (0 + cond b 1 0) rest) (none a.place) ∙ fold_min-zero rest

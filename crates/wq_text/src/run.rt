@@ -3,8 +3,8 @@
 //! All bytes of a name are greater than `#`, and so are those of most words. A space, a TAB, a line feed and the `#`
 //! itself aren't (docs/FORMAT.md, "Lines, words and numbers"). A run of n bytes takes n / 16 steps.
 
-ghost use Rattle.std.specs.Prelude.{◌≡◌, ◌+◌, ◌<◌, ◌≤◌, ◌==◌, ◌∷◌, ◌++◌, ℕ, true, false, nat_le, length, take, slice_index};
-ghost use Rattle.std.specs.Prelude.{IfSome};
+ghost use Rattle.std.specs.Prelude.{◌≡◌, ◌+◌, ◌<◌, ◌≤◌, ◌==◌, ◌∷◌, ◌++◌, ℕ, true, false, nat_le, length};
+ghost use Rattle.std.specs.Prelude.{take, slice_index, IfSome};
 ghost use Rattle.memchr.specs.Find.{IsFirstByte, is_byte};
 ghost use Rattle.wq_text.specs.Runs.{first_set, AllGreater};
 

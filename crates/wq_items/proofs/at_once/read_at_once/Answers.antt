@@ -5,9 +5,25 @@ use Rattle.wq_decl.specs.Reading.{reading, is_ordered}
 use Rattle.wq_items.specs.AtOnce.{Foretells}
 use Rattle.wq_items.specs.Table.{Table}
 use Rattle.wq_items.specs.declared.at_once.Orders.{Orders}
-use Rattle.wq_items.proofs.AtOnceLemmas.{SoFar, SoFar-none, SoFar-blank, SoFar-more, SoFar-ran_out, SoFar-out_at_end,
-    IfNone-always, IsTable-SoFar, OrdersSoFar, OrdersSoFar-none, OrdersSoFar-blank, OrdersSoFar-noted, IsNoted,
-    SoFar-taken, OrdersSoFar-taken, SoFar-refused, length-taken}
+use Rattle.wq_items.proofs.AtOnceLemmas.{
+  SoFar,
+  SoFar-none,
+  SoFar-blank,
+  SoFar-more,
+  SoFar-ran_out,
+  SoFar-out_at_end,
+  IfNone-always,
+  IsTable-SoFar,
+  OrdersSoFar,
+  OrdersSoFar-none,
+  OrdersSoFar-blank,
+  OrdersSoFar-noted,
+  IsNoted,
+  SoFar-taken,
+  OrdersSoFar-taken,
+  SoFar-refused,
+  length-taken,
+}
 use Rattle.wq_items.proofs.at_once.read_at_once.Goals as goal
 use Rattle.wq_items.proofs.at_once.read_at_once.Goals.{in-Some-2+in_ok-take, in_default-2}
 
@@ -84,8 +100,11 @@ plain-preserved g c =
           before.invariant.made;
       ordered = OrdersSoFar-taken before.parts c.take_plain.new.self _ _ _ before.lines c.take_plain.new.lines all taken
           before.invariant.ordered;
-      fewer = omega (arith, length-taken before.parts c.take_plain.new.self before.lines c.take_plain.new.lines taken,
-          before.invariant.fewer);
+      fewer = omega (
+        arith,
+        length-taken before.parts c.take_plain.new.self before.lines c.take_plain.new.lines taken,
+        before.invariant.fewer,
+      );
     }
 
 pub plain-smaller : goal.plain-smaller
@@ -100,24 +119,28 @@ loop-line-preserved g c =
       made =
           subst (λ (t : Table). SoFar t c.match-branch-2.seen.any c.take_plain.new.lines all) (sym same.0)
           (subst (λ (ls : List LineView). SoFar c.plain.parts c.match-branch-2.seen.any ls all) (sym same.1)
-              c.plain.invariant.made);
+          c.plain.invariant.made);
       ordered =
           subst (λ (ls : List LineView). OrdersSoFar c.match-branch-2.seen.any c.match-branch-2.seen.lines
-              c.match-branch-2.seen.count ls all) (sym same.1) c.plain.invariant.ordered;
+          c.match-branch-2.seen.count ls all) (sym same.1) c.plain.invariant.ordered;
       at = c.again-here.ensures;
     }
 
 pub loop-line-smaller : goal.loop-line-smaller
 loop-line-smaller g c =
     let same = c.in_ok-take_plain.ensures.other c.if-branch.false in
-    omega (arith, ap (λ (ls : List LineView). length ls) same.1, c.plain.invariant.fewer,
-        ap (λ (ls : List LineView). length ls) c.in-Some.ensures.steps)
+    omega (
+      arith,
+      ap (λ (ls : List LineView). length ls) same.1,
+      c.plain.invariant.fewer,
+      ap (λ (ls : List LineView). length ls) c.in-Some.ensures.steps,
+    )
 
 pub returns-in_err-take_plain-clause-memory : goal.returns-in_err-take_plain-clause-memory
 returns-in_err-take_plain-clause-memory g c =
     IfNone-always c.from_residual-in_err-take_plain.result _
-        (SoFar-refused c.plain.parts _ c.plain.lines (lines_of c.args.text.now) c.in_err-take_plain.ensures.memory
-        c.plain.invariant.made)
+    (SoFar-refused c.plain.parts _ c.plain.lines (lines_of c.args.text.now) c.in_err-take_plain.ensures.memory
+    c.plain.invariant.made)
 
 pub take_plain-requires : goal.take_plain-requires
 take_plain-requires g c = IsTable-SoFar c.plain.parts _ c.plain.lines (lines_of c.args.text.now) c.plain.invariant.made

@@ -1,11 +1,18 @@
-use Rattle.std.proofs.Common.{◌≡◌, ◌≢◌, true, ◌+◌, ◌-◌, ◌<◌, ℕ, List, [], length, get_or, sym, ap, subst, ◌∙◌, arith}
+use Rattle.std.proofs.Common.{◌≡◌, ◌+◌, ◌-◌, ◌<◌, ℕ, length, sym, ap, subst, ◌∙◌, arith}
 use Rattle.std.specs.Prelude.{slice_index}
 use Rattle.std.specs.Int.Bits.{bit_and}
 use Rattle.std.proofs.lemmas.List.{get_or_default}
 use Rattle.wq_items.specs.Hashing.{hash_of, names_of, keys_of}
 use Rattle.wq_items.specs.Table.{item_named}
-use Rattle.wq_items.proofs.ByKeyLemmas.{Leads, Leads-all, Leads-next, Leads-none, name-there, name-elsewhere,
-    place-within}
+use Rattle.wq_items.proofs.ByKeyLemmas.{
+  Leads,
+  Leads-all,
+  Leads-next,
+  Leads-none,
+  name-there,
+  name-elsewhere,
+  place-within,
+}
 use Rattle.wq_items.proofs.FlushLemmas.{item_named-at}
 use Rattle.wq_items.proofs.names.look_up.Goals as goal
 
@@ -16,7 +23,7 @@ loop-end-init g c =
     let lasts = c.args.places.now.lasts.items in
     let wanted = c.name-wanted.result in
     let own : wanted.hash ≡ hash_of hasher wanted.bytes.now = c.name-wanted.ensures.hash
-        ∙ ap (hash_of hasher) (sym c.name-wanted.ensures.bytes) in
+    ∙ ap (hash_of hasher) (sym c.name-wanted.ensures.bytes) in
     let count : c.len-count.result ≡ length lasts = c.len-count.ensures ∙ c.args.places.now.lasts.ok.0 in
     let key : c.key_of.result ≡ bit_and wanted.hash (length lasts - 1) = c.key_of.ensures.key ∙ ap (λ (m : ℕ). bit_and wanted.hash (m - 1)) count in
     let inside : c.key_of.result < length lasts = omega (arith, c.key_of.ensures.below, count, c.if-count-eq0.false) in
@@ -32,16 +39,16 @@ returns-then-eq-clause-place g c =
     let lasts = c.args.places.now.lasts.items in
     let wanted = c.name-wanted.result in
     let own : wanted.hash ≡ hash_of hasher wanted.bytes.now = c.name-wanted.ensures.hash
-        ∙ ap (hash_of hasher) (sym c.name-wanted.ensures.bytes) in
+    ∙ ap (hash_of hasher) (sym c.name-wanted.ensures.bytes) in
     let place = c.from-place.result in
     let on : c.loop-end.end ≡ place + 1 = omega (arith, c.from-place.ensures, c.loop-end-test.true) in
     let inside : place < length names = place-within hasher names lasts c.args.places.now.befores.items c.requires
-        wanted own c.loop-end.end place on c.loop-end.invariant in
+    wanted own c.loop-end.end place on c.loop-end.invariant in
     sym (
     item_named-at (names_of names) c.args.name.now place c.requires.distinct
-        (omega (arith, inside, on, c.loop-end.invariant.within))
+    (omega (arith, inside, on, c.loop-end.invariant.within))
     (name-there hasher names lasts c.args.places.now.befores.items c.requires wanted own place _ c.eq.result inside
-        c.eq.ensures c.if-eq.true ∙ c.name-wanted.ensures.bytes)
+    c.eq.ensures c.if-eq.true ∙ c.name-wanted.ensures.bytes)
     )
 
 pub loop-end-smaller : goal.loop-end-smaller
@@ -52,14 +59,14 @@ loop-end-smaller g c =
     let befores = c.args.places.now.befores.items in
     let wanted = c.name-wanted.result in
     let own : wanted.hash ≡ hash_of hasher wanted.bytes.now = c.name-wanted.ensures.hash
-        ∙ ap (hash_of hasher) (sym c.name-wanted.ensures.bytes) in
+    ∙ ap (hash_of hasher) (sym c.name-wanted.ensures.bytes) in
     let place = c.from-place.result in
     let on : c.loop-end.end ≡ place + 1 = omega (arith, c.from-place.ensures, c.loop-end-test.true) in
     let inside : place < length names = place-within hasher names lasts befores c.requires wanted own c.loop-end.end
-        place on c.loop-end.invariant in
+    place on c.loop-end.invariant in
     let next : c.index-end-in-loop-end.result.now ≡ slice_index befores place =
     c.index-end-in-loop-end.ensures ∙ get_or_default befores place c.index-end-in-loop-end.result.now 0
-        (omega (arith, inside, c.requires.linked.one_each)) in
+    (omega (arith, inside, c.requires.linked.one_each)) in
     let before = c.requires.linked.befores_lead place inside in
     omega (arith, on, next, before.within)
 
@@ -71,16 +78,16 @@ loop-end-preserved g c =
     let befores = c.args.places.now.befores.items in
     let wanted = c.name-wanted.result in
     let own : wanted.hash ≡ hash_of hasher wanted.bytes.now = c.name-wanted.ensures.hash
-        ∙ ap (hash_of hasher) (sym c.name-wanted.ensures.bytes) in
+    ∙ ap (hash_of hasher) (sym c.name-wanted.ensures.bytes) in
     let place = c.from-place.result in
     let on : c.loop-end.end ≡ place + 1 = omega (arith, c.from-place.ensures, c.loop-end-test.true) in
     let inside : place < length names = place-within hasher names lasts befores c.requires wanted own c.loop-end.end
-        place on c.loop-end.invariant in
+    place on c.loop-end.invariant in
     let next : c.index-end-in-loop-end.result.now ≡ slice_index befores place =
     c.index-end-in-loop-end.ensures ∙ get_or_default befores place c.index-end-in-loop-end.result.now 0
-        (omega (arith, inside, c.requires.linked.one_each)) in
+    (omega (arith, inside, c.requires.linked.one_each)) in
     let other = name-elsewhere hasher names lasts befores c.requires wanted own place _ c.eq.result inside c.eq.ensures
-        c.if-eq.false in
+    c.if-eq.false in
     subst (Leads (names_of names) (keys_of (length lasts - 1) names) wanted.bytes.now (bit_and wanted.hash (length lasts - 1))) (sym next)
     (Leads-next hasher names lasts befores c.requires wanted own c.loop-end.end place on other c.loop-end.invariant)
 

@@ -113,7 +113,7 @@ returns-then-not-is_any-clause-doubts g c =
     let doubts : List ℕ = c.in_ok-doubts.doubts.items in
     let zeros : doubts ≡ replicate (length lane) 0 = c.in_ok-doubts.ensures.items_if_clones_equal (λ y e. e) in
     let size : length doubts ≡ length lane = ap (λ (l : List ℕ). length l) zeros
-        ∙ length-replicate {A = ℕ} (length lane) 0 in
+    ∙ length-replicate {A = ℕ} (length lane) 0 in
     let none : (place : ℕ) → unsure place ≡ false = c.is_any.ensures c.if-not-is_any.true in
     fill_by_all (λ v. least_doubts unsure c.args.graph.now lane (slice_index lane v) v) doubts (length lane) 0 size
     (λ k lt.
@@ -123,5 +123,5 @@ returns-then-not-is_any-clause-doubts g c =
 pub returns-then-not-is_any-clause-few : goal.returns-then-not-is_any-clause-few
 returns-then-not-is_any-clause-few g c =
     let zeros : c.in_ok-doubts.doubts.items ≡ replicate (length c.args.lane.now) 0 =
-        c.in_ok-doubts.ensures.items_if_clones_equal (λ y e. e) in
+    c.in_ok-doubts.ensures.items_if_clones_equal (λ y e. e) in
     subst (All (λ n. n < 4096)) (sym zeros) (All-replicate (λ n. n < 4096) (length c.args.lane.now) 0 (omega arith))

@@ -9,9 +9,9 @@ returns c =
     let word = c.args.word.now in
     let rest = c.in_ok-first.rest.now in
     let front : take (length word) text ≡ word = (bytes_eq-Decides (take (length word) text) word).0
-        c.in_ok-after.ensures.cases.0 in
+    c.in_ok-after.ensures.cases.0 in
     let back : drop (length word) text ≡ 32 ∷ rest =
     sym c.in_ok-after.ensures.cases.1 ∙ c.in_ok-first.ensures.cases.0
-        ∙ ap (λ (b : ℕ). b ∷ rest) c.if-first-ne32.false in
+    ∙ ap (λ (b : ℕ). b ∷ rest) c.if-first-ne32.false in
     sym (take-append-drop (length word) text) ∙ ap (λ (x : List ℕ). x ++ drop (length word) text) front
-        ∙ ap (λ (x : List ℕ). word ++ x) back
+    ∙ ap (λ (x : List ℕ). word ++ x) back

@@ -17,9 +17,9 @@ returns-in_err-take_one-clause-memory g c =
 pub returns-in-Some-next_single-clause-taken : goal.returns-in-Some-next_single-clause-taken
 returns-in-Some-next_single-clause-taken g c = λ _.
     subst (λ (ls : List LineView). IsTaken c.args.self.now ls c.take_item.new.self c.next_single.new.self)
-        c.in_default.ensures.none
+    c.in_default.ensures.none
     (IsTaken-item c.in-Some-next_single.name c.next_pair.new.self c.next_single.new.self
-        c.in-Some-next_single.ensures.single
+    c.in-Some-next_single.ensures.single
     c.args.self.now c.take_item.new.self c.in_ok-take_item.ensures.whole c.in_ok-take_item.ensures.table)
 
 pub returns-in_err-take_item-clause-memory : goal.returns-in_err-take_item-clause-memory
@@ -27,4 +27,4 @@ returns-in_err-take_item-clause-memory g c =
     IfNone-always c.from_residual-in_err-take_item.result _
     (subst (λ (ls : List LineView). IsRefused ls) c.in_default.ensures.none
     (IsRefused-item c.in-Some-next_single.name c.next_pair.new.self c.next_single.new.self
-        c.in-Some-next_single.ensures.single))
+    c.in-Some-next_single.ensures.single))

@@ -1,5 +1,27 @@
-use Rattle.std.proofs.Common.{◌≡◌, ◌<◌, ◌+◌, ◌-◌, ℕ, Option, Some, None, List, [], ◌∷◌, ◌++◌, length, set, refl, ap,
-    sym, subst, is_some, ◌∙◌, arith, false}
+use Rattle.std.proofs.Common.{
+  ◌≡◌,
+  ◌<◌,
+  ◌+◌,
+  ◌-◌,
+  ℕ,
+  Option,
+  Some,
+  None,
+  List,
+  [],
+  ◌∷◌,
+  ◌++◌,
+  length,
+  set,
+  refl,
+  ap,
+  sym,
+  subst,
+  is_some,
+  ◌∙◌,
+  arith,
+  false,
+}
 use Rattle.std.specs.Prelude.{slice_index}
 use Rattle.std.specs.Int.Bits.{bit_and}
 use Rattle.std.proofs.lemmas.List.{length-map, length_push, get_or_default}
@@ -13,17 +35,22 @@ pub look_up-place-requires : goal.look_up-place-requires
 look_up-place-requires g c =
     let s = c.self.inside in
     subst (λ (l : List Name). AreFound s.hasher l s.places.lasts.items s.places.befores.items)
-        (sym c.as_slice-names.ensures.value) c.self.invariant
+    (sym c.as_slice-names.ensures.value) c.self.invariant
 
 pub make_room-requires : goal.make_room-requires
 make_room-requires g c =
     let s = c.self.inside in
     let found = subst (λ (l : List Name). AreFound s.hasher l s.places.lasts.items s.places.befores.items)
-        (sym c.as_slice-names.ensures.value) c.self.invariant in
+    (sym c.as_slice-names.ensures.value) c.self.invariant in
     record {
-      few = omega (arith, c.requires, ap (λ (l : List (List ℕ)). length l) c.self.view_is,
-          length-map s.names.items (λ (n : Name). n.bytes.now), ap (λ (l : List Name). length l)
-          c.as_slice-names.ensures.value);
+      few = omega (
+        arith,
+        c.requires,
+        ap (λ (l : List (List ℕ)). length l) c.self.view_is,
+        length-map s.names.items (λ (n : Name). n.bytes.now),
+        ap (λ (l : List Name). length l)
+            c.as_slice-names.ensures.value,
+      );
       keyed = found.keyed;
       linked = found.linked;
     }
@@ -45,32 +72,36 @@ invariant_of-self-2 g c =
     let some : 0 < length lasts = c.in_ok-make_room.ensures.keyed in
     let linked : AreLinked (keys_of (length lasts - 1) names) (length names) lasts befores =
     subst (λ (l : List Name). AreLinked (keys_of (length lasts - 1) l) (length l) lasts befores) slice
-        c.in_ok-make_room.ensures.linked in
+    c.in_ok-make_room.ensures.linked in
     let are : AreFound s.hasher names lasts befores = AreFound-moved s.hasher names s.places.lasts.items
-        s.places.befores.items lasts befores some linked c.self.invariant in
+    s.places.befores.items lasts befores some linked c.self.invariant in
     let own : name.hash ≡ hash_of s.hasher name.bytes.now = c.look_up-place.ensures.hash
-        ∙ ap (hash_of s.hasher) (sym c.look_up-place.ensures.bytes) in
+    ∙ ap (hash_of s.hasher) (sym c.look_up-place.ensures.bytes) in
     let none : item_named (names_of names) name.bytes.now ≡ None =
     ap (item_named (names_of names)) c.look_up-place.ensures.bytes
-        ∙ ap (λ (l : List Name). item_named (names_of l) c.args.name.now) (sym slice)
+    ∙ ap (λ (l : List Name). item_named (names_of l) c.args.name.now) (sym slice)
     ∙ sym c.look_up-place.ensures.place ∙ is_none c.look_up-place.result.1
-        (sym c.is_some.ensures ∙ c.if-is_some.false) in
+    (sym c.is_some.ensures ∙ c.if-is_some.false) in
     let count : c.len.result ≡ length lasts = c.len.ensures ∙ c.make_room.new.self.lasts.ok.0 in
     let its_key : key ≡ bit_and name.hash (length lasts - 1) = c.key_of-key.ensures.key
-        ∙ ap (λ (m : ℕ). bit_and name.hash (m - 1)) count in
+    ∙ ap (λ (m : ℕ). bit_and name.hash (m - 1)) count in
     let inside : key < length lasts = omega (arith, c.key_of-key.ensures.below, count, some) in
-    let room : length names < 4096 = omega (arith, c.requires, ap (λ (l : List (List ℕ)). length l) c.self.view_is,
-        length-map names (λ (n : Name). n.bytes.now)) in
+    let room : length names < 4096 = omega (
+      arith,
+      c.requires,
+      ap (λ (l : List (List ℕ)). length l) c.self.view_is,
+      length-map names (λ (n : Name). n.bytes.now),
+    ) in
     let now_names : c.push.new.self.items ≡ names ++ (name ∷ []) = c.in_ok-push.ensures.items in
     let end : c.len-2.result ≡ length names + 1 = c.len-2.ensures ∙ c.push.new.self.ok.0
-        ∙ ap (λ (l : List Name). length l) now_names ∙ length_push names name in
+    ∙ ap (λ (l : List Name). length l) now_names ∙ length_push names name in
     let before : c.index-before.result.now ≡ slice_index lasts key = c.index-before.ensures
-        ∙ get_or_default lasts key c.index-before.result.now 0 inside in
+    ∙ get_or_default lasts key c.index-before.result.now 0 inside in
     let now_befores : c.push-2.new.self.items ≡ befores ++ (slice_index lasts key ∷ []) = c.in_ok-push-2.ensures.items
-        ∙ ap (λ (x : ℕ). befores ++ (x ∷ [])) before in
+    ∙ ap (λ (x : ℕ). befores ++ (x ∷ [])) before in
     subst (λ (l : List Name). AreFound s.hasher l (set lasts key c.len-2.result) c.push-2.new.self.items)
-        (sym now_names)
+    (sym now_names)
     (subst (λ (n : ℕ). AreFound s.hasher (names ++ (name ∷ [])) (set lasts key n) c.push-2.new.self.items) (sym end)
     (subst (λ (l : List ℕ). AreFound s.hasher (names ++ (name ∷ [])) (set lasts key (length names + 1)) l)
-        (sym now_befores)
+    (sym now_befores)
     (AreFound-more s.hasher names lasts befores name key room own none its_key inside are)))

@@ -8,7 +8,7 @@ pub look_up-requires : goal.look_up-requires
 look_up-requires g c =
     let s = c.self.inside in
     subst (λ (l : List Name). AreFound s.hasher l s.places.lasts.items s.places.befores.items)
-        (sym c.as_slice.ensures.value) c.self.invariant
+    (sym c.as_slice.ensures.value) c.self.invariant
 
 pub returns : goal.returns
 returns g c =

@@ -27,11 +27,15 @@ loop-place-preserved g c =
     let befores = c.loop-place.befores.items in
     let i = c.loop-place.place in
     let key = c.key_of-key.result in
-    let inside : key < length lasts = omega (arith, c.key_of-key.ensures.below, c.keys_for-count.ensures,
-        c.loop-place.invariant.keyed) in
+    let inside : key < length lasts = omega (
+      arith,
+      c.key_of-key.ensures.below,
+      c.keys_for-count.ensures,
+      c.loop-place.invariant.keyed,
+    ) in
     let before : c.index.result.now ≡ slice_index lasts key = c.index.ensures ∙ get_or_default lasts key c.index.result.now 0 inside in
     let its_key : slice_index keys i ≡ key = get_or-map (λ (n : Name). bit_and n.hash most) names i _ 0
-        c.loop-place-test.true ∙ sym c.key_of-key.ensures.key in
+    c.loop-place-test.true ∙ sym c.key_of-key.ensures.key in
     record {
       linked = subst (AreLinked keys (i + 1) (set lasts key (i + 1)))
           (sym (c.in_ok-push.ensures.items ∙ ap (λ (x : ℕ). befores ++ (x ∷ [])) before))
@@ -49,11 +53,18 @@ returns-clause-linked g c =
     let lasts = c.loop-place.lasts.items in
     let befores = c.loop-place.befores.items in
     subst (λ (count : ℕ). AreLinked (keys_of (count - 1) names) (length names) lasts befores)
-        (sym c.loop-place.invariant.keyed)
+    (sym c.loop-place.invariant.keyed)
     (subst (λ (n : ℕ). AreLinked (keys_of (c.keys_for-count.result - 1) names) n lasts befores)
-        (omega (arith, c.loop-place-test.false, c.loop-place.auto.place-end)) c.loop-place.invariant.linked)
+    (omega (arith, c.loop-place-test.false, c.loop-place.auto.place-end)) c.loop-place.invariant.linked)
 
 pub returns-clause-room : goal.returns-clause-room
 returns-clause-room g c =
-    omega (arith, c.loop-place.befores.ok.0, c.loop-place.invariant.linked.one_each, c.loop-place-test.false,
-        c.loop-place.auto.place-end, c.loop-place.invariant.room, c.requires.more)
+    omega (
+      arith,
+      c.loop-place.befores.ok.0,
+      c.loop-place.invariant.linked.one_each,
+      c.loop-place-test.false,
+      c.loop-place.auto.place-end,
+      c.loop-place.invariant.room,
+      c.requires.more,
+    )

@@ -19,10 +19,10 @@ returns-clause-pair c =
     let two : WordView = record { start = second; bytes = target } in
     let begins : BeginsWithWords keyword (one ∷ two ∷ []) (lines_from (s.before + 1) s.start (pieces s.rest.now)) left =
     BeginsWithWords-pair (s.before + 1) s.start first (s.before + 1 + 1) s.rest.now keyword c.in_ok-after.after.now name
-        c.in_ok-after.ensures c.requires.plain c.requires.some
+    c.in_ok-after.ensures c.requires.plain c.requires.some
     c.in_ok-name.ensures.greater c.in_ok-name.ensures.some refl refl c.in_ok-name.behind.now target rest second end
-        c.in_ok-name.ensures.whole c.in_ok-target.ensures.whole c.in_ok-target.ensures.greater
-        c.in_ok-target.ensures.some refl refl in
+    c.in_ok-name.ensures.whole c.in_ok-target.ensures.whole c.in_ok-target.ensures.greater
+    c.in_ok-target.ensures.some refl refl in
     subst (λ (w : WordView). BeginsWithWords keyword (w ∷ c.of-2.result ∷ []) c.args.self.now left) (sym c.of.ensures)
     (subst (λ (w : WordView). BeginsWithWords keyword (one ∷ w ∷ []) c.args.self.now left) (sym c.of-2.ensures)
     (subst (λ (lines : List LineView). BeginsWithWords keyword (one ∷ two ∷ []) lines left) c.self.view_is begins))

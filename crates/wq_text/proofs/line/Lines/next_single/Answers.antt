@@ -16,7 +16,7 @@ returns-clause-single c =
     let one : WordView = record { start = first; bytes = name } in
     let begins : BeginsWithWords keyword (one ∷ []) (lines_from (s.before + 1) s.start (pieces s.rest.now)) left =
     BeginsWithWords-single (s.before + 1) s.start first (s.before + 1 + 1) s.rest.now keyword c.in_ok-after.after.now
-        name c.in_ok-after.ensures c.requires.plain c.requires.some
+    name c.in_ok-after.ensures c.requires.plain c.requires.some
     c.in_ok-name.ensures.greater c.in_ok-name.ensures.some refl refl rest end c.in_ok-name.ensures.whole refl in
     subst (λ (w : WordView). BeginsWithWords keyword (w ∷ []) c.args.self.now left) (sym c.of.ensures)
     (subst (λ (lines : List LineView). BeginsWithWords keyword (one ∷ []) lines left) c.self.view_is begins)
