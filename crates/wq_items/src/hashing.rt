@@ -35,6 +35,7 @@ fn are_same_long(a: &[u8], b: &[u8]) -> bool
 }
 
 /// Whether two names are equal.
+#[inline(always)]
 pub(crate) fn are_same(a: &[u8], b: &[u8]) -> bool
     ensures { result ≡ bytes_eq a.now b.now }
 {
