@@ -526,6 +526,8 @@ def commands_source(commands):
         method("about", "What help says of it.", "&'a str", "", [(verb(row), f'"{row["help"]}"') for row in commands], "<'a>"),
         method("assignment", "What help says of its assignment.", "&'a str", "",
                [(verb(row), f'"{row["assign"]}"' if "assign" in row else "help::ASSIGN") for row in commands], "<'a>"),
+        method("items", "What help says of its names.", "&'a str", "",
+               [(verb(row), f'"{row["names"]}"' if "names" in row else "help::NAME") for row in commands], "<'a>"),
         method("statuses", "What long help says of its exit statuses.", "&'a str", "",
                [(verb(row), f"statuses::{row['command'].upper()}") for row in commands], "<'a>"),
     ]

@@ -19,6 +19,7 @@ use Rattle.wq_core.specs.Rules.{MayWait, MayBeOver, MayStartFirst, Lawful, effec
 use Rattle.wq_core.specs.Runs.{after, end_of, IsRun, IsRunFrom, IsForcedStep}
 use Rattle.wq_core.specs.Held.{IsSoundState}
 use Rattle.wq_core.specs.Deadlock.{IsStuck}
+use Rattle.wq_core.specs.MustGoOn.{IsStuckFor}
 use Rattle.wq_core.proofs.Contexts.{is_running-some, found-pending, next-may, MayStart-first}
 use Rattle.wq_core.proofs.Helpers.{OnlyRescuersRun, only_rescuers-end_of}
 use Rattle.wq_core.proofs.Knots.{unfinished-started, unfinished-going_on}
@@ -48,7 +49,7 @@ lane_In w [] h (k, lt, at) = omega arith
 lane_In w (g ∷ hops) h (zero, lt, at) = inl (ap (λ (x : Hop). lane_of w x.item) (sym at))
 lane_In w (g ∷ hops) h (suc k, lt, at) = inr (lane_In w hops h (k, omega arith, at))
 
-In_lane : (w : Wiring) (hops : List Hop) (q : ℕ) → In q (lanes_from w hops) → (h : Hop) × Contains hops h × (lane_of w h.item ≡ q)
+pub In_lane : (w : Wiring) (hops : List Hop) (q : ℕ) → In q (lanes_from w hops) → (h : Hop) × Contains hops h × (lane_of w h.item ≡ q)
 In_lane w [] q there = absurd there
 In_lane w (g ∷ hops) q (inl same) = (g, (0, omega arith, refl), sym same)
 In_lane w (g ∷ hops) q (inr later) = let found = In_lane w hops q later in (found.0, (suc found.1.0, omega (arith, found.1.1), found.1.2), found.2)
@@ -63,7 +64,7 @@ In_item [] i there = absurd there
 In_item (g ∷ hops) i (inl same) = (g, (0, omega arith, refl), sym same)
 In_item (g ∷ hops) i (inr later) = let found = In_item hops i later in (found.0, (suc found.1.0, omega (arith, found.1.1), found.1.2), found.2)
 
-In-append : (i : ℕ) (xs ys : List ℕ) → In i (xs ++ ys) → In i xs ⊎ In i ys
+pub In-append : (i : ℕ) (xs ys : List ℕ) → In i (xs ++ ys) → In i xs ⊎ In i ys
 In-append i [] ys there = inr there
 In-append i (x ∷ xs) ys (inl same) = inl (inl same)
 In-append i (x ∷ xs) ys (inr later) = elim (In-append i xs ys later) [ inl one ↦ inl (inr one) | inr other ↦ inr other ]
@@ -81,7 +82,7 @@ entry_of [] i there = absurd there
 entry_of (e ∷ es) i (inl same) = (e, (0, omega arith, refl), sym same)
 entry_of (e ∷ es) i (inr later) = let found = entry_of es i later in (found.0, (suc found.1.0, omega (arith, found.1.1), found.1.2), found.2)
 
-entry_In : (es : List Entry) (e : Entry) → Contains es e → In e.item (map (λ (f : Entry). f.item) es)
+pub entry_In : (es : List Entry) (e : Entry) → Contains es e → In e.item (map (λ (f : Entry). f.item) es)
 entry_In [] e (k, lt, at) = omega arith
 entry_In (x ∷ es) e (zero, lt, at) = inl (ap (λ (f : Entry). f.item) (sym at))
 entry_In (x ∷ es) e (suc k, lt, at) = inr (entry_In es e (k, omega arith, at))
@@ -214,7 +215,6 @@ all_move w s (h ∷ hops) apart can =
 -- hops, and items beside them, whose run ends stuck: their items are on different lanes that have a rescuer, and declare the flushes;
 -- what each waits for is queued; and nothing else is queued on a lane that has a rescuer
 pub record HoldUp (w : Wiring) (hops : List Hop) (beside : List ℕ) : Type 0 where
-  pub some : 0 < length hops
   pub declared : (h : Hop) → Contains hops h → Contains (declared_by w h.item) h.flush
   pub rescuer : (h : Hop) → Contains hops h → HasRescuer w (lane_of w h.item)
   pub apart : Apart (lanes_from w hops)
@@ -424,12 +424,25 @@ module _ (w : Wiring) (hops : List Hop) (beside : List ℕ) (wiring : IsWiring w
   first_hop [] some = absurd (omega arith)
   first_hop (h ∷ hs) some = (h, (0, omega arith, refl))
 
-  pub IsStuck-walk : IsStuck w (end_of w (run_of_walk w hops beside))
-  IsStuck-walk =
-      let h = first_hop hops hold.some in
+  pub IsStuck-walk : 0 < length hops → IsStuck w (end_of w (run_of_walk w hops beside))
+  IsStuck-walk some =
+      let h = first_hop hops some in
       let left = left_at_end h.0.item (In-append_left h.0.item (items_of hops) beside (item_In hops h.0 h.1)) in
       subst (λ (s : State). IsStuck w s) (sym (after-append w (empty_state w) (map Queue all) (flat_map (moves_of w) hops))) (record {
         left = record { lane = lane_of w h.0.item; entry = left.0; unfinished = left.1 };
         rescuer = hold.rescuer h.0 h.1;
+        no_step = no_step;
+      })
+
+  -- and it is stuck for each item that is queued
+  pub IsStuckFor-walk : (named : List ℕ) (x : ℕ) → Contains named x → In x all
+      → IsStuckFor w named (end_of w (run_of_walk w hops beside))
+  IsStuckFor-walk named x is_named there =
+      let left = left_at_end x there in
+      subst (λ (s : State). IsStuckFor w named s)
+      (sym (after-append w (empty_state w) (map Queue all) (flat_map (moves_of w) hops))) (record {
+        item = x;
+        is_named = is_named;
+        left = record { lane = lane_of w x; entry = left.0; unfinished = left.1; of_item = left.2 };
         no_step = no_step;
       })

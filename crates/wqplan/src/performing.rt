@@ -31,13 +31,14 @@ use std::io::{self, Read, Write};
 use std::sync::Wait;
 use std::thread::Threads;
 use wq_changes::RepairVoice;
-use wq_circles::CirclesCommand;
+use wq_circles::{CirclesCommand, CirclesForCommand};
 use wq_commands::{
-    CheckCommand, Command, DeadlockCommand, End, PlanCommand, ReplayCommand, Voice, carry_out,
+    CheckCommand, Command, DeadlockCommand, End, PlanCommand, ReplayCommand, ReplayForCommand,
+    Voice, carry_out,
 };
 use wq_dot::DotCommand;
 use wq_explain::{Explained, explain_cmd};
-use wq_hang_command::HangCommand;
+use wq_hang_command::{HangCommand, HoldCommand};
 use wq_meter::{Fault, Metered, write_text};
 use wq_repair_command::RepairCommand;
 use wq_run::{CommandFault, RunCommand, carry_out_run, end_of_run};
@@ -378,17 +379,27 @@ fn carry_out_seeded<'a, O: World<'a>, R: Threads + Wait + Sync, I: Read, W: Writ
             writer,
             teller,
         ),
-        Verb::Hang => carry_out_files(
-            world,
-            alloc,
-            seed,
-            &HangCommand,
-            &names,
-            files,
-            input,
-            writer,
-            teller,
-        ),
+        Verb::Hang => {
+            let named = request.tail.names();
+            if named.is_empty() {
+                carry_out_files(
+                    world,
+                    alloc,
+                    seed,
+                    &HangCommand,
+                    &names,
+                    files,
+                    input,
+                    writer,
+                    teller,
+                )
+            } else {
+                let command = HoldCommand { names: named };
+                carry_out_files(
+                    world, alloc, seed, &command, &names, files, input, writer, teller,
+                )
+            }
+        }
         Verb::Repair => {
             let command = RepairCommand {
                 names: request.tail.names(),
@@ -398,24 +409,42 @@ fn carry_out_seeded<'a, O: World<'a>, R: Threads + Wait + Sync, I: Read, W: Writ
                 world, alloc, seed, &command, &voice, files, input, writer, teller,
             )
         }
-        Verb::Replay => carry_out_files(
-            world,
-            alloc,
-            seed,
-            &ReplayCommand,
-            &names,
-            files,
-            input,
-            writer,
-            teller,
-        ),
+        Verb::Replay => {
+            let named = request.tail.names();
+            if named.is_empty() {
+                carry_out_files(
+                    world,
+                    alloc,
+                    seed,
+                    &ReplayCommand,
+                    &names,
+                    files,
+                    input,
+                    writer,
+                    teller,
+                )
+            } else {
+                let command = ReplayForCommand { names: named };
+                carry_out_files(
+                    world, alloc, seed, &command, &names, files, input, writer, teller,
+                )
+            }
+        }
         Verb::Circles => {
-            let command = CirclesCommand {
-                assigned: has_second(files),
-            };
-            carry_out_files(
-                world, alloc, seed, &command, &names, files, input, writer, teller,
-            )
+            let named = request.tail.names();
+            if named.is_empty() {
+                let command = CirclesCommand {
+                    assigned: has_second(files),
+                };
+                carry_out_files(
+                    world, alloc, seed, &command, &names, files, input, writer, teller,
+                )
+            } else {
+                let command = CirclesForCommand { names: named };
+                carry_out_files(
+                    world, alloc, seed, &command, &names, files, input, writer, teller,
+                )
+            }
         }
         Verb::Dot => {
             let command = DotCommand {

@@ -1,0 +1,227 @@
+//! What can hold up items that must go on: components, flushes to workqueues without a rescuer, and the ways to both.
+//!
+//! The rule is that of "Circles that hold up NAMEs" in docs/FORMAT.md. Two searches from workqueue to workqueue are
+//! made, one along the arcs from those of the items, and one against them. It takes the time and the memory of the
+//! components, and of these.
+
+ghost use Rattle.std.specs.Prelude.{◌≡◌, ◌<◌, ℕ, List, IfOk, length, map, slice_index_or, false};
+ghost use Rattle.std.specs.List.{All};
+ghost use Rattle.wq_graph.specs.declared.arc.WaitArc.{WaitArc};
+ghost use Rattle.wq_groups.specs.DeclaredGroups.{declared_waits};
+ghost use Rattle.wq_groups.specs.Assignment.{item_lane};
+ghost use Rattle.wq_deadlock.specs.Judging.{bare_waits};
+ghost use Rattle.wq_circles.specs.Components.{AreComponents};
+ghost use Rattle.wq_circles.specs.Held.{AreHeldCircles, AreMarksOf, CanBeHeld, IsLedTo};
+
+use crate::joining::components;
+use crate::lists::{heads, tails};
+use crate::progress::FoundVertices;
+use crate::together::spread;
+use std::alloc::{AllocError, Allocator};
+use wq_core::Assigned;
+use wq_deadlock::{bare_waits, is_on_bare, rescued_graph};
+use wq_graph::{WaitArc, WaitGraph, group_arcs_by_place};
+use wq_items::ItemId;
+
+/// What can hold up items that must go on.
+#[derive(Drop)]
+pub struct HeldCircles<A: Allocator> {
+    /// The components whose workqueues are led to, each as its flushes.
+    pub components: Vec<Vec<WaitArc, A>, A>,
+    /// The flushes from workqueues that are led to, to workqueues without a rescuer, in order of place.
+    pub waits: Vec<WaitArc, A>,
+    /// The other flushes by which workqueues that are led to lead to these, in order of place.
+    pub ways: Vec<WaitArc, A>,
+}
+
+/// The workqueue of an item.
+fn lane_of<A: Allocator + Copy>(assigned: &Assigned<'_, '_, A>, item: ItemId) -> u16
+    requires { item < length assigned.now.declared.partition.group_of }
+    ensures { result ≡ item_lane assigned.now.workqueues.assignment assigned.now.declared.partition.group_of item }
+{
+    let group = assigned.groups().of(item);
+    assigned.workqueues().assignment().lane(group).get()
+}
+
+/// Finds a vertex and all that it leads to, unless it was found.
+fn find<A: Allocator + Copy>(
+    found: &mut FoundVertices<A>,
+    lists: &[Vec<u16, A>],
+    vertex: u16,
+) -> Result<(), AllocError> {
+    if !found.has(vertex) {
+        spread(found, lists, vertex)?;
+    }
+    Ok(())
+}
+
+/// For each workqueue whether it is led to from these items: along these lists of heads.
+fn led_to<A: Allocator + Copy>(
+    alloc: A,
+    assigned: &Assigned<'_, '_, A>,
+    heads: &[Vec<u16, A>],
+    named: &[ItemId],
+) -> Result<FoundVertices<A>, AllocError>
+    requires named { All (λ i. i < length assigned.now.declared.table.names) named.now }
+    ensures { IfOk result (λ found. AreMarksOf (declared_waits assigned.now.declared) assigned.now.workqueues
+        (IsLedTo (declared_waits assigned.now.declared) assigned.now.workqueues named.now) found.marks) }
+{
+    let mut found = FoundVertices::none(alloc, heads.len())?;
+    for item in named {
+        if !is_on_bare(assigned, *item) {
+            find(&mut found, heads, lane_of(assigned, *item))?;
+        }
+    }
+    Ok(found)
+}
+
+/// For each workqueue whether it can be held up: against the arcs, along these lists of tails, from where these
+/// flushes of components and to workqueues without a rescuer begin.
+fn can_be_held<A: Allocator + Copy>(
+    alloc: A,
+    assigned: &Assigned<'_, '_, A>,
+    tails: &[Vec<u16, A>],
+    components: &[Vec<WaitArc, A>],
+    waits: &[WaitArc],
+) -> Result<FoundVertices<A>, AllocError>
+    requires components { AreComponents (declared_waits assigned.now.declared) assigned.now.workqueues
+        (map (λ l. l.items) components.now) }
+    requires waits { waits.now ≡ bare_waits (declared_waits assigned.now.declared) assigned.now.workqueues }
+    ensures { IfOk result (λ found. AreMarksOf (declared_waits assigned.now.declared) assigned.now.workqueues
+        (CanBeHeld (declared_waits assigned.now.declared) assigned.now.workqueues (map (λ l. l.items) components.now))
+        found.marks) }
+{
+    let mut found = FoundVertices::none(alloc, tails.len())?;
+    for arcs in components {
+        for arc in arcs {
+            find(&mut found, tails, lane_of(assigned, arc.src))?;
+        }
+    }
+    for arc in waits {
+        find(&mut found, tails, lane_of(assigned, arc.src))?;
+    }
+    Ok(found)
+}
+
+/// Those of these flushes that begin on workqueues that are led to.
+fn led_among<A: Allocator + Copy>(
+    alloc: A,
+    assigned: &Assigned<'_, '_, A>,
+    led: &FoundVertices<A>,
+    arcs: &[WaitArc],
+) -> Result<Vec<WaitArc, A>, AllocError> {
+    let mut some = Vec::new(alloc);
+    for arc in arcs {
+        if led.has(lane_of(assigned, arc.src)) {
+            some.push(*arc)?;
+        }
+    }
+    Ok(some)
+}
+
+/// For each place whether the flush there is in one of these components.
+fn in_components<A: Allocator + Copy>(
+    alloc: A,
+    components: &[Vec<WaitArc, A>],
+    flushes: usize,
+) -> Result<Vec<bool, A>, AllocError> {
+    let mut marks = vec![in alloc; false; flushes]?;
+    for arcs in components {
+        for arc in arcs {
+            let place = arc.place as usize;
+            if place < marks.len() {
+                marks[place] = true;
+            }
+        }
+    }
+    Ok(marks)
+}
+
+/// The ways: of all flushes those from workqueues that are led to, to workqueues that can be held up, which are in no
+/// component.
+fn ways_among<A: Allocator + Copy>(
+    alloc: A,
+    assigned: &Assigned<'_, '_, A>,
+    led: &FoundVertices<A>,
+    held: &FoundVertices<A>,
+    components: &[Vec<WaitArc, A>],
+) -> Result<Vec<WaitArc, A>, AllocError> {
+    let all = group_arcs_by_place(alloc, assigned.table(), assigned.groups())?;
+    let marks = in_components(alloc, components, all.len())?;
+    let mut ways = Vec::new(alloc);
+    for arc in &all {
+        let is_in_one = marks.get(arc.place as usize).copied().unwrap_or(true);
+        if !is_in_one
+            && led.has(lane_of(assigned, arc.src))
+            && held.has(lane_of(assigned, arc.dst))
+        {
+            ways.push(*arc)?;
+        }
+    }
+    Ok(ways)
+}
+
+/// Those of these components whose workqueues are led to.
+fn led_components<A: Allocator + Copy>(
+    alloc: A,
+    assigned: &Assigned<'_, '_, A>,
+    led: &FoundVertices<A>,
+    components: Vec<Vec<WaitArc, A>, A>,
+) -> Result<Vec<Vec<WaitArc, A>, A>, AllocError> {
+    let mut some = Vec::new(alloc);
+    for arcs in components {
+        let is_led = match arcs.first() {
+            Some(arc) => led.has(lane_of(assigned, arc.src)),
+            None => false,
+        };
+        if is_led {
+            some.push(arcs)?;
+        }
+    }
+    Ok(some)
+}
+
+/// What can hold up these items, by the wait graph of the workqueues that have a rescuer.
+fn held_in_graph<A: Allocator + Copy>(
+    alloc: A,
+    assigned: &Assigned<'_, '_, A>,
+    graph: &WaitGraph<A>,
+    named: &[ItemId],
+) -> Result<HeldCircles<A>, AllocError> {
+    let heads = heads(alloc, graph)?;
+    let tails = tails(alloc, heads.as_slice(), graph.vertices())?;
+    let all = components(alloc, assigned)?;
+    let all_waits = bare_waits(alloc, assigned)?;
+    let led = led_to(alloc, assigned, heads.as_slice(), named)?;
+    let held = can_be_held(
+        alloc,
+        assigned,
+        tails.as_slice(),
+        all.as_slice(),
+        all_waits.as_slice(),
+    )?;
+    let ways = ways_among(alloc, assigned, &led, &held, all.as_slice())?;
+    let waits = led_among(alloc, assigned, &led, all_waits.as_slice())?;
+    let components = led_components(alloc, assigned, &led, all)?;
+    Ok(HeldCircles {
+        components,
+        waits,
+        ways,
+    })
+}
+
+/// What can hold up these items on the workqueues of declared groups.
+///
+/// The only error is out of memory (20).
+pub fn held_circles<A: Allocator + Copy>(
+    alloc: A,
+    assigned: &Assigned<'_, '_, A>,
+    named: &[ItemId],
+) -> Result<HeldCircles<A>, AllocError>
+    requires { All (λ i. i < length assigned.now.declared.table.names) named.now }
+    ensures { IfOk result (λ held. AreHeldCircles (declared_waits assigned.now.declared) assigned.now.workqueues
+        named.now (map (λ l. l.items) held.components.items) held.waits.items held.ways.items) }
+{
+    let graph = rescued_graph(alloc, assigned)?;
+    held_in_graph(alloc, assigned, &graph, named)
+}

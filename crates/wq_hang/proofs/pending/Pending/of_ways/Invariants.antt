@@ -1,0 +1,18 @@
+use Rattle.std.proofs.Common.{◌≡◌, ◌<◌, ◌⊎◌, take}
+use Rattle.std.specs.Prelude.{Contains}
+use Rattle.wq_hang.specs.WaysFor.{ArePending}
+use Rattle.wq_hang.proofs.Awaited.{AreAwaited}
+use Rattle.wq_hang.proofs.pending.Pending.of_ways.Given as goal
+
+-- the flushes so far
+abbrev pub invariant-loop-i : goal.invariant-loop-i
+invariant-loop-i g l = AreAwaited l.waits l.limit l.ways (λ j t. j < l.i) l.pending
+
+abbrev pub invariant-loop-flush : goal.invariant-loop-flush
+invariant-loop-flush g l =
+    AreAwaited l.waits l.limit l.ways
+    (λ j t. (j < l.i) ⊎ ((j ≡ l.i) × Contains (take l.flush-index l.flush-items) t)) l.pending
+
+-- the starts so far are queued
+abbrev pub invariant-loop-item : goal.invariant-loop-item
+invariant-loop-item g l = ArePending l.waits (take l.item-index l.starts) l.limit l.ways l.pending
