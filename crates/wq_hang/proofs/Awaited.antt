@@ -5,7 +5,7 @@ use Rattle.std.specs.Prelude.{Contains, slice_index, slice_index_or, if◌then�
 use Rattle.std.specs.List.{All}
 use Rattle.std.proofs.lemmas.Bool.{cases_eq, cases_lt, ltb-true, ltb-false}
 use Rattle.std.proofs.lemmas.List.{get_or-replicate, get_or_past, length-replicate, length-set}
-use Rattle.std.proofs.lemmas.List.{get_or-set_same, get_or-set_other}
+use Rattle.std.proofs.lemmas.List.{get_or-set_same, get_or-set_other, set_past}
 use Rattle.std.proofs.lemmas.List.Elements.{All-contains, All-contains_itself, All-nil, All-weaker}
 use Rattle.wq_items.specs.declared.target.Target.{Target}
 use Rattle.wq_core.specs.Wiring.{Wiring, HasRescuer, items, lane_of, declared_by}
@@ -209,6 +209,22 @@ module _ (w : Wiring) (limit : ℕ) (s : Reach) where
       ]
 
 -- ---- the latest
+
+-- if a number is put in place of one that is no greater, no number falls
+pub set_rises : (xs : List ℕ) (p v : ℕ) → slice_index xs p ≤ v → (j : ℕ) → slice_index xs j ≤ get_or (set xs p v) j 0
+set_rises xs p v more j = elim (cases_eq j p) [
+  | inr other ↦ omega (arith, get_or-set_other xs p j v 0 other)
+  | inl same ↦ elim (cases_lt p (length xs)) [
+    | inr past ↦ omega (arith, ap (λ (l : List ℕ). get_or l j 0) (set_past xs p v past))
+    | inl within ↦ omega (
+      arith,
+      more,
+      get_or-set_same xs p v 0 within,
+      ap (λ (k : ℕ). get_or xs k 0) same,
+      ap (λ (k : ℕ). get_or (set xs p v) k 0) same,
+    )
+  ]
+]
 
 -- more than it costs to come to each item that waits by these flushes for a target alone
 pub record AreLatestOf (w : Wiring) (limit : ℕ) (costs : List ℕ) (done : ℕ → Target → Type 0) (latest : List ℕ)

@@ -1,25 +1,25 @@
 -- The least walk in the end: the best end, with a way to it.
 use Rattle.std.proofs.Common.{◌≡◌, ℕ, ◌+◌, ◌*◌, ◌<◌, ◌≤◌, ◌⊎◌, inl, inr, List, [], ◌∷◌, ◌++◌, length, Some, None, Option}
 use Rattle.std.proofs.Common.{refl, sym, ap, subst, ◌∙◌, arith}
-use Rattle.std.specs.Prelude.{Contains, slice_index}
+use Rattle.std.specs.Prelude.{Contains, slice_index, slice_index_or}
+use Rattle.std.proofs.lemmas.List.Elements.{All-contains}
 use Rattle.wq_core.specs.Wiring.{Wiring, IsWiring, HasRescuer, items, lane_of}
 use Rattle.wq_hang.specs.declared.hop.Hop.{Hop}
 use Rattle.wq_hang.specs.declared.least_for.End.{End}
-use Rattle.wq_hang.specs.Walk.{IsPath, max_walk_cost}
+use Rattle.wq_hang.specs.Walk.{IsHop, IsPath, max_walk_cost}
+use Rattle.wq_hang.specs.Search.{step}
 use Rattle.wq_hang.specs.WalkFor.{HoldsUp, IsWalkFor, IsLeastWalkFor, cost_for}
-use Rattle.wq_hang.specs.WaysFor.{BeginsAt, IsWay}
+use Rattle.wq_hang.specs.WaysFor.{BeginsAt, IsWay, WaitsAlone}
 use Rattle.wq_hang.specs.EndsFor.{Field, IsField, NoneBare, NoneFrom, NoneAlone, IsBest, IsBestEnd, IsWalkAt, IsLedTo}
+use Rattle.wq_hang.specs.EndsFor.{IsRoundAlone, EndsAlone, first_or}
 use Rattle.wq_hang.proofs.CutWalks.{LeadsFrom, leads_from, cut}
 use Rattle.wq_hang.proofs.NoEnds.{no_walk_less, few_enough}
+use Rattle.wq_hang.proofs.EndCosts.{first_alone, alone_some, HoldsUp-alone, cost_for-alone, HoldsUp-led, cost_for-led}
 use Rattle.wq_hang.proofs.EndsFound.{NoneBare-less, NoneFrom-less, NoneAlone-fewer}
 
 -- ---- a way, and hops that follow it
 
--- the first item that waits, if the hops lead to item i
-abbrev pub first_or : ℕ → List Hop → ℕ
-first_or i [] = i
-first_or i (h ∷ hops) = h.item
-
+-- the first item that waits is the one at which the way begins
 pub first_of_way : (w : Wiring) (first i : ℕ) (way : List Hop) → IsPath w first way i → first_or i way ≡ first
 first_of_way w first i [] path = sym path
 first_of_way w first i (h ∷ hops) path = path.0
@@ -97,6 +97,79 @@ module _ {A : Type 0} (on : List (List ℕ)) (f : Field) (field : IsField on f) 
         )
         )
   ]
+
+-- ---- a round from where somebody waits for an item alone
+
+module _ (on : List (List ℕ)) (f : Field) (field : IsField on f) (cost t : ℕ) (hops : List Hop)
+    (ends : EndsAlone f cost t hops) where
+  -- if it is queued at the beginning it is held up by the round
+  pub IsWalkAt-start : slice_index f.pending.costs t ≡ 0 → IsWalkAt f cost t hops
+  IsWalkAt-start nothing =
+      let start : Contains f.starts t = field.pending.no_others t ends.0 nothing in
+      let begun = All-contains (λ (i : ℕ). (i < items f.wiring) × HasRescuer f.wiring (lane_of f.wiring i)) f.starts t
+      field.begin start in
+      (
+        record { is_named = start; item = ends.0; holds_up = HoldsUp-alone f.wiring t ends.1 hops ends.2 },
+        omega (arith, ends.3, cost_for-alone f.wiring t ends.1 hops ends.2 begun.1),
+      )
+
+  -- and else by a way to the hop that waits for it
+  module _ (d h : Hop) (most : cost ≤ max_walk_cost) (some : 0 < slice_index f.pending.costs t)
+      (is : h ≡ slice_index_or f.pending.by t d) where
+    low : slice_index f.pending.costs t < max_walk_cost
+    low = omega (arith, most, ends.3, ends.2.costs)
+
+    found : WaitsAlone f.wiring max_walk_cost f.ways h.item h.flush × (h.flush.item ≡ t)
+        × (slice_index f.ways.costs h.item + step h.flush ≤ slice_index f.pending.costs t)
+    found = subst (λ (g : Hop). WaitsAlone f.wiring max_walk_cost f.ways g.item g.flush × (g.flush.item ≡ t)
+        × (slice_index f.ways.costs g.item + step g.flush ≤ slice_index f.pending.costs t)) (sym is)
+        (field.pending.by t d ends.0 some low)
+
+    pub waits_from : (h.item < items f.wiring) × (slice_index f.ways.costs h.item < max_walk_cost)
+    waits_from = (found.0.item, found.0.reached)
+
+    pub IsWalkAt-led : (next x : ℕ) (all : List Hop) → next ≡ first_or h.next hops
+        → IsLedTo f h.item (record h { next = next } ∷ hops) x all → IsWalkAt f cost x all
+    IsWalkAt-led next x all same led = (
+      record {
+        is_named = led.is_named;
+        item = (All-contains (λ (i : ℕ). (i < items f.wiring) × HasRescuer f.wiring (lane_of f.wiring i)) f.starts x
+            field.begin led.is_named).0;
+        holds_up = subst (λ (l : List Hop). HoldsUp f.wiring x l) (sym led.are)
+            (HoldsUp-led f.wiring t ends.1 hops ends.2 f.starts x led.way led.led.way.first led.led.way.before g
+            led.led.way.begins led.itself led.led.way.path hop found.1 first rescuer (sym led.on));
+      },
+      subst (λ (l : List Hop). cost_for f.wiring x l ≤ cost) (sym led.are) (omega (
+        arith,
+        cost_for-led f.wiring t ends.1 hops ends.2 f.starts x led.way led.led.way.first led.led.way.before g
+            led.led.way.begins led.itself led.led.way.path hop found.1 first rescuer,
+        led.led.way.costs,
+        led.led.least,
+        found.2,
+        ends.3,
+      )),
+    )
+      where
+        g : Hop
+        g = record h { next = next }
+
+        hop : IsHop f.wiring g
+        hop = record {
+          declared = found.0.declared;
+          rescuer = field.ways.reach.rescuer h.item found.0.item found.0.reached;
+        }
+
+        rescuer : HasRescuer f.wiring (lane_of f.wiring t)
+        rescuer = subst (λ (k : ℕ). HasRescuer f.wiring (lane_of f.wiring k)) found.1 found.0.rescuer
+
+        -- the first of the round comes after the hop
+        first_of : (others : List Hop) (round : IsRoundAlone f.wiring t others ends.1)
+            → first_or h.next others ≡ round.leads.first
+        first_of [] round = absurd (omega (arith, alone_some f.wiring t ends.1 [] round))
+        first_of (k ∷ others) round = first_alone f.wiring t ends.1 k others round
+
+        first : next ≡ ends.2.leads.first
+        first = same ∙ first_of hops ends.2
 
 -- ---- an item on a bare lane
 

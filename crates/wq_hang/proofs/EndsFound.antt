@@ -12,10 +12,15 @@ use Rattle.wq_hang.specs.declared.hop.Hop.{Hop}
 use Rattle.wq_hang.specs.declared.least_for.End.{End}
 use Rattle.wq_hang.specs.declared.least_for.End.TheVariants as end
 use Rattle.wq_hang.specs.Walk.{IsHop, IsPath, IsToBare, max_walk_cost}
-use Rattle.wq_hang.specs.Search.{hop_cost, hops_cost, hop_to, step, IsBetter, IsNoBetter}
-use Rattle.wq_hang.specs.WaysFor.{AreNear, IsWayFrom}
+use Rattle.wq_hang.specs.Search.{Reach, hop_cost, hops_cost, hop_to, step, IsBetter, IsNoBetter}
+use Rattle.wq_hang.specs.WaysFor.{AreNear, IsWayFrom, PendingFound}
 use Rattle.wq_hang.specs.EndsFor.{Field, IsRoundAlone, EndsBare, EndsRound, EndsAlone, NoneBare, NoneFrom, NoneAlone}
 use Rattle.wq_hang.specs.EndsFor.{IsEnd, IsBest}
+use Rattle.wq_hang.proofs.Declared.{declared-item}
+
+-- what is searched through, by its parts
+abbrev pub field_of : Wiring → List ℕ → Reach → PendingFound → Field
+field_of w starts ways pending = record { wiring = w; starts = starts; ways = ways; pending = pending }
 
 -- ---- less is looked for later
 
@@ -84,13 +89,37 @@ pub NoneFrom-near : (f : Field) (best i : ℕ) → best ≤ slice_index f.ways.c
 NoneFrom-near f best i few [] some path = absurd (omega (arith, some))
 NoneFrom-near f best i few (h ∷ hops) some path = omega (arith, few)
 
--- from an item that isn't near, or doesn't exist, no round is better
+-- there is no round from an item that doesn't exist
+pub NoneFrom-past : (f : Field) (best i : ℕ) → items f.wiring ≤ i → NoneFrom f best i
+NoneFrom-past f best i past [] some path = absurd (omega (arith, some))
+NoneFrom-past f best i past (h ∷ hops) some path =
+    absurd (omega (arith, past, path.0, declared-item f.wiring h.item h.flush path.1.declared))
+
+-- from an item that isn't near no round is better
 pub NoneFrom-far : (f : Field) (limit best : ℕ) (near : List ℕ) (i : ℕ) → best ≤ limit
     → AreNear limit f.ways.costs near → (Contains near i → NoneFrom f best i) → i < length f.ways.costs
     → NoneFrom f best i
 NoneFrom-far f limit best near i less are each below = elim (cases_lt (slice_index f.ways.costs i) limit) [
   | inl low ↦ each (are.all i below low)
   | inr far ↦ λ hops some path. omega (arith, less, far)
+]
+
+-- one item more, from which no round is better than the best end now
+pub NoneFrom-next : (f : Field) (done more : List ℕ) (cost now i : ℕ) → now ≤ cost
+    → ((j : ℕ) → Contains done j → NoneFrom f cost j) → NoneFrom f now i
+    → ((j : ℕ) → Contains more j → Contains done j ⊎ (i ≡ j)) → (j : ℕ) → Contains more j → NoneFrom f now j
+NoneFrom-next f done more cost now i less none here either j there = elim (either j there) [
+  | inl before ↦ NoneFrom-less f cost now j less (none j before)
+  | inr same ↦ subst (λ (k : ℕ). NoneFrom f now k) same here
+]
+
+-- the same where somebody waits for it alone
+pub NoneAlone-next : (f : Field) (done more : List ℕ) (cost t : ℕ) → ((u : ℕ) → Contains done u → NoneAlone f cost u)
+    → NoneAlone f cost t → ((u : ℕ) → Contains more u → Contains done u ⊎ (t ≡ u)) → (u : ℕ) → Contains more u
+    → NoneAlone f cost u
+NoneAlone-next f done more cost t none here either u there = elim (either u there) [
+  | inl before ↦ none u before
+  | inr same ↦ subst (λ (k : ℕ). NoneAlone f cost k) same here
 ]
 
 -- ---- the nearest first

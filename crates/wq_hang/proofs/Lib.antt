@@ -1,6 +1,7 @@
 pub mod HopsBack
 pub mod Declared
 pub mod Taken
+pub mod FlushesSoFar
 pub mod Apart
 pub mod Once
 pub mod OnceMarked

@@ -1,10 +1,13 @@
 -- A list of numbers, each once, and marks of those that are on it.
 use Rattle.std.proofs.Common.{◌≡◌, ◌≢◌, ℕ, ◌<◌, ◌⊎◌, inl, inr, Bool, true, false, cond, List, [], ◌∷◌, ◌++◌, length}
 use Rattle.std.proofs.Common.{zero, suc, ◌+◌, take, set, get_or, refl, sym, ap, subst, ◌∙◌, arith}
-use Rattle.std.specs.Prelude.{flat_map, slice_index_or}
-use Rattle.std.proofs.lemmas.Bool.{cases_eq}
-use Rattle.std.proofs.lemmas.List.{append-nil, append_assoc, get_or-set_same, get_or-set_other, length-set}
-use Rattle.wq_hang.specs.WalkFor.{once}
+use Rattle.std.specs.Prelude.{flat_map, slice_index_or, slice_get, unwrap_or, if◌then◌else◌, ◌==◌, IfSome, IfNone}
+use Rattle.std.specs.Prelude.{replicate, Option, Some, None}
+use Rattle.std.proofs.lemmas.Bool.{cases_eq, both_ways}
+use Rattle.std.proofs.lemmas.List.{get_or-replicate, length-replicate, append-nil, append_assoc, get_or-set_same, get_or-set_other, length-set}
+use Rattle.wq_hang.specs.declared.hop.Hop.{Hop}
+use Rattle.wq_hang.specs.WalkFor.{named_beside, once}
+use Rattle.wq_hang.specs.EndsFor.{first_or}
 use Rattle.wq_hang.specs.WaysFor.{IsPushedOnce}
 use Rattle.wq_hang.proofs.Apart.{Avoids, In, cases_In, not_in, In-append_left, In-append_right}
 use Rattle.wq_hang.proofs.Once.{once-again, once-new}
@@ -15,6 +18,14 @@ pub record AreOnce (n : ℕ) (marks : List Bool) (list xs : List ℕ) : Type 0 w
   pub marked : (i : ℕ) → i < n → slice_index_or marks i false ≡ true → In i xs
   pub all : (i : ℕ) → i < n → In i xs → slice_index_or marks i false ≡ true
   pub is : list ≡ once xs
+
+pub AreOnce-none : (n : ℕ) → AreOnce n (replicate n false) [] []
+AreOnce-none n = record {
+  size = length-replicate n false;
+  marked = λ i lt is. absurd (both_ways (get_or (replicate n false) i false) (get_or-replicate n i false false lt) is);
+  all = λ i lt there. absurd there;
+  is = refl;
+}
 
 module _ (n : ℕ) (marks : List Bool) (list xs : List ℕ) (are : AreOnce n marks list xs) where
   -- one more is pushed, unless it is marked
@@ -93,3 +104,22 @@ flat_map-next f zero (y ∷ ys) x lt is =
 flat_map-next f (suc k) (y ∷ ys) x lt is =
     ap (λ (l : List ℕ). f y ++ l) (flat_map-next f k ys x (omega arith) is)
     ∙ sym (append_assoc (f y) (flat_map f (take k ys)) (f x))
+
+-- ---- the first that waits
+
+pub named_beside_first : (x : ℕ) (hops : List Hop) (h : Hop) → slice_get hops 0 ≡ Some h
+    → named_beside x hops ≡ (if h.item == x then [] else x ∷ [])
+named_beside_first x [] h is = absurd (subst (λ (o : Option Hop). IfNone o ⊥) (sym is) tt)
+named_beside_first x (g ∷ hops) h is = ap (λ (o : Option Hop). named_beside x (unwrap_or o g ∷ [])) is
+
+pub named_beside_none : (x : ℕ) (hops : List Hop) → slice_get hops 0 ≡ None → named_beside x hops ≡ x ∷ []
+named_beside_none x [] is = refl
+named_beside_none x (g ∷ hops) is = absurd (subst (λ (o : Option Hop). IfSome o (λ h. ⊥)) (sym is) tt)
+
+pub first_or_first : (i : ℕ) (hops : List Hop) (h : Hop) → slice_get hops 0 ≡ Some h → first_or i hops ≡ h.item
+first_or_first i [] h is = absurd (subst (λ (o : Option Hop). IfNone o ⊥) (sym is) tt)
+first_or_first i (g ∷ hops) h is = ap (λ (o : Option Hop). (unwrap_or o g).item) is
+
+pub first_or_none : (i : ℕ) (hops : List Hop) → slice_get hops 0 ≡ None → first_or i hops ≡ i
+first_or_none i [] is = refl
+first_or_none i (g ∷ hops) is = absurd (subst (λ (o : Option Hop). IfSome o (λ h. ⊥)) (sym is) tt)

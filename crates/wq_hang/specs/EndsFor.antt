@@ -108,3 +108,8 @@ pub record IsLedTo (f : Field) (i : ℕ) (hops : List Hop) (x : ℕ) (all : List
   pub is_named : Contains f.starts x
   pub on : lane_of f.wiring x ≡ lane_of f.wiring led.way.first
   pub itself : Contains f.starts led.way.first → x ≡ led.way.first
+
+-- the first item that waits, or item i if there are no hops
+abbrev pub first_or : ℕ → List Hop → ℕ
+first_or i [] = i
+first_or i (h ∷ hops) = h.item

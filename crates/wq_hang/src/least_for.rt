@@ -16,7 +16,7 @@ ghost use Rattle.wq_hang.specs.Walk.{AreFirstAlike, max_walk_cost};
 ghost use Rattle.wq_hang.specs.WalkFor.{IsLeastWalkFor, IsWalkFor};
 ghost use Rattle.wq_hang.specs.WaysFor.{AreLatest, AreNear};
 ghost use Rattle.wq_hang.specs.EndsFor.{EndsAlone, IsBest, IsBestEnd, IsEnd, IsLedTo, IsRoundAlone, IsWalkAt};
-ghost use Rattle.wq_hang.specs.EndsFor.{NoneAlone, NoneBare, NoneFrom};
+ghost use Rattle.wq_hang.specs.EndsFor.{NoneAlone, NoneBare, NoneFrom, first_or};
 
 use crate::bounds::{bounds_to, by_falling_numbers};
 use crate::hop::Hop;
@@ -90,6 +90,16 @@ impl<'a, 'w, A: Allocator> Model for Field<'a, 'w, A> {
     }) };
 }
 
+/// The first item that waits by these hops, or this one if there is none.
+fn first_or(hops: &[Hop], item: ItemId) -> ItemId
+    ensures { result ≡ first_or item hops.now }
+{
+    match hops.first() {
+        Some(first) => first.item,
+        None => item,
+    }
+}
+
 /// The numbers behind these costs, those with the least cost first.
 fn cheapest_first<A: Allocator + Copy>(
     alloc: A,
@@ -161,6 +171,7 @@ impl<A: Allocator + Copy> Field<'_, '_, A> {
         requires few { All (λ i. i < length self.now.ways.costs) few.now }
         ensures { result ≡ false → (i : ℕ) → Contains few.now i → best ≤ slice_index self.now.ways.costs i + 3 }
     {
+        let _items = self.waits.items();
         for item in few {
             if self.ways.cost(ItemId::new(*item as u16)) + 3 < best {
                 return true;
@@ -183,6 +194,7 @@ impl<A: Allocator + Copy> Field<'_, '_, A> {
         ensures less { OnOk result (best.new.cost ≤ best.old.cost) }
         ensures none { OnOk result ((i : ℕ) → Contains few.now i → NoneFrom self.now best.new.cost i) }
     {
+        let _items = self.waits.items();
         let bounds = bounds_to(alloc, self.waits, self.on, self.order, few)?;
         for i in few {
             let item = ItemId::new(*i as u16);
@@ -214,6 +226,7 @@ impl<A: Allocator + Copy> Field<'_, '_, A> {
         ensures less { OnOk result (best.new.cost ≤ best.old.cost) }
         ensures none { OnOk result ((i : ℕ) → NoneFrom self.now best.new.cost i) }
     {
+        let _items = self.waits.items();
         let mut from = 0;
         while from < near.len() {
             let to = near.len().min(from + AT_A_TIME);
@@ -233,6 +246,7 @@ impl<A: Allocator + Copy> Field<'_, '_, A> {
         ensures { result ≡ false → (i : ℕ) → i < items self.now.wiring → i ≢ item →
             lane_of self.now.wiring i ≡ lane_of self.now.wiring item → slice_index self.now.ways.costs i ≢ cost + 1 }
     {
+        let _items = self.waits.items();
         let lane = self.waits.lane_of(item).get();
         for other in self.on.places(lane) {
             let other = ItemId::new(*other as u16);
@@ -284,10 +298,7 @@ impl<A: Allocator + Copy> Field<'_, '_, A> {
         match last {
             Some(mut last) => {
                 let mut hops = way_to(alloc, self.waits, search, last.item)?;
-                last.next = match hops.first() {
-                    Some(first) => first.item,
-                    None => last.item,
-                };
+                last.next = first_or(hops.as_slice(), last.item);
                 hops.push(last)?;
                 Ok(Some((least, hops)))
             }
@@ -347,6 +358,7 @@ impl<A: Allocator + Copy> Field<'_, '_, A> {
         ensures less { OnOk result (best.new.cost ≤ best.old.cost) }
         ensures none { OnOk result ((t : ℕ) → Contains few.now t → NoneAlone self.now best.new.cost t) }
     {
+        let _items = self.waits.items();
         let bounds = bounds_to(alloc, self.waits, self.on, self.order, few)?;
         for i in few {
             let item = ItemId::new(*i as u16);
@@ -380,6 +392,7 @@ impl<A: Allocator + Copy> Field<'_, '_, A> {
         ensures less { OnOk result (best.new.cost ≤ best.old.cost) }
         ensures none { OnOk result ((t : ℕ) → Contains near.now t → NoneAlone self.now best.new.cost t) }
     {
+        let _items = self.waits.items();
         let before = best.cost;
         let mut from = 0;
         while from < near.len() && best.cost == before {
@@ -416,10 +429,7 @@ impl<A: Allocator + Copy> Field<'_, '_, A> {
             IsLedTo self.now item hops.now walk.named walk.hops.items)) }
     {
         let mut all = way_to(alloc, self.waits, self.ways, item)?;
-        let first = match all.first() {
-            Some(first) => first.item,
-            None => item,
-        };
+        let first = first_or(all.as_slice(), item);
         all.extend_from_slice(hops)?;
         match one_held_by(self.waits, self.starts, first) {
             Some(named) => Ok(Some(WalkFor { named, hops: all })),
@@ -441,9 +451,7 @@ impl<A: Allocator + Copy> Field<'_, '_, A> {
         let Some(mut hop) = self.pending.hop_to(item) else {
             return Ok(Some(WalkFor { named: item, hops }));
         };
-        if let Some(first) = hops.first() {
-            hop.next = first.item;
-        }
+        hop.next = first_or(hops.as_slice(), hop.next);
         let waiting = hop.item;
         let mut all = Vec::new(alloc);
         all.push(hop)?;
@@ -477,14 +485,18 @@ fn one_held_by<A: Allocator>(
         × (Contains named.now first → x ≡ first)) }
     ensures none { IfNone result ((i : ℕ) → Contains named.now i → lane_of waits.now i ≢ lane_of waits.now first) }
 {
-    let lane = waits.lane_of(first);
-    if named.contains(&first) {
-        return Some(first);
+    for item in named {
+        if *item == first {
+            return Some(first);
+        }
     }
-    named
-        .iter()
-        .copied()
-        .find(|item| waits.lane_of(*item) == lane)
+    let lane = waits.lane_of(first);
+    for item in named {
+        if waits.lane_of(*item) == lane {
+            return Some(*item);
+        }
+    }
+    None
 }
 
 /// A least walk for these items, whose lanes have rescuers, if there is one.

@@ -143,7 +143,8 @@ pub(crate) fn latest<A: Allocator + Copy>(
 ) -> Result<Vec<u32, A>, AllocError>
     requires low { limit ≤ max_walk_cost }
     requires one_each { length ways.now.costs ≡ items waits.now }
-    ensures { IfOk result (λ latest. AreLatest waits.now limit ways.now.costs latest.items) }
+    ensures len { IfOk result (λ latest. length latest.items ≡ items waits.now) }
+    ensures latest { IfOk result (λ latest. AreLatest waits.now limit ways.now.costs latest.items) }
 {
     let mut latest = vec![in alloc; 0; waits.items()]?;
     for i in 0..waits.items() as u16 {

@@ -9,7 +9,7 @@ ghost use Rattle.wq_core.specs.declared.step.Step.TheVariants.{Queue};
 ghost use Rattle.wq_core.specs.Wiring.{items};
 ghost use Rattle.wq_hang.specs.declared.hop.Hop.{Hop};
 ghost use Rattle.wq_hang.specs.Walk.{target_beside, moves_of, run_of_walk};
-ghost use Rattle.wq_hang.specs.WalkFor.{pending_beside, pending_for};
+ghost use Rattle.wq_hang.specs.WalkFor.{named_beside, pending_beside, pending_for};
 ghost use Rattle.wq_hang.specs.WaysFor.{IsPushedOnce};
 
 use crate::hop::Hop;
@@ -62,6 +62,16 @@ fn is_pending<A: Allocator>(waits: &Waits<'_, A>, hop: &Hop) -> bool
         || (!hop.flush.whole && hop.flush.item != hop.next)
 }
 
+/// Whether this item is the first that waits.
+fn waits_first(hops: &[Hop], item: ItemId) -> bool
+    ensures { named_beside item hops.now ≡ (if result then [] else item ∷ []) }
+{
+    match hops.first() {
+        Some(first) => first.item == item,
+        None => false,
+    }
+}
+
 /// What is only pending in the run of a walk that holds up an item: that item, unless it is the first that waits, and
 /// targets that don't wait, each once.
 pub(crate) fn pending_for<A: Allocator + Copy>(
@@ -76,11 +86,7 @@ pub(crate) fn pending_for<A: Allocator + Copy>(
 {
     let mut marks = vec![in alloc; false; waits.items()]?;
     let mut list = Vec::new(alloc);
-    let waits_itself = match hops.first() {
-        Some(first) => first.item == named,
-        None => false,
-    };
-    if !waits_itself {
+    if !waits_first(hops, named) {
         push_once(marks.as_mut_slice(), &mut list, named)?;
     }
     for hop in hops {

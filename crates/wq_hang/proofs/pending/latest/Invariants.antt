@@ -1,6 +1,6 @@
-use Rattle.std.proofs.Common.{◌≡◌, ◌<◌, ◌⊎◌, take}
-use Rattle.std.specs.Prelude.{Contains}
+use Rattle.std.proofs.Common.{◌<◌, take}
 use Rattle.wq_hang.proofs.Awaited.{AreLatestOf}
+use Rattle.wq_hang.proofs.FlushesSoFar.{IsBefore}
 use Rattle.wq_hang.proofs.pending.latest.Given as goal
 
 -- the flushes so far
@@ -10,4 +10,4 @@ invariant-loop-i g l = AreLatestOf l.waits l.limit l.ways.costs (λ j t. j < l.i
 abbrev pub invariant-loop-flush : goal.invariant-loop-flush
 invariant-loop-flush g l =
     AreLatestOf l.waits l.limit l.ways.costs
-    (λ j t. (j < l.i) ⊎ ((j ≡ l.i) × Contains (take l.flush-index l.flush-items) t)) l.latest.items
+    (IsBefore l.i (take l.flush-index l.flush-items)) l.latest.items

@@ -6,4 +6,4 @@ use Rattle.wq_hang.proofs.least_for.Field.has_one_before.Given as goal
 abbrev pub invariant-loop-other : goal.invariant-loop-other
 invariant-loop-other g l =
     (i : ℕ) → Contains (take l.other-index l.other-items) i → i ≢ l.item
-    → slice_index l.self.ways.costs i ≢ l.cost + 1
+    → slice_index l.self-inside.ways.now.costs i ≢ l.cost + 1

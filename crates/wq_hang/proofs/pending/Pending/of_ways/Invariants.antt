@@ -1,7 +1,7 @@
-use Rattle.std.proofs.Common.{◌≡◌, ◌<◌, ◌⊎◌, take}
-use Rattle.std.specs.Prelude.{Contains}
+use Rattle.std.proofs.Common.{◌<◌, take}
 use Rattle.wq_hang.specs.WaysFor.{ArePending}
 use Rattle.wq_hang.proofs.Awaited.{AreAwaited}
+use Rattle.wq_hang.proofs.FlushesSoFar.{IsBefore}
 use Rattle.wq_hang.proofs.pending.Pending.of_ways.Given as goal
 
 -- the flushes so far
@@ -11,7 +11,7 @@ invariant-loop-i g l = AreAwaited l.waits l.limit l.ways (λ j t. j < l.i) l.pen
 abbrev pub invariant-loop-flush : goal.invariant-loop-flush
 invariant-loop-flush g l =
     AreAwaited l.waits l.limit l.ways
-    (λ j t. (j < l.i) ⊎ ((j ≡ l.i) × Contains (take l.flush-index l.flush-items) t)) l.pending
+    (IsBefore l.i (take l.flush-index l.flush-items)) l.pending
 
 -- the starts so far are queued
 abbrev pub invariant-loop-item : goal.invariant-loop-item
