@@ -12,6 +12,7 @@ use Rattle.wq_hang.specs.WalkFor.{HoldsUp, IsWalkFor, IsLeastWalkFor, cost_for}
 use Rattle.wq_hang.specs.WaysFor.{BeginsAt, IsWay, WaitsAlone}
 use Rattle.wq_hang.specs.EndsFor.{Field, IsField, NoneBare, NoneFrom, NoneAlone, IsBest, IsBestEnd, IsWalkAt, IsLedTo}
 use Rattle.wq_hang.specs.EndsFor.{IsRoundAlone, EndsAlone, first_or}
+use Rattle.wq_hang.proofs.Declared.{declared-item}
 use Rattle.wq_hang.proofs.CutWalks.{LeadsFrom, leads_from, cut}
 use Rattle.wq_hang.proofs.NoEnds.{no_walk_less, few_enough}
 use Rattle.wq_hang.proofs.EndCosts.{first_alone, alone_some, HoldsUp-alone, cost_for-alone, HoldsUp-led, cost_for-led}
@@ -23,6 +24,11 @@ use Rattle.wq_hang.proofs.EndsFound.{NoneBare-less, NoneFrom-less, NoneAlone-few
 pub first_of_way : (w : Wiring) (first i : ℕ) (way : List Hop) → IsPath w first way i → first_or i way ≡ first
 first_of_way w first i [] path = sym path
 first_of_way w first i (h ∷ hops) path = path.0
+
+pub first_below : (w : Wiring) (first i : ℕ) (way : List Hop) → IsPath w first way i → i < items w
+    → first_or i way < items w
+first_below w first i [] path below = below
+first_below w first i (h ∷ hops) path below = declared-item w h.item h.flush path.1.declared
 
 -- one of the starts is on the lane of the first
 pub one_on_lane_of : (w : Wiring) (starts : List ℕ) (first before : ℕ) → BeginsAt w starts first before

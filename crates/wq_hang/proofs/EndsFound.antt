@@ -85,6 +85,10 @@ pub NoneFrom-no_better : (f : Field) (best i limit : ℕ) → best ≤ slice_ind
 NoneFrom-no_better f best i limit most none others some path = omega (arith, most, none others some path)
 
 -- a hop costs 3
+pub hops_some : (hops : List Hop) → 0 < length hops → 3 ≤ hops_cost hops
+hops_some [] some = absurd (omega (arith, some))
+hops_some (h ∷ hops) some = omega arith
+
 pub NoneFrom-near : (f : Field) (best i : ℕ) → best ≤ slice_index f.ways.costs i + 3 → NoneFrom f best i
 NoneFrom-near f best i few [] some path = absurd (omega (arith, some))
 NoneFrom-near f best i few (h ∷ hops) some path = omega (arith, few)

@@ -102,7 +102,9 @@ flat_map-next f k [] x lt is = absurd (omega arith)
 flat_map-next f zero (y ∷ ys) x lt is =
     append-nil (f y) ∙ ap f (sym is)
 flat_map-next f (suc k) (y ∷ ys) x lt is =
-    ap (λ (l : List ℕ). f y ++ l) (flat_map-next f k ys x (omega arith) is)
+    let next : suc k + 1 ≡ suc (k + 1) = omega arith in
+    ap (λ (n : ℕ). flat_map f (take n (y ∷ ys))) next
+    ∙ ap (λ (l : List ℕ). f y ++ l) (flat_map-next f k ys x (omega (arith, lt)) is)
     ∙ sym (append_assoc (f y) (flat_map f (take k ys)) (f x))
 
 -- ---- the first that waits

@@ -465,6 +465,7 @@ impl<A: Allocator + Copy> Field<'_, '_, A> {
         ensures { (cost : ℕ) → IsBest self.now cost (Some end) →
             IfOk result (λ found. MatchOption found ⊥ (λ walk. IsWalkAt self.now cost walk.named walk.hops.items)) }
     {
+        let _items = self.waits.items();
         match end {
             End::Bare(hop) => self.with_way(alloc, hop.item, &[hop]),
             End::Round(item, hops) => self.with_way(alloc, item, hops.as_slice()),

@@ -62,6 +62,7 @@ pub(crate) fn settle_held<A: Allocator>(waits: &Waits<'_, A>, named: ItemId, hop
     requires { HoldsUp waits.now named hops.old }
     ensures walk { HoldsUp waits.now named hops.new }
     ensures cost { cost_for waits.now named hops.new ≡ cost_for waits.now named hops.old }
+    ensures len { length hops.new ≡ length hops.old }
     ensures alike { AreFirstAlike waits.now hops.new }
 {
     for at in 0..hops.len() {

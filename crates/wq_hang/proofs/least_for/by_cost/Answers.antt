@@ -28,7 +28,8 @@ loop-i-preserved g c =
       | then-cost-limit+in_ok-push w ↦ (
           let is = ap (λ v. map (λ key. key.1) v.items) w.keys-is
           ∙ ap (λ l. map (λ key. key.1) l) w.in_ok-push.ensures.items
-          ∙ map_push (λ key. key.1) c.loop-i.keys.items (c.cost-cost.result, n) in
+          ∙ map_push (λ key. key.1) c.loop-i.keys.items (c.cost-cost.result, w.from.result)
+          ∙ ap (λ (m : ℕ). near ++ (m ∷ [])) w.from.ensures in
           subst (AreNearBelow limit costs (n + 1)) (sym is)
           (AreNearBelow-more limit costs n near c.loop-i.invariant (omega (arith, cost, w.if-cost-limit.true)))
           )

@@ -10,7 +10,9 @@ returns g c =
     let sorted = c.sort_unstable_by_key.new.self.items in
     let new : List ℕ = map (λ key. key.1) sorted in
     let is : c.loop-key.list.items ≡ new =
-    c.loop-key.invariant ∙ ap (λ l. map (λ key. key.1) l) (take_all c.loop-key.key-index sorted c.loop-key-test.false) in
+    c.loop-key.invariant
+    ∙ ap (λ l. map (λ key. key.1) l) (take_all c.loop-key.key-index c.deref-key-items.result.now c.loop-key-test.false
+    ∙ c.deref-key-items.ensures.value) in
     let moved : IsPermutation old new =
     IsPermutation-map (λ key. key.1) c.args.keys.items sorted c.sort_unstable_by_key.ensures.permutation in
     record {

@@ -49,3 +49,6 @@ pub returns-clause-alike : goal.returns-clause-alike
 returns-clause-alike g c =
     AreFirstAlike-held c.args.waits.now c.args.hops.now c.loop-at.hops c.loop-at.at c.loop-at.invariant
     (omega (arith, c.loop-at-test.false, c.loop-at.invariant.len))
+
+pub returns-clause-len : goal.returns-clause-len
+returns-clause-len g c = c.loop-at.invariant.len

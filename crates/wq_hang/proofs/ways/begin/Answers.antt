@@ -88,13 +88,13 @@ loop-item-2-preserved g c =
     let limit = c.args.limit in
     let s = c.loop-item-2.search in
     let k : ℕ = c.loop-item-2.item-index in
-    let i : ℕ = c.item-item-2.result in
-    let there : Contains starts i = (k, c.loop-item-2-test.true, sym c.item-item-2.is) in
+    let i : ℕ = c.item-item-in-loop-item-2.result in
+    let there : Contains starts i = (k, c.loop-item-2-test.true, sym c.item-item-in-loop-item-2.is) in
     let is = All-contains (λ (j : ℕ). (j < items w) × HasRescuer w (lane_of w j)) starts i c.requires.starts there in
     let either : (j : ℕ) → Contains (take (k + 1) starts) j → Contains (take k starts) j ⊎ (i ≡ j) = λ j in_more.
     elim (contains_more starts k i j c.loop-item-2-test.true in_more) [
       | inl before ↦ inl before
-      | inr same ↦ inr (c.item-item-2.is ∙ same)
+      | inr same ↦ inr (c.item-item-in-loop-item-2.is ∙ same)
     ] in
     let made =
     c.in_ok-start_lane.ensures

@@ -45,3 +45,9 @@ returns g c = λ starts limit reach low.
     subst (IsWay w starts s c.args.item) (sym c.reverse.ensures.items)
     (IsWay-traced w starts limit s reach c.args.item low c.loop-at.at c.loop-at.hops.items c.loop-at.invariant few
     no_hop)
+
+pub cost-requires : goal.cost-requires
+cost-requires g c = omega (arith, c.loop-at.invariant.below, c.requires.one_each)
+
+pub hop_to-hop-requires : goal.hop_to-hop-requires
+hop_to-hop-requires g c = omega (arith, c.loop-at.invariant.below, c.requires.by_each)

@@ -15,12 +15,18 @@ use Rattle.wq_hang.proofs.least_for.Field.begin_alone.Goals.{then-may_begin_alon
 pub loop-i-init : goal.loop-i-init
 loop-i-init g c =
     let f = c.args.self.now in
-    let none : List ℕ → Type 0 = λ l. All (λ i. i < items f.wiring) l
-        × ((t : ℕ) → t < 0 → Contains l t ⊎ NoneAlone f c.args.best t) in
-    ?
+    subst (λ l. All (λ i. i < items f.wiring) (map (λ key. key.1) l)
+    × ((t : ℕ) → t < 0 → Contains (map (λ key. key.1) l) t ⊎ NoneAlone f c.args.best t)) (sym c.new-keys.ensures.items)
+    (All-nil (λ i. i < items f.wiring), λ t lt. absurd (omega (arith, lt)))
 
 pub loop-i-preserved : goal.loop-i-preserved
-loop-i-preserved g c = ?
+loop-i-preserved g c =
+    let f = c.args.self.now in
+    let best = c.args.best in
+    let i : ℕ = c.loop-i.i in
+    let keys : List ℕ = map (λ key. key.1) c.loop-i.keys.items in
+    let so_far = c.loop-i.invariant in
+    ?
 
 pub returns-clause-within : goal.returns-clause-within
 returns-clause-within g c =

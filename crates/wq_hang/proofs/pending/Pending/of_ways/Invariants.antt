@@ -15,4 +15,6 @@ invariant-loop-flush g l =
 
 -- the starts so far are queued
 abbrev pub invariant-loop-item : goal.invariant-loop-item
-invariant-loop-item g l = ArePending l.waits (take l.item-index l.starts) l.limit l.ways l.pending
+invariant-loop-item g l =
+    ArePending l.waits (take l.item-index l.starts) l.limit l.ways
+    (record { costs = l.pending-inside.costs.items; by = l.pending-inside.by.items })
