@@ -22,6 +22,15 @@ IsClosing w t limit s least None = least ≡ limit
 IsClosing w t limit s least (Some h) =
     ClosesAlone w t h × (slice_index s.costs h.item + step h.flush ≡ least) × (least < limit)
 
+pub closing_found : (w : Wiring) (t limit : ℕ) (s : Reach) (least : ℕ) (last : Option Hop) (h : Hop)
+    → IsClosing w t limit s least last → last ≡ Some h
+    → ClosesAlone w t h × (slice_index s.costs h.item + step h.flush ≡ least) × (least < limit)
+closing_found w t limit s least last h found is = subst (λ (o : Option Hop). IsClosing w t limit s least o) is found
+
+pub closing_none : (w : Wiring) (t limit : ℕ) (s : Reach) (least : ℕ) (last : Option Hop)
+    → IsClosing w t limit s least last → last ≡ None → least ≡ limit
+closing_none w t limit s least last found is = subst (λ (o : Option Hop). IsClosing w t limit s least o) is found
+
 -- by these flushes none costs less
 pub record IsClosingOf (w : Wiring) (t limit : ℕ) (s : Reach) (done : ℕ → Target → Type 0) (least : ℕ)
     (last : Option Hop) : Type 0 where

@@ -5,6 +5,7 @@ use Rattle.std.proofs.Common.{[], ◌∷◌, ◌++◌, length, refl, sym, ap, su
 use Rattle.std.specs.Prelude.{Contains, slice_index, slice_index_or, if◌then◌else◌, ◌||◌}
 use Rattle.std.proofs.lemmas.Bool.{cases_eq, cases_lt, eq-eqb, both_ways}
 use Rattle.std.proofs.lemmas.List.{length-append}
+use Rattle.std.proofs.lemmas.List.Elements.{All-contains}
 use Rattle.wq_items.specs.declared.target.Target.{Target}
 use Rattle.wq_core.specs.Wiring.{Wiring, IsWiring, HasRescuer, items, lane_of}
 use Rattle.wq_hang.specs.declared.hop.Hop.{Hop}
@@ -305,6 +306,25 @@ module _ (on : List (List ℕ)) (f : Field) (field : IsField on f) (wiring : IsW
 
 -- ---- for which items none is looked for
 
+-- a hop where there is none
+no_hop : Hop
+no_hop = record { item = 0; flush = record { item = 0; whole = false; unsure = false; place = 0 }; next = 0 }
+
+-- if somebody waits for an item alone, for less than the limit, the lane of the item has a rescuer
+pub pending_rescuer : (on : List (List ℕ)) (f : Field) → IsField on f → (t : ℕ) → t < items f.wiring
+    → slice_index f.pending.costs t < max_walk_cost → HasRescuer f.wiring (lane_of f.wiring t)
+pending_rescuer on f field t below low = elim (cases_lt 0 (slice_index f.pending.costs t)) [
+  | inl some ↦ (
+      let found = field.pending.by t no_hop below some low in
+      subst (λ (k : ℕ). HasRescuer f.wiring (lane_of f.wiring k)) found.1 found.0.rescuer
+      )
+  | inr nothing ↦ (
+      let start : Contains f.starts t = field.pending.no_others t below (omega (arith, nothing)) in
+      (All-contains (λ (i : ℕ). (i < items f.wiring) × HasRescuer f.wiring (lane_of f.wiring i)) f.starts t field.begin
+      start).1
+      )
+]
+
 module _ (on : List (List ℕ)) (f : Field) (field : IsField on f) (wiring : IsWiring f.wiring) (best : ℕ)
     (most : best ≤ max_walk_cost) (none_from : (i : ℕ) → NoneFrom f best i) (t : ℕ) where
   abbrev from_t : ℕ
@@ -319,10 +339,12 @@ module _ (on : List (List ℕ)) (f : Field) (field : IsField on f) (wiring : IsW
   NoneAlone-less now less hops more is =
       omega (arith, less, less_enough on f field wiring best most none_from t hops more is)
 
-  pub NoneAlone-bound : (bounds : List ℕ) → AreBounds f.wiring bounds t
+  pub NoneAlone-bound : (bounds : List ℕ)
+      → (HasRescuer f.wiring (lane_of f.wiring t) → AreBounds f.wiring bounds t)
       → best ≤ (from_t + 1) + slice_index bounds (lane_of f.wiring t) → NoneAlone f best t
   NoneAlone-bound bounds are far hops more is =
-      bound_enough on f field wiring best most none_from t hops more is bounds are far
+      bound_enough on f field wiring best most none_from t hops more is bounds
+      (are (rescuer on f field wiring best most none_from t hops more is)) far
 
   pub NoneAlone-left : (latest : List ℕ) → AreLatest f.wiring max_walk_cost f.ways.costs latest
       → (best ≤ from_t + 4)

@@ -514,6 +514,7 @@ fn least_rescued<A: Allocator + Copy>(
     ensures none { IfOk result (λ found. IfNone found
         ((x : ℕ) (hops : List Hop) → ¬ IsWalkFor waits.now named.now x hops)) }
 {
+    let _items = waits.items();
     let on = items_on_lanes(alloc, waits)?;
     let order = by_falling_numbers(alloc, numbers)?;
     let mut ways = Search::new(alloc);

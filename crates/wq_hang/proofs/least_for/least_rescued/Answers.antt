@@ -34,10 +34,49 @@ walk_to-requires g c =
     (is.cost, is.best)
 
 pub returns-in-Some-clause-some : goal.returns-in-Some-clause-some
-returns-in-Some-clause-some g c = ?
+returns-in-Some-clause-some g c =
+    let w = c.args.waits.now in
+    let named = c.args.named.now in
+    let f : Field = field_of w named c.search_ways.new.search c.in_ok-pending.pending in
+    let field : IsField c.in_ok-on.on f = record {
+      items_on = c.in_ok-on.ensures;
+      begin = c.requires.named;
+      ways = c.in_ok-search_ways.ensures;
+      pending = c.in_ok-pending.ensures;
+    } in
+    let is : IsBestEnd f (Some c.in-Some.end) = rw c.in-Some.is at c.in_ok-best_end.ensures in
+    IfOk-weaker c.walk_to.result
+    (λ found. MatchOption found ⊥ (λ walk. IsWalkAt f is.cost walk.named walk.hops.items))
+    (λ found. IfSome found (λ walk. IsLeastWalkFor w named walk.named walk.hops.items))
+    (λ found at. IfSome-match found (λ walk. IsWalkAt f is.cost walk.named walk.hops.items)
+    (λ walk. IsLeastWalkFor w named walk.named walk.hops.items)
+    (λ walk is_at. IsLeastWalkFor-best c.in_ok-on.on f field (Some c.in-Some.end) is walk.named walk.hops.items is_at)
+    at)
+    (c.walk_to.ensures is.cost is.best)
 
 pub returns-in-Some-clause-none : goal.returns-in-Some-clause-none
-returns-in-Some-clause-none g c = ?
+returns-in-Some-clause-none g c =
+    let w = c.args.waits.now in
+    let named = c.args.named.now in
+    let f : Field = field_of w named c.search_ways.new.search c.in_ok-pending.pending in
+    let is : IsBestEnd f (Some c.in-Some.end) = rw c.in-Some.is at c.in_ok-best_end.ensures in
+    IfOk-weaker c.walk_to.result
+    (λ found. MatchOption found ⊥ (λ walk. IsWalkAt f is.cost walk.named walk.hops.items))
+    (λ found. IfNone found ((x : ℕ) (hops : List Hop) → ¬ IsWalkFor w named x hops))
+    (λ found at. IfNone-match found (λ walk. IsWalkAt f is.cost walk.named walk.hops.items)
+    ((x : ℕ) (hops : List Hop) → ¬ IsWalkFor w named x hops) at)
+    (c.walk_to.ensures is.cost is.best)
 
 pub returns-in-None-clause-none : goal.returns-in-None-clause-none
-returns-in-None-clause-none g c = ?
+returns-in-None-clause-none g c =
+    let w = c.args.waits.now in
+    let named = c.args.named.now in
+    let f : Field = field_of w named c.search_ways.new.search c.in_ok-pending.pending in
+    let field : IsField c.in_ok-on.on f = record {
+      items_on = c.in_ok-on.ensures;
+      begin = c.requires.named;
+      ways = c.in_ok-search_ways.ensures;
+      pending = c.in_ok-pending.ensures;
+    } in
+    no_walk-none c.in_ok-on.on f field c.items-items.ensures.wiring c.items-items.ensures.few_lanes
+    (rw c.in-None.is at c.in_ok-best_end.ensures)

@@ -9,7 +9,7 @@ cost-requires g c =
     omega (
       arith,
       c.new.ensures,
-      c.requires c.loop-item.item-index 0 c.loop-item-test.true,
+      c.requires.few c.loop-item.item-index 0 c.loop-item-test.true,
       ap (λ (f : Field). length f.ways.costs) c.self.view_is,
     )
 

@@ -36,8 +36,8 @@ cost-cost-requires g c =
       c.self.invariant.ways.reach.one_each,
     )
 
-pub cost_to_wait-requires : goal.cost_to_wait-requires
-cost_to_wait-requires g c =
+pub cost_to_wait-all-requires : goal.cost_to_wait-all-requires
+cost_to_wait-all-requires g c =
     omega (arith, c.cost-cost.ensures, c.self.invariant.ways.reach.capped c.new-item.result)
 
 pub loop-flush-init : goal.loop-flush-init
@@ -59,7 +59,7 @@ loop-flush-preserved g c =
     let flushes : List Target = c.flushes-flush-items.result.now in
     let k : ℕ = c.loop-flush.flush-index in
     let old = c.loop-flush.best in
-    let all : ℕ = c.cost_to_wait.result + 1 in
+    let all : ℕ = c.cost_to_wait-all.result + 1 in
     let either : (j : ℕ) (u : Target) → IsBefore i (take (k + 1) flushes) j u
     → IsBefore i (take k flushes) j u ⊎ ((j ≡ i) × (u ≡ t)) =
     before_more i k flushes t c.loop-flush-test.true c.flush-item.is in
@@ -76,7 +76,7 @@ loop-flush-preserved g c =
           let low : slice_index f.ways.costs i < max_walk_cost = omega (
             arith,
             cost,
-            c.cost_to_wait.ensures,
+            c.cost_to_wait-all.ensures,
             v.if-all-best.true,
             c.loop-flush.invariant.0.most,
           ) in
@@ -88,13 +88,13 @@ loop-flush-preserved g c =
           let h : Hop = hop_to i t t.item in
           let to : IsToBare w h =
           record { hop = record { declared = declared; rescuer = rescuer }; bare = bare; next = refl } in
-          let found = IsBest-bare f all h (to, omega (arith, cost, c.cost_to_wait.ensures))
+          let found = IsBest-bare f all h (to, omega (arith, cost, c.cost_to_wait-all.ensures))
           (omega (arith, v.if-all-best.true, c.loop-flush.invariant.0.most)) in
           rw (v.best-is, c.new-item.ensures) (
             found,
             NoneBareOf-next f (IsBefore i (take k flushes)) (IsBefore i (take (k + 1) flushes)) old.cost all i t
                 (omega (arith, v.if-all-best.true)) c.loop-flush.invariant.1
-                (λ to_bare. omega (arith, cost, c.cost_to_wait.ensures)) either,
+                (λ to_bare. omega (arith, cost, c.cost_to_wait-all.ensures)) either,
           )
           )
       | else-all-best v ↦ (
@@ -105,7 +105,7 @@ loop-flush-preserved g c =
             | else-all-best-via-else-all-best o ↦ omega (
               arith,
               cost,
-              c.cost_to_wait.ensures,
+              c.cost_to_wait-all.ensures,
               o.if-all-best.false,
             )
           ] in
