@@ -71,6 +71,15 @@ pub IsBest-bare : {A : Type 0} (f : Field) (cost : ℕ) (h : Hop) → EndsBare f
     → IsBest {A = A} f cost (Some (end.Bare h))
 IsBest-bare f cost h ends most = record { is_end = ends; most = most }
 
+-- the same cost and end under other names
+pub IsBest-is : {A : Type 0} (f : Field) (cost now : ℕ) (found ends : Option (End A)) → now ≡ cost → ends ≡ found
+    → IsBest f cost found → IsBest f now ends
+IsBest-is {A} f cost now found ends same is best = record {
+  is_end = subst (λ (n : ℕ). IsEnd f n ends) (sym same)
+      (subst (λ (o : Option (End A)). IsEnd f cost o) (sym is) best.is_end);
+  most = omega (arith, same, best.most);
+}
+
 -- a round that is better from an item, to which a way costs so much
 pub EndsRound-better : (f : Field) (i limit more : ℕ) (hops : List Hop) → IsBetter f.wiring i limit more hops
     → EndsRound f (slice_index f.ways.costs i + more) i hops

@@ -57,6 +57,17 @@ struct Best<A: Allocator> {
     end: Option<End<A>>,
 }
 
+impl<A: Allocator> Best<A> {
+    /// This end is better, at this cost.
+    fn becomes(&mut self, cost: u32, end: End<A>)
+        ensures cost { self.new.cost ≡ cost }
+        ensures end { self.new.end ≡ Some end }
+    {
+        self.cost = cost;
+        self.end = Some(end);
+    }
+}
+
 /// What is searched through. Contracts don't see the order.
 #[derive(Drop)]
 struct Field<'a, 'w, A: Allocator> {
@@ -154,12 +165,12 @@ impl<A: Allocator + Copy> Field<'_, '_, A> {
             for flush in self.waits.flushes(item) {
                 let all = cost_to_wait(cost, flush) + 1;
                 if all < best.cost && !self.waits.has_rescuer(self.waits.lane_of(flush.item)) {
-                    best.cost = all;
-                    best.end = Some(End::Bare(Hop {
+                    let hop = Hop {
                         item,
                         flush: *flush,
                         next: flush.item,
-                    }));
+                    };
+                    best.becomes(all, End::Bare(hop));
                 }
             }
         }
@@ -204,8 +215,7 @@ impl<A: Allocator + Copy> Field<'_, '_, A> {
                 if let Some((more, hops)) = better_round(
                     alloc, self.waits, self.on, &bounds, search, item, limit,
                 )? {
-                    best.cost = cost + more;
-                    best.end = Some(End::Round(item, hops));
+                    best.becomes(cost + more, End::Round(item, hops));
                 }
             }
         }
@@ -368,8 +378,7 @@ impl<A: Allocator + Copy> Field<'_, '_, A> {
             if cost + 4 < best.cost && back < best.cost - cost - 1 {
                 let limit = best.cost - cost;
                 if let Some((more, hops)) = self.round_alone(alloc, search, item, limit)? {
-                    best.cost = cost + more;
-                    best.end = Some(End::Alone(item, hops));
+                    best.becomes(cost + more, End::Alone(item, hops));
                     return Ok(());
                 }
             }

@@ -8,7 +8,7 @@ use Rattle.wq_hang.specs.WalkFor.{named_beside, pending_beside}
 use Rattle.wq_hang.specs.WaysFor.{IsPushedOnce}
 use Rattle.wq_hang.proofs.OnceMarked.{AreOnce, AreOnce-pushed, flat_map-next}
 use Rattle.wq_hang.proofs.running.pending_for.Goals as goal
-use Rattle.wq_hang.proofs.running.pending_for.Goals.{then-is_pending+in_ok-push_once, else-is_pending}
+use Rattle.wq_hang.proofs.running.pending_for.Goals.{then-is_pending+in_ok-push_once-2, else-is_pending}
 
 pub loop-hop-preserved : goal.loop-hop-preserved
 loop-hop-preserved g c =
@@ -27,20 +27,20 @@ loop-hop-preserved g c =
     ap (λ (l : List ℕ). first ++ l) (flat_map-next (pending_beside w) k hops h c.loop-hop-test.true c.hop-item.is)
     ∙ sym (append_assoc first (flat_map (pending_beside w) (take k hops)) (pending_beside w h)) in
     elim c.if-is_pending.branch [
-      | then-is_pending+in_ok-push_once v ↦ (
-          let new = v.push_once.new.marks in
-          let new_list = v.push_once.new.list.items in
+      | then-is_pending+in_ok-push_once-2 v ↦ (
+          let new = v.push_once-then-is_pending.new.marks in
+          let new_list = v.push_once-then-is_pending.new.list.items in
           let one : pending_beside w h ≡ i ∷ [] =
           c.is_pending.ensures ∙ ap (λ (b : Bool). if b then i ∷ [] else []) v.if-is_pending.true in
           let below : i < n = subst (λ (x : Hop). x.flush.item < n) (sym c.hop-item.is)
           (c.requires.targets k h c.loop-hop-test.true) in
           let pushed : IsPushedOnce i old list new new_list =
-          subst (λ (m : List Bool). IsPushedOnce i m list new new_list) v.as_mut_slice.ensures.value
-          v.in_ok-push_once.ensures in
+          subst (λ (m : List Bool). IsPushedOnce i m list new new_list) v.as_mut_slice-then-is_pending.ensures.value
+          v.in_ok-push_once-2.ensures in
           let size =
-          ap (λ (m : List Bool). length m) v.in_ok-push_once.ensures.0
-          ∙ length-set v.as_mut_slice.result.now i true
-          ∙ v.as_mut_slice.ensures.len in
+          ap (λ (m : List Bool). length m) v.in_ok-push_once-2.ensures.0
+          ∙ length-set v.as_mut_slice-then-is_pending.result.now i true
+          ∙ v.as_mut_slice-then-is_pending.ensures.len in
           let marks_is = ap (λ m. m.items) v.marks-is ∙ take_at new (drop (length new) old) c.loop-hop.marks.len size in
           let once : AreOnce n new new_list (before ++ (i ∷ [])) =
           AreOnce-pushed n old list before c.loop-hop.invariant i new new_list below pushed in

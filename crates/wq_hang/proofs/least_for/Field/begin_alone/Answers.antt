@@ -26,7 +26,50 @@ loop-i-preserved g c =
     let i : ℕ = c.loop-i.i in
     let keys : List ℕ = map (λ key. key.1) c.loop-i.keys.items in
     let so_far = c.loop-i.invariant in
-    ?
+    let field : IsField c.self.inside.on.now f = subst (IsField c.self.inside.on.now) c.self.view_is c.self.invariant in
+    let same = ap (λ (x : Field). x.wiring) c.self.view_is in
+    let wiring : IsWiring f.wiring = subst IsWiring same c.items-i-end.ensures.wiring in
+    let below : i < items f.wiring =
+    omega (arith, c.loop-i-test.true, c.items-i-end.ensures.items, ap items same) in
+    elim c.if-may_begin_alone.branch [
+      | then-may_begin_alone+in_ok-push v ↦ (
+          let is =
+          ap (λ x. map (λ key. key.1) x.items) v.keys-is
+          ∙ ap (λ l. map (λ key. key.1) l) v.in_ok-push.ensures.items
+          ∙ map_push (λ key. key.1) c.loop-i.keys.items (v.cost.result, v.from.result)
+          ∙ ap (λ (m : ℕ). keys ++ (m ∷ [])) v.from.ensures in
+          subst (λ (l : List ℕ). All (λ j. j < items f.wiring) l
+          × ((t : ℕ) → t < i + 1 → Contains l t ⊎ NoneAlone f best t)) (sym is) (
+            All-push (λ j. j < items f.wiring) keys i so_far.0 below,
+            λ t lt. elim (cases_lt t i) [
+              | inl before ↦ elim (so_far.1 t before) [
+                | inl there ↦ inl (Contains-append_left keys (i ∷ []) t there)
+                | inr none ↦ inr none
+              ]
+              | inr last ↦ (
+                  let it : i ≡ t = omega (arith, last, lt) in
+                  inl (subst (λ (j : ℕ). Contains (keys ++ (i ∷ [])) j) it (Contains-push keys i))
+                  )
+            ],
+          )
+          )
+      | else-may_begin_alone v ↦ (
+          let none : NoneAlone f best c.new-item.result = NoneAlone-left c.self.inside.on.now f field wiring best
+          c.requires.most c.requires.round c.new-item.result c.args.latest.now c.requires.latest
+          (c.may_begin_alone.ensures v.if-may_begin_alone.false) in
+          subst (λ x. All (λ j. j < items f.wiring) (map (λ key. key.1) x.items)
+          × ((t : ℕ) → t < i + 1 → Contains (map (λ key. key.1) x.items) t ⊎ NoneAlone f best t)) (sym v.keys-is) (
+            so_far.0,
+            λ t lt. elim (cases_lt t i) [
+              | inl before ↦ so_far.1 t before
+              | inr last ↦ (
+                  let it : i ≡ t = omega (arith, last, lt) in
+                  inr (subst (λ (j : ℕ). NoneAlone f best j) (c.new-item.ensures ∙ it) none)
+                  )
+            ],
+          )
+          )
+    ]
 
 pub returns-clause-within : goal.returns-clause-within
 returns-clause-within g c =

@@ -7,10 +7,6 @@ use Rattle.wq_hang.specs.EndsFor.{IsField}
 use Rattle.wq_hang.proofs.Taken.{contains_all, contains_piece}
 use Rattle.wq_hang.proofs.EndsFound.{NoneFrom-less, NoneFrom-near, NoneFrom-far, NoneFrom-past}
 use Rattle.wq_hang.proofs.least_for.Field.look_from_items.Goals as goal
-use Rattle.wq_hang.proofs.least_for.Field.look_from_items.Goals.{
-  then-may_be_better+in_ok-look_from,
-  else-may_be_better,
-}
 
 pub loop-from-init : goal.loop-from-init
 loop-from-init g c = (omega arith, c.requires.best, omega arith, λ i there. absurd (omega (arith, there.1)))
@@ -21,11 +17,11 @@ may_be_better-requires g c =
     let near = c.args.near.now in
     let from : ℕ = c.loop-from.from in
     let n : ℕ = c.min-to.result - from in
-    All-weaker (λ i. (i < length costs) × (slice_index costs i < c.args.best.now.cost)) (λ i. i < length costs)
+    record { few = All-weaker (λ i. (i < length costs) × (slice_index costs i < c.args.best.now.cost)) (λ i. i < length costs)
     (λ i is. is.0) (take n (drop from near))
     (All-take (λ i. (i < length costs) × (slice_index costs i < c.args.best.now.cost)) n (drop from near)
     (All-drop (λ i. (i < length costs) × (slice_index costs i < c.args.best.now.cost)) from near
-    c.requires.near.within))
+    c.requires.near.within)) }
 
 pub look_from-requires-clause-few : goal.look_from-requires-clause-few
 look_from-requires-clause-few g c =
@@ -41,8 +37,29 @@ look_from-requires-clause-few g c =
     (All-drop (λ i. (i < length costs) × (slice_index costs i < c.args.best.now.cost)) from near
     c.requires.near.within))
 
-pub loop-from-preserved : goal.loop-from-preserved
-loop-from-preserved g c =
+pub loop-from-preserved-in_ok-look_from : goal.loop-from-preserved-in_ok-look_from
+loop-from-preserved-in_ok-look_from g c =
+    let f = c.args.self.now in
+    let near = c.args.near.now in
+    let from : ℕ = c.loop-from.from in
+    let to : ℕ = c.min-to.result in
+    let old = c.loop-from.best in
+    let new = c.look_from.new.best in
+    let so_far = c.loop-from.invariant in
+    let ends = c.in_ok-look_from.ensures in
+    let le : from ≤ to = omega (arith, c.min-to.ensures, c.loop-from-test.true) in
+    (
+      omega (arith, c.min-to.ensures),
+      ends.best,
+      omega (arith, ends.less, so_far.2),
+      λ i there. elim (contains_piece near from to i le there) [
+        | inl before ↦ NoneFrom-less f old.cost new.cost i ends.less (so_far.3 i before)
+        | inr here ↦ ends.none i here
+      ],
+    )
+
+pub loop-from-preserved-else-may_be_better : goal.loop-from-preserved-else-may_be_better
+loop-from-preserved-else-may_be_better g c =
     let f = c.args.self.now in
     let near = c.args.near.now in
     let from : ℕ = c.loop-from.from in
@@ -50,31 +67,15 @@ loop-from-preserved g c =
     let old = c.loop-from.best in
     let so_far = c.loop-from.invariant in
     let le : from ≤ to = omega (arith, c.min-to.ensures, c.loop-from-test.true) in
-    let within : to ≤ length near = omega (arith, c.min-to.ensures) in
-    elim c.if-may_be_better.branch [
-      | then-may_be_better+in_ok-look_from w ↦ (
-          let new = w.look_from.new.best in
-          let ends = w.in_ok-look_from.ensures in
-          rw w.best-is (
-            within,
-            ends.best,
-            omega (arith, ends.less, so_far.2),
-            λ i there. elim (contains_piece near from to i le there) [
-              | inl before ↦ NoneFrom-less f old.cost new.cost i ends.less (so_far.3 i before)
-              | inr here ↦ ends.none i here
-            ],
-          )
-          )
-      | else-may_be_better w ↦ rw w.best-is (
-        within,
-        so_far.1,
-        so_far.2,
-        λ i there. elim (contains_piece near from to i le there) [
-          | inl before ↦ so_far.3 i before
-          | inr here ↦ NoneFrom-near f old.cost i (c.may_be_better.ensures w.if-may_be_better.false i here)
-        ],
-      )
-    ]
+    (
+      omega (arith, c.min-to.ensures),
+      so_far.1,
+      so_far.2,
+      λ i there. elim (contains_piece near from to i le there) [
+        | inl before ↦ so_far.3 i before
+        | inr here ↦ NoneFrom-near f old.cost i (c.may_be_better.ensures c.if-may_be_better.false i here)
+      ],
+    )
 
 pub returns : goal.returns
 returns g c =

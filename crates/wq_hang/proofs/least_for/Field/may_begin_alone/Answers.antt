@@ -13,5 +13,20 @@ cost-cost-requires g c =
       c.self.invariant.pending.one_each,
     )
 
-pub returns : goal.returns
-returns g c = ?
+pub returns-then-latest-from : goal.returns-then-latest-from
+returns-then-latest-from g c = λ is.
+    let f = c.args.self.now in
+    let cost : c.cost-cost.result ≡ slice_index f.pending.costs c.args.item =
+    c.cost-cost.ensures ∙ ap (λ (k : Field). slice_index k.pending.costs c.args.item) c.self.view_is in
+    inr (inr (λ i below other lane one. c.has_one_before.ensures is i below other lane
+    (one ∙ ap (λ (n : ℕ). n + 1) (sym cost))))
+
+pub returns-else-latest-from : goal.returns-else-latest-from
+returns-else-latest-from g c = ?
+
+pub has_one_before-requires : goal.has_one_before-requires
+has_one_before-requires g c =
+    record {
+      item = c.requires.item;
+      low = omega (arith, c.cost-cost.ensures, c.self.invariant.pending.capped c.args.item);
+    }

@@ -11,7 +11,7 @@ use Rattle.wq_hang.specs.Search.{hop_to, step}
 use Rattle.wq_hang.specs.EndsFor.{Field, EndsBare, IsBest, NoneBare}
 use Rattle.wq_hang.proofs.Declared.{declared-item, declared-target}
 use Rattle.wq_hang.proofs.FlushesSoFar.{IsBefore, before_first, before_more, before_all}
-use Rattle.wq_hang.proofs.EndsFound.{field_of, IsBest-none, IsBest-bare, NoneBareOf, NoneBareOf-next, NoneBareOf-fewer}
+use Rattle.wq_hang.proofs.EndsFound.{field_of, IsBest-is, IsBest-none, IsBest-bare, NoneBareOf, NoneBareOf-next, NoneBareOf-fewer}
 use Rattle.wq_hang.proofs.least_for.Field.to_bare.Goals as goal
 use Rattle.wq_hang.proofs.least_for.Field.to_bare.Goals.{
   then-all-best+then-not-has_rescuer,
@@ -90,11 +90,14 @@ loop-flush-preserved g c =
           record { hop = record { declared = declared; rescuer = rescuer }; bare = bare; next = refl } in
           let found = IsBest-bare f all h (to, omega (arith, cost, c.cost_to_wait-all.ensures))
           (omega (arith, v.if-all-best.true, c.loop-flush.invariant.0.most)) in
-          rw (v.best-is, c.new-item.ensures) (
-            found,
-            NoneBareOf-next f (IsBefore i (take k flushes)) (IsBefore i (take (k + 1) flushes)) old.cost all i t
-                (omega (arith, v.if-all-best.true)) c.loop-flush.invariant.1
-                (λ to_bare. omega (arith, cost, c.cost_to_wait-all.ensures)) either,
+          let now : ℕ = v.becomes.new.self.cost in
+          let is_now : now ≡ all = v.becomes.ensures.cost in
+          let ends = v.becomes.ensures.end ∙ ap (λ (j : ℕ). Some (end.Bare (hop_to j t t.item))) c.new-item.ensures in
+          rw v.best-is (
+            IsBest-is f all now (Some (end.Bare h)) v.becomes.new.self.end is_now ends found,
+            NoneBareOf-next f (IsBefore i (take k flushes)) (IsBefore i (take (k + 1) flushes)) old.cost now i t
+                (omega (arith, is_now, v.if-all-best.true)) c.loop-flush.invariant.1
+                (λ to_bare. omega (arith, is_now, cost, c.cost_to_wait-all.ensures)) either,
           )
           )
       | else-all-best v ↦ (

@@ -71,7 +71,7 @@ returns-in-Some g c =
     c.in_ok-all.ensures f.starts max_walk_cost c.self.invariant.ways.reach low in
     let same : c.first_or-first.result ≡ first_or i way =
     c.first_or-first.ensures ∙ ap (first_or i) c.as_slice.ensures.value in
-    let are : all ≡ way ++ hops = ? in
+    let are : all ≡ way ++ hops = c.in_ok-extend_from_slice.ensures.items in
     let some = c.in-Some.ensures.some in
     subst (λ (k : Field). IsLedTo k i hops x all) c.self.view_is
     (IsLedTo-way f i way hops all x is are some.0 (some.1 ∙ ap (lane_of w) same)

@@ -1,8 +1,8 @@
-use Rattle.std.proofs.Common.{◌≡◌, ◌<◌, ◌≤◌, ◌∷◌, ℕ, List, sym, ap, subst, ◌∙◌, arith}
+use Rattle.std.proofs.Common.{◌≡◌, ◌<◌, ◌≤◌, [], ◌∷◌, ◌++◌, ℕ, List, sym, ap, subst, ◌∙◌, arith}
 use Rattle.std.specs.Prelude.{IfOk, MatchOption, slice_index, slice_index_or}
 use Rattle.wq_core.specs.Wiring.{items}
 use Rattle.wq_hang.specs.declared.hop.Hop.{Hop}
-use Rattle.wq_hang.specs.EndsFor.{Field, IsField, IsLedTo, IsWalkAt}
+use Rattle.wq_hang.specs.EndsFor.{Field, IsField, IsLedTo, IsWalkAt, first_or}
 use Rattle.wq_hang.proofs.Taken.{IfOk-weaker, match-weaker}
 use Rattle.wq_hang.proofs.BestFound.{IsWalkAt-start, IsWalkAt-led, waits_from}
 use Rattle.wq_hang.proofs.least_for.Field.with_way_alone.Goals as goal
@@ -68,7 +68,13 @@ returns g c = λ cost ends most.
     omega (arith, c.in-Some.ensures.some.0, ap (λ (k : Field). slice_index k.pending.costs c.args.item) c.self.view_is) in
     let is : h ≡ slice_index_or f.pending.by c.args.item h =
     c.in-Some.ensures.some.1 h ∙ ap (λ (k : Field). slice_index_or k.pending.by c.args.item h) c.self.view_is in
-    let are : all ≡ record h { next = next } ∷ hops = ? in
+    let h_next : Hop = record h { next = next } in
+    let are : all ≡ h_next ∷ hops =
+    c.as_slice-3.ensures.value
+    ∙ c.in_ok-extend_from_slice.ensures.items
+    ∙ ap (λ (l : List Hop). l ++ c.as_slice-2.result.now)
+    (c.in_ok-push.ensures.items ∙ ap (λ (l : List Hop). l ++ (h_next ∷ [])) c.new-all.ensures.items)
+    ∙ ap (λ (l : List Hop). h_next ∷ l) c.as_slice-2.ensures.value in
     let led = subst (λ (l : List Hop). IfOk c.with_way.result (λ found. MatchOption found ⊥
     (λ walk. IsLedTo f h.item l walk.named walk.hops.items))) are c.with_way.ensures in
     IfOk-weaker c.with_way.result
@@ -78,5 +84,5 @@ returns g c = λ cost ends most.
     (λ walk. IsLedTo f h.item (record h { next = next } ∷ hops) walk.named walk.hops.items)
     (λ walk. IsWalkAt f cost walk.named walk.hops.items)
     (λ walk is_led. IsWalkAt-led c.self.inside.on.now f field cost c.args.item hops ends h h most some is next walk.named
-    walk.hops.items ? is_led) of)
+    walk.hops.items (c.first_or.ensures ∙ ap (first_or h.next) c.as_slice.ensures.value) is_led) of)
     led
