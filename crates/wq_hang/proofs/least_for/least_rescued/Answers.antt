@@ -30,7 +30,7 @@ invariant_of-field g c = record {
 
 pub walk_to-requires : goal.walk_to-requires
 walk_to-requires g c =
-    let is = rw c.in-Some.is at c.in_ok-best_end.ensures in
+    let is = rw c.in-Some.is at c.in_ok-end.ensures in
     (is.cost, is.best)
 
 pub returns-in-Some-clause-some : goal.returns-in-Some-clause-some
@@ -44,7 +44,7 @@ returns-in-Some-clause-some g c =
       ways = c.in_ok-search_ways.ensures;
       pending = c.in_ok-pending.ensures;
     } in
-    let is : IsBestEnd f (Some c.in-Some.end) = rw c.in-Some.is at c.in_ok-best_end.ensures in
+    let is : IsBestEnd f (Some c.in-Some.end) = rw c.in-Some.is at c.in_ok-end.ensures in
     IfOk-weaker c.walk_to.result
     (λ found. MatchOption found ⊥ (λ walk. IsWalkAt f is.cost walk.named walk.hops.items))
     (λ found. IfSome found (λ walk. IsLeastWalkFor w named walk.named walk.hops.items))
@@ -59,7 +59,7 @@ returns-in-Some-clause-none g c =
     let w = c.args.waits.now in
     let named = c.args.named.now in
     let f : Field = field_of w named c.search_ways.new.search c.in_ok-pending.pending in
-    let is : IsBestEnd f (Some c.in-Some.end) = rw c.in-Some.is at c.in_ok-best_end.ensures in
+    let is : IsBestEnd f (Some c.in-Some.end) = rw c.in-Some.is at c.in_ok-end.ensures in
     IfOk-weaker c.walk_to.result
     (λ found. MatchOption found ⊥ (λ walk. IsWalkAt f is.cost walk.named walk.hops.items))
     (λ found. IfNone found ((x : ℕ) (hops : List Hop) → ¬ IsWalkFor w named x hops))
@@ -67,8 +67,8 @@ returns-in-Some-clause-none g c =
     ((x : ℕ) (hops : List Hop) → ¬ IsWalkFor w named x hops) at)
     (c.walk_to.ensures is.cost is.best)
 
-pub returns-in-None-clause-none : goal.returns-in-None-clause-none
-returns-in-None-clause-none g c =
+pub returns-clause-none : goal.returns-clause-none
+returns-clause-none g c =
     let w = c.args.waits.now in
     let named = c.args.named.now in
     let f : Field = field_of w named c.search_ways.new.search c.in_ok-pending.pending in
@@ -79,4 +79,4 @@ returns-in-None-clause-none g c =
       pending = c.in_ok-pending.ensures;
     } in
     no_walk-none c.in_ok-on.on f field c.items-items.ensures.wiring c.items-items.ensures.few_lanes
-    (rw c.in-None.is at c.in_ok-best_end.ensures)
+    (rw c.in-None.is at c.in_ok-end.ensures)

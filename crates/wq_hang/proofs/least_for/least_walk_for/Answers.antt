@@ -56,7 +56,7 @@ settle_held-requires g c =
     let w = c.args.waits.now in
     let x : ℕ = c.in-Some.walk.named in
     let least : IsLeastWalkFor w c.args.named.now x c.in-Some.walk.hops.items =
-    rw c.in-Some.is at c.in_ok-least_rescued.ensures.some in
+    rw c.in-Some.is at c.in_ok-walk.ensures.some in
     subst (HoldsUp w x) (sym c.as_mut_slice.ensures.value) least.walk.holds_up
 
 pub returns-in-Some-clause-some : goal.returns-in-Some-clause-some
@@ -67,7 +67,7 @@ returns-in-Some-clause-some g c =
     let new : List Hop = c.settle_held.new.hops in
     let ends = c.settle_held.ensures in
     let least : IsLeastWalkFor w c.args.named.now x old =
-    rw c.in-Some.is at c.in_ok-least_rescued.ensures.some in
+    rw c.in-Some.is at c.in_ok-walk.ensures.some in
     let whole = take_at new (drop (length new) old) c.in-Some.walk.hops.len (ends.len ∙ c.as_mut_slice.ensures.len) in
     subst (IsLeastWalkFor w c.args.named.now x) (sym whole)
     (IsLeastWalkFor-same w c.args.named.now x old new least ends.walk
@@ -81,4 +81,4 @@ returns-in-Some-clause-alike g c =
     subst (AreFirstAlike c.args.waits.now) (sym whole) c.settle_held.ensures.alike
 
 pub returns-in-None-clause-none : goal.returns-in-None-clause-none
-returns-in-None-clause-none g c = rw c.in-None.is at c.in_ok-least_rescued.ensures.none
+returns-in-None-clause-none g c = rw c.in-None.is at c.in_ok-walk.ensures.none

@@ -19,13 +19,19 @@ look_from_items-requires-clause-near g c =
     c.in_ok-near.ensures)
 
 pub latest-requires-clause-one_each : goal.latest-requires-clause-one_each
-latest-requires-clause-one_each g c = ?
+latest-requires-clause-one_each g c = c.self.invariant.ways.reach.one_each
 
 pub begin_alone-requires-clause-len : goal.begin_alone-requires-clause-len
-begin_alone-requires-clause-len g c = ?
+begin_alone-requires-clause-len g c =
+    ap (λ (l : List ℕ). length l) c.as_slice-2.ensures.value
+    ∙ c.in_ok-latest.ensures.len
+    ∙ ap (λ (f : Field). items f.wiring) c.self.view_is
 
 pub begin_alone-requires-clause-latest : goal.begin_alone-requires-clause-latest
-begin_alone-requires-clause-latest g c = ?
+begin_alone-requires-clause-latest g c =
+    subst (λ (f : Field). AreLatest f.wiring max_walk_cost f.ways.costs c.as_slice-2.result.now) c.self.view_is
+    (subst (λ (l : List ℕ). AreLatest c.self.inside.waits.now max_walk_cost c.self.inside.ways.now.costs l)
+    (sym c.as_slice-2.ensures.value) c.in_ok-latest.ensures.latest)
 
 pub returns : goal.returns
 returns g c =

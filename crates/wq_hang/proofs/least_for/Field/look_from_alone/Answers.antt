@@ -1,15 +1,23 @@
 use Rattle.std.proofs.Common.{◌≡◌, ◌+◌, ◌-◌, ◌<◌, ◌≤◌, ◌⊎◌, inl, inr, ℕ, List, Some, length, take, get_or, refl, sym, ap, subst}
 use Rattle.std.proofs.Common.{◌∙◌, arith}
 use Rattle.std.specs.Prelude.{Contains, slice_index}
+use Rattle.std.proofs.lemmas.List.{get_or_default}
 use Rattle.std.proofs.lemmas.List.Elements.{Contains-get_or}
 use Rattle.wq_core.specs.Wiring.{IsWiring, HasRescuer, items, lane_of}
 use Rattle.wq_hang.specs.declared.least_for.End.TheVariants as end
 use Rattle.wq_hang.specs.Search.{AreBounds}
-use Rattle.wq_hang.specs.EndsFor.{Field, IsField, IsBest, NoneFrom, NoneAlone}
+use Rattle.wq_hang.specs.declared.hop.Hop.{Hop}
+use Rattle.wq_hang.specs.EndsFor.{Field, IsField, IsBest, IsRoundAlone, NoneFrom, NoneAlone}
 use Rattle.wq_hang.proofs.Taken.{contains_more, contains_all}
-use Rattle.wq_hang.proofs.Nearer.{NoneAlone-near, NoneAlone-bound, NoneAlone-less}
-use Rattle.wq_hang.proofs.EndsFound.{NoneAlone-next}
+use Rattle.wq_hang.proofs.Nearer.{NoneAlone-near, NoneAlone-bound, NoneAlone-less, pending_rescuer}
+use Rattle.wq_hang.proofs.EndsFound.{NoneAlone-next, IsBest-is}
 use Rattle.wq_hang.proofs.least_for.Field.look_from_alone.Goals as goal
+use Rattle.wq_hang.proofs.least_for.Field.look_from_alone.Goals.{
+  then-cost-best+then-back-best+in_ok-more+in_default,
+  else-cost-best,
+  else-cost-best-via-then-cost-best+else-back-best,
+  else-cost-best-via-else-cost-best,
+}
 
 pub bounds_to-requires-clause-few : goal.bounds_to-requires-clause-few
 bounds_to-requires-clause-few g c k d lt =
@@ -22,7 +30,118 @@ pub loop-i-init : goal.loop-i-init
 loop-i-init g c = (c.requires.best, refl, λ t there. absurd (omega (arith, there.1)))
 
 pub loop-i-preserved : goal.loop-i-preserved
-loop-i-preserved g c = ?
+loop-i-preserved g c =
+    let f = c.args.self.now in
+    let on = c.self.inside.on.now in
+    let field : IsField on f = subst (IsField on) c.self.view_is c.self.invariant in
+    let same = ap (λ (x : Field). x.wiring) c.self.view_is in
+    let wiring : IsWiring f.wiring = subst IsWiring same c.items-items.ensures.wiring in
+    let few = c.args.few.now in
+    let k : ℕ = c.loop-i.i-index in
+    let t : ℕ = c.new-item.result in
+    let best : ℕ = c.loop-i.best.cost in
+    let so_far = c.loop-i.invariant in
+    let none_from : (i : ℕ) → NoneFrom f best i = λ i.
+    subst (λ (n : ℕ). NoneFrom f n i) (sym so_far.1) (c.requires.round i) in
+    let cost : c.cost-cost.result ≡ slice_index f.pending.costs t =
+    c.cost-cost.ensures ∙ ap (λ (x : Field). slice_index x.pending.costs t) c.self.view_is in
+    let either : (u : ℕ) → Contains (take (k + 1) few) u → Contains (take k few) u ⊎ (t ≡ u) = λ u there.
+    elim (contains_more few k 0 u c.loop-i-test.true there) [
+      | inl before ↦ inl before
+      | inr it ↦ inr (c.new-item.ensures ∙ it)
+    ] in
+    let none : NoneAlone f best t = elim c.if-cost-best.branch [
+      | then-cost-best+then-back-best+in_ok-more+in_default v ↦ (
+          let found : (hops : List Hop) (more : ℕ) → IsRoundAlone f.wiring t hops more
+          → best - c.cost-cost.result ≤ more = rw v.in_default.is at v.in_ok-more.ensures.none in
+          λ hops more is. omega (arith, cost, found hops more is)
+          )
+      | else-cost-best v ↦ elim v.else-cost-best.branch [
+        | else-cost-best-via-then-cost-best+else-back-best o ↦ (
+            let bounds : List ℕ = c.in_ok-bounds.bounds.items in
+            let p : ℕ = c.from.result in
+            let lane : p ≡ lane_of f.wiring t =
+            c.from.ensures ∙ c.get.ensures ∙ c.lane_of.ensures.lane ∙ ap (λ x. lane_of x t) same in
+            let within : p < length bounds = omega (
+              arith,
+              c.from.ensures,
+              c.get.ensures,
+              c.lane_of.ensures.within,
+              c.in_ok-bounds.ensures.len,
+            ) in
+            let back : c.index-back.result.now ≡ slice_index bounds p =
+            c.index-back.ensures ∙ get_or_default bounds p c.index-back.result.now 0 within in
+            let there : Contains few t =
+            subst (Contains few) (sym c.new-item.ensures) (Contains-get_or few k 0 c.loop-i-test.true) in
+            NoneAlone-bound on f field wiring best so_far.0.most none_from t bounds (λ rescuer.
+            subst (λ x. AreBounds x bounds t) same (c.in_ok-bounds.ensures.bounds t there
+            (subst (λ x. HasRescuer x (lane_of x t)) (sym same) rescuer))) (omega (
+              arith,
+              cost,
+              o.if-cost-best.true,
+              o.if-back-best.false,
+              back,
+              ap (slice_index bounds) lane,
+            ))
+            )
+        | else-cost-best-via-else-cost-best o ↦
+            NoneAlone-near on f field wiring best so_far.0.most none_from t (omega (arith, cost, o.if-cost-best.false))
+      ]
+    ] in
+    (
+      so_far.0,
+      so_far.1,
+      NoneAlone-next f (take k few) (take (k + 1) few) best t so_far.2 none either,
+    )
+
+pub round_alone-requires-clause-rescuer : goal.round_alone-requires-clause-rescuer
+round_alone-requires-clause-rescuer g c =
+    let f = c.args.self.now in
+    let on = c.self.inside.on.now in
+    let field : IsField on f = subst (IsField on) c.self.view_is c.self.invariant in
+    let t : ℕ = c.new-item.result in
+    pending_rescuer on f field t
+    (omega (arith, c.new-item.ensures, c.requires.few c.loop-i.i-index 0 c.loop-i-test.true)) (omega (
+      arith,
+      c.cost-cost.ensures,
+      ap (λ (x : Field). slice_index x.pending.costs t) c.self.view_is,
+      c.if-cost-best.true,
+      c.loop-i.invariant.0.most,
+    ))
+
+pub returns-in-Some-clause-best : goal.returns-in-Some-clause-best
+returns-in-Some-clause-best g c =
+    let f = c.args.self.now in
+    let t : ℕ = c.new-item.result in
+    let more : ℕ = c.in-Some.more in
+    let now : ℕ = c.becomes.new.self.cost in
+    let cost : c.cost-cost.result ≡ slice_index f.pending.costs t =
+    c.cost-cost.ensures ∙ ap (λ (x : Field). slice_index x.pending.costs t) c.self.view_is in
+    let is_now : now ≡ c.cost-cost.result + more = c.becomes.ensures.cost in
+    let some = rw c.in-Some.is at c.in_ok-more.ensures.some in
+    IsBest-is f now now (Some (end.Alone t c.in-Some.hops)) c.becomes.new.self.end refl c.becomes.ensures.end (record {
+      is_end = (
+        omega (arith, c.new-item.ensures, c.requires.few c.loop-i.i-index 0 c.loop-i-test.true),
+        some.1,
+        some.2,
+        omega (arith, is_now, cost, some.3),
+      );
+      most = omega (arith, is_now, some.0, c.if-cost-best.true, c.loop-i.invariant.0.most);
+    })
+
+pub returns-in-Some-clause-none : goal.returns-in-Some-clause-none
+returns-in-Some-clause-none g c = λ u there.
+    let f = c.args.self.now in
+    let on = c.self.inside.on.now in
+    let field : IsField on f = subst (IsField on) c.self.view_is c.self.invariant in
+    let same = ap (λ (x : Field). x.wiring) c.self.view_is in
+    let wiring : IsWiring f.wiring = subst IsWiring same c.items-items.ensures.wiring in
+    let best : ℕ = c.loop-i.best.cost in
+    let none_from : (i : ℕ) → NoneFrom f best i = λ i.
+    subst (λ (n : ℕ). NoneFrom f n i) (sym c.loop-i.invariant.1) (c.requires.round i) in
+    let some = rw c.in-Some.is at c.in_ok-more.ensures.some in
+    NoneAlone-less on f field wiring best c.loop-i.invariant.0.most none_from u c.becomes.new.self.cost
+    (omega (arith, c.becomes.ensures.cost, some.0, c.if-cost-best.true))
 
 pub returns : goal.returns
 returns g c = record {

@@ -58,8 +58,8 @@ loop-from-preserved-in_ok-look_from g c =
       ],
     )
 
-pub loop-from-preserved-else-may_be_better : goal.loop-from-preserved-else-may_be_better
-loop-from-preserved-else-may_be_better g c =
+pub loop-from-preserved : goal.loop-from-preserved
+loop-from-preserved g c =
     let f = c.args.self.now in
     let near = c.args.near.now in
     let from : ℕ = c.loop-from.from in

@@ -23,7 +23,7 @@ look_from_alone-requires-clause-few g c =
 -- nothing is found yet
 pub look_from_alone-requires-clause-round : goal.look_from_alone-requires-clause-round
 look_from_alone-requires-clause-round g c = λ i.
-    subst (λ (n : ℕ). NoneFrom c.args.self.now n i) ? (c.requires.round i)
+    subst (λ (n : ℕ). NoneFrom c.args.self.now n i) (sym c.if-best-before.true) (c.requires.round i)
 
 pub loop-from-preserved : goal.loop-from-preserved
 loop-from-preserved g c =
@@ -37,12 +37,28 @@ loop-from-preserved g c =
       omega (arith, c.min-to.ensures),
       ends.best,
       omega (arith, ends.less, so_far.2),
-      λ t there. elim (contains_piece near from to t ? there) [
+      λ t there. elim (contains_piece near from to t (omega (arith, c.min-to.ensures, c.loop-from-test.true)) there) [
         | inl before ↦ NoneAlone-fewer f c.loop-from.best.cost c.look_from_alone.new.best.cost t ends.less
             (so_far.3 t before)
         | inr here ↦ ends.none t here
       ],
     )
 
-pub returns : goal.returns
-returns g c = ?
+pub returns-else-best-before-clause-none : goal.returns-else-best-before-clause-none
+returns-else-best-before-clause-none g c = λ t there.
+    let f = c.args.self.now in
+    let on = c.self.inside.on.now in
+    let field : IsField on f = subst (IsField on) c.self.view_is c.self.invariant in
+    let same = ap (λ (x : Field). x.wiring) c.self.view_is in
+    let wiring : IsWiring f.wiring = subst IsWiring same c.items-items.ensures.wiring in
+    let before : ℕ = c.args.best.now.cost in
+    let now : ℕ = c.loop-from.best.cost in
+    let less : now < before = elim (cases_lt now before) [
+      | inl is ↦ is
+      | inr no_less ↦ absurd (c.if-best-before.false (omega (arith, no_less, c.loop-from.invariant.2)))
+    ] in
+    NoneAlone-less on f field wiring before c.requires.best.most c.requires.round t now less
+
+pub returns-after-loop-from-clause-none : goal.returns-after-loop-from-clause-none
+returns-after-loop-from-clause-none g c = λ t there.
+    c.loop-from.invariant.3 t (contains_all c.args.near.now c.loop-from.from t c.loop-from-test.false there)

@@ -9,16 +9,16 @@ use Rattle.wq_hang.proofs.EndsFound.{hops_some}
 use Rattle.wq_hang.proofs.EndCosts.{IsWalkAt-bare, IsWalkAt-round}
 use Rattle.wq_hang.proofs.least_for.Field.walk_to.Goals as goal
 
-pub with_way-requires-in-Bare-clause-item : goal.with_way-requires-in-Bare-clause-item
-with_way-requires-in-Bare-clause-item g c =
+pub with_way-requires-clause-item : goal.with_way-requires-clause-item
+with_way-requires-clause-item g c =
     let f = c.args.self.now in
     let h : Hop = c.in-Bare.hop in
     let best = rw c.in-Bare.is at c.requires.1 in
     let ends : EndsBare f c.requires.0 h = best.is_end in
     declared-item f.wiring h.item h.flush ends.0.hop.declared
 
-pub with_way-requires-in-Bare-clause-reached : goal.with_way-requires-in-Bare-clause-reached
-with_way-requires-in-Bare-clause-reached g c =
+pub with_way-requires-clause-reached : goal.with_way-requires-clause-reached
+with_way-requires-clause-reached g c =
     let f = c.args.self.now in
     let h : Hop = c.in-Bare.hop in
     let best = rw c.in-Bare.is at c.requires.1 in
@@ -32,13 +32,13 @@ returns-in-Bare g c = λ cost is.
     let h : Hop = c.in-Bare.hop in
     let best = rw c.in-Bare.is at is in
     let ends : EndsBare f cost h = best.is_end in
-    IfOk-weaker c.with_way-in-Bare.result
+    IfOk-weaker c.with_way.result
     (λ found. MatchOption found ⊥ (λ walk. IsLedTo f h.item (h ∷ []) walk.named walk.hops.items))
     (λ found. MatchOption found ⊥ (λ walk. IsWalkAt f cost walk.named walk.hops.items))
     (λ found of. match-weaker found (λ walk. IsLedTo f h.item (h ∷ []) walk.named walk.hops.items)
     (λ walk. IsWalkAt f cost walk.named walk.hops.items)
     (λ walk led. IsWalkAt-bare c.self.inside.on.now f field cost walk.named h walk.hops.items led ends) of)
-    c.with_way-in-Bare.ensures
+    c.with_way.ensures
 
 pub with_way-requires-in-Round-clause-item : goal.with_way-requires-in-Round-clause-item
 with_way-requires-in-Round-clause-item g c =

@@ -61,7 +61,7 @@ returns g c = λ cost ends most.
     let f = c.args.self.now in
     let field : IsField c.self.inside.on.now f = subst (IsField c.self.inside.on.now) c.self.view_is c.self.invariant in
     let h : Hop = c.in-Some.hop in
-    let next : ℕ = c.first_or.result in
+    let next : ℕ = c.first_or-hop.result in
     let hops : List Hop = c.args.hops.items in
     let all : List Hop = c.as_slice-3.result.now in
     let some : 0 < slice_index f.pending.costs c.args.item =
@@ -84,5 +84,5 @@ returns g c = λ cost ends most.
     (λ walk. IsLedTo f h.item (record h { next = next } ∷ hops) walk.named walk.hops.items)
     (λ walk. IsWalkAt f cost walk.named walk.hops.items)
     (λ walk is_led. IsWalkAt-led c.self.inside.on.now f field cost c.args.item hops ends h h most some is next walk.named
-    walk.hops.items (c.first_or.ensures ∙ ap (first_or h.next) c.as_slice.ensures.value) is_led) of)
+    walk.hops.items (c.first_or-hop.ensures ∙ ap (first_or h.next) c.as_slice.ensures.value) is_led) of)
     led
