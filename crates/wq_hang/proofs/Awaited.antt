@@ -70,7 +70,8 @@ module _ (w : Wiring) (limit : ℕ) (s : Reach) where
       by_it = set p.by t.item (hop_to i t t.item)
 
       by : (b : Bool) → ltb cost (slice_index p.costs t.item) ≡ b
-          → AreAwaited more (if b then record { costs = set p.costs t.item cost; by = set p.by t.item (hop_to i t t.item) } else p)
+          → AreAwaited more (if b then record
+          { costs = set p.costs t.item cost; by = set p.by t.item (hop_to i t t.item) } else p)
       by false test = record {
         one_each = are.one_each;
         by_each = are.by_each;

@@ -1,5 +1,6 @@
 -- The least walk in the end: the best end, with a way to it.
-use Rattle.std.proofs.Common.{◌≡◌, ℕ, ◌+◌, ◌*◌, ◌<◌, ◌≤◌, ◌⊎◌, inl, inr, List, [], ◌∷◌, ◌++◌, length, Some, None, Option}
+use Rattle.std.proofs.Common.{◌≡◌, ℕ, ◌+◌, ◌*◌, ◌<◌, ◌≤◌, ◌⊎◌, inl, inr, List, [], ◌∷◌, ◌++◌, length, Some, None}
+use Rattle.std.proofs.Common.{Option}
 use Rattle.std.proofs.Common.{refl, sym, ap, subst, ◌∙◌, arith}
 use Rattle.std.specs.Prelude.{Contains, slice_index, slice_index_or}
 use Rattle.std.proofs.lemmas.List.Elements.{All-contains}
@@ -113,8 +114,7 @@ module _ (on : List (List ℕ)) (f : Field) (field : IsField on f) (cost t : ℕ
   IsWalkAt-start nothing =
       let start : Contains f.starts t = field.pending.no_others t ends.0 nothing in
       let begun = All-contains (λ (i : ℕ). (i < items f.wiring) × HasRescuer f.wiring (lane_of f.wiring i)) f.starts t
-      field.begin start in
-      (
+      field.begin start in (
         record { is_named = start; item = ends.0; holds_up = HoldsUp-alone f.wiring t ends.1 hops ends.2 },
         omega (arith, ends.3, cost_for-alone f.wiring t ends.1 hops ends.2 begun.1),
       )

@@ -335,19 +335,22 @@ cut_at w x hops from is =
     (path_parts w from.first from.end is.before is.hop is.after whole).0 in
     let parts = path_parts w from.first is.hop.item at.before g at.after
     (subst (λ (l : List Hop). IsPath w from.first l is.hop.item) before to) in
-    let others : List Hop = at.before ++ redirect g.item g at.after in
-    (
+    let others : List Hop = at.before ++ redirect g.item g at.after in (
       others,
       record {
-        holds_up = inr (from.first, from.lane, inl (record {
-          way = at.before;
-          round = redirect g.item g at.after;
-          at = g.item;
-          are = refl;
-          leads = parts.0;
-          some = redirect-some g.item g at.after;
-          goes_round = redirect-path w g.item is.hop.item g.item g at.after parts.1 at.lane;
-        }));
+        holds_up = inr (
+          from.first,
+          from.lane,
+          inl (record {
+            way = at.before;
+            round = redirect g.item g at.after;
+            at = g.item;
+            are = refl;
+            leads = parts.0;
+            some = redirect-some g.item g at.after;
+            goes_round = redirect-path w g.item is.hop.item g.item g at.after parts.1 at.lane;
+          }),
+        );
         apart = subst Apart (sym (lanes_from-short w g.item at.before g at.after))
             (subst (λ (l : List Hop). Apart (lanes_from w l)) before is.apart);
         cheaper = subst (λ (l : List Hop). cost_for w x others < cost_for w x l) (sym all)

@@ -112,13 +112,17 @@ module _ (on : List (List ℕ)) (f : Field) (field : IsField on f) where
     record {
       is_named = led.is_named;
       item = item_of x led.is_named;
-      holds_up = inr (led.led.way.first, sym led.on, inr (record {
-        way = led.way;
-        last = h;
-        are = led.are;
-        leads = led.led.way.path;
-        to_bare = ends.0;
-      }));
+      holds_up = inr (
+        led.led.way.first,
+        sym led.on,
+        inr (record {
+          way = led.way;
+          last = h;
+          are = led.are;
+          leads = led.led.way.path;
+          to_bare = ends.0;
+        }),
+      );
     },
     subst (λ (l : List Hop). cost_for w x l ≤ cost) (sym led.are) (omega (
       arith,
@@ -150,15 +154,19 @@ module _ (on : List (List ℕ)) (f : Field) (field : IsField on f) where
     record {
       is_named = led.is_named;
       item = item_of x led.is_named;
-      holds_up = inr (led.led.way.first, sym led.on, inl (record {
-        way = led.way;
-        round = hops;
-        at = i;
-        are = led.are;
-        leads = led.led.way.path;
-        some = ends.0;
-        goes_round = ends.1;
-      }));
+      holds_up = inr (
+        led.led.way.first,
+        sym led.on,
+        inl (record {
+          way = led.way;
+          round = hops;
+          at = i;
+          are = led.are;
+          leads = led.led.way.path;
+          some = ends.0;
+          goes_round = ends.1;
+        }),
+      );
     },
     subst (λ (l : List Hop). cost_for w x l ≤ cost) (sym led.are) (omega (
       arith,
@@ -289,15 +297,19 @@ module _ (w : Wiring) (t cost : ℕ) (hops : List Hop) (is : IsRoundAlone w t ho
 
   -- the round alone is a walk for t
   pub HoldsUp-alone : HoldsUp w t hops
-  HoldsUp-alone = inr (first, first_lane, inl (record {
-    way = [];
-    round = hops;
-    at = first;
-    are = refl;
-    leads = refl;
-    some = alone_some;
-    goes_round = alone_path;
-  }))
+  HoldsUp-alone = inr (
+    first,
+    first_lane,
+    inl (record {
+      way = [];
+      round = hops;
+      at = first;
+      are = refl;
+      leads = refl;
+      some = alone_some;
+      goes_round = alone_path;
+    }),
+  )
 
   pub cost_for-alone : HasRescuer w (lane_of w t) → cost_for w t hops ≤ cost
   cost_for-alone rescuer =
@@ -345,20 +357,24 @@ module _ (w : Wiring) (t cost : ℕ) (hops : List Hop) (is : IsRoundAlone w t ho
     all_path = IsPath-append w from h.item first way (h ∷ hops) leads hop_path
 
     pub HoldsUp-led : lane_of w from ≡ lane_of w x → HoldsUp w x all_hops
-    HoldsUp-led lane = inr (from, lane, inl (record {
-      way = way ++ (h ∷ []);
-      round = hops;
-      at = first;
-      are = sym (append_assoc way (h ∷ []) hops);
-      leads = IsPath-append w from h.item first way (h ∷ []) leads (
-        refl,
-        hop,
-        ap (lane_of w) next ∙ first_lane ∙ ap (lane_of w) (sym waits_for),
-        next,
-      );
-      some = alone_some;
-      goes_round = alone_path;
-    }))
+    HoldsUp-led lane = inr (
+      from,
+      lane,
+      inl (record {
+        way = way ++ (h ∷ []);
+        round = hops;
+        at = first;
+        are = sym (append_assoc way (h ∷ []) hops);
+        leads = IsPath-append w from h.item first way (h ∷ []) leads (
+          refl,
+          hop,
+          ap (lane_of w) next ∙ first_lane ∙ ap (lane_of w) (sym waits_for),
+          next,
+        );
+        some = alone_some;
+        goes_round = alone_path;
+      }),
+    )
 
     pub cost_for-led : cost_for w x all_hops ≤ ((before_way + hops_cost way) + step h.flush) + cost
     cost_for-led =

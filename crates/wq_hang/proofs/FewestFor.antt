@@ -1,5 +1,6 @@
 -- Walks for items in readings, and what is a shortest run by which one of them is held up.
-use Rattle.std.proofs.Common.{◌≡◌, ◌↔◌, ℕ, zero, suc, ◌+◌, ◌*◌, ◌<◌, ◌≤◌, ◌⊎◌, inl, inr, Bool, true, false, not, List, []}
+use Rattle.std.proofs.Common.{◌≡◌, ◌↔◌, ℕ, zero, suc, ◌+◌, ◌*◌, ◌<◌, ◌≤◌, ◌⊎◌, inl, inr, Bool, true, false, not, List}
+use Rattle.std.proofs.Common.{[]}
 use Rattle.std.proofs.Common.{◌∷◌, ◌++◌, length, refl, sym, ap, subst, ◌∙◌, arith}
 use Rattle.std.specs.Prelude.{Contains, filter, slice_index_or}
 use Rattle.std.specs.List.{All, range_with_len}
@@ -42,7 +43,8 @@ walk_for_hop w x hops holds h there = elim (leads_from w x hops holds) [
 ]
 
 -- which are of items, and lead to items
-pub walk_for_items : (w : Wiring) (x : ℕ) (hops : List Hop) → HoldsUp w x hops → All (λ (h : Hop). h.item < items w) hops
+pub walk_for_items : (w : Wiring) (x : ℕ) (hops : List Hop) → HoldsUp w x hops
+    → All (λ (h : Hop). h.item < items w) hops
 walk_for_items w x hops holds =
     All-weaker (Contains hops) (λ (h : Hop). h.item < items w)
     (λ h there. declared-item w h.item h.flush (walk_for_hop w x hops holds h there).declared) hops
@@ -118,26 +120,34 @@ IsSafeFor-lane w i j wiring item same rescuer safe n few steps run stuck =
 module _ (w : Wiring) (kept : List ℕ) where
   HoldsUp-out : (x : ℕ) (hops : List Hop) → HoldsUp (reading w kept) x hops → HoldsUp w x hops
   HoldsUp-out x hops (inl none) = inl none
-  HoldsUp-out x hops (inr (first, lane, inl meets)) = inr (first, lane, inl (record {
-    way = meets.way;
-    round = meets.round;
-    at = meets.at;
-    are = meets.are;
-    leads = IsPath-out w kept first meets.at meets.way meets.leads;
-    some = meets.some;
-    goes_round = IsPath-out w kept meets.at meets.at meets.round meets.goes_round;
-  }))
-  HoldsUp-out x hops (inr (first, lane, inr meets)) = inr (first, lane, inr (record {
-    way = meets.way;
-    last = meets.last;
-    are = meets.are;
-    leads = IsPath-out w kept first meets.last.item meets.way meets.leads;
-    to_bare = record {
-      hop = (IsHop-out w kept meets.last meets.to_bare.hop).0;
-      bare = meets.to_bare.bare;
-      next = meets.to_bare.next;
-    };
-  }))
+  HoldsUp-out x hops (inr (first, lane, inl meets)) = inr (
+    first,
+    lane,
+    inl (record {
+      way = meets.way;
+      round = meets.round;
+      at = meets.at;
+      are = meets.are;
+      leads = IsPath-out w kept first meets.at meets.way meets.leads;
+      some = meets.some;
+      goes_round = IsPath-out w kept meets.at meets.at meets.round meets.goes_round;
+    }),
+  )
+  HoldsUp-out x hops (inr (first, lane, inr meets)) = inr (
+    first,
+    lane,
+    inr (record {
+      way = meets.way;
+      last = meets.last;
+      are = meets.are;
+      leads = IsPath-out w kept first meets.last.item meets.way meets.leads;
+      to_bare = record {
+        hop = (IsHop-out w kept meets.last meets.to_bare.hop).0;
+        bare = meets.to_bare.bare;
+        next = meets.to_bare.next;
+      };
+    }),
+  )
 
   HoldsUp-in : (x : ℕ) (hops : List Hop) → HoldsUp w x hops
       → ((h : Hop) → Contains hops h → is_kept kept h.flush ≡ true) → HoldsUp (reading w kept) x hops
@@ -145,33 +155,42 @@ module _ (w : Wiring) (kept : List ℕ) where
   HoldsUp-in x hops (inr (first, lane, inl meets)) stay =
       let in_all : (h : Hop) → Contains (meets.way ++ meets.round) h → is_kept kept h.flush ≡ true = λ h there.
       stay h (subst (λ (l : List Hop). Contains l h) (sym meets.are) there) in
-      inr (first, lane, inl (record {
-        way = meets.way;
-        round = meets.round;
-        at = meets.at;
-        are = meets.are;
-        leads = IsPath-in w kept first meets.at meets.way meets.leads
-            (λ h there. in_all h (Contains-append_left meets.way meets.round h there));
-        some = meets.some;
-        goes_round = IsPath-in w kept meets.at meets.at meets.round meets.goes_round
-            (λ h there. in_all h (Contains-append_right meets.way meets.round h there));
-      }))
+      inr (
+        first,
+        lane,
+        inl (record {
+          way = meets.way;
+          round = meets.round;
+          at = meets.at;
+          are = meets.are;
+          leads = IsPath-in w kept first meets.at meets.way meets.leads
+              (λ h there. in_all h (Contains-append_left meets.way meets.round h there));
+          some = meets.some;
+          goes_round = IsPath-in w kept meets.at meets.at meets.round meets.goes_round
+              (λ h there. in_all h (Contains-append_right meets.way meets.round h there));
+        }),
+      )
   HoldsUp-in x hops (inr (first, lane, inr meets)) stay =
       let in_all : (h : Hop) → Contains (meets.way ++ (meets.last ∷ [])) h → is_kept kept h.flush ≡ true = λ h there.
       stay h (subst (λ (l : List Hop). Contains l h) (sym meets.are) there) in
-      inr (first, lane, inr (record {
-        way = meets.way;
-        last = meets.last;
-        are = meets.are;
-        leads = IsPath-in w kept first meets.last.item meets.way meets.leads
-            (λ h there. in_all h (Contains-append_left meets.way (meets.last ∷ []) h there));
-        to_bare = record {
-          hop = IsHop-in w kept meets.last meets.to_bare.hop
-              (in_all meets.last (Contains-append_right meets.way (meets.last ∷ []) meets.last (0, omega arith, refl)));
-          bare = meets.to_bare.bare;
-          next = meets.to_bare.next;
-        };
-      }))
+      inr (
+        first,
+        lane,
+        inr (record {
+          way = meets.way;
+          last = meets.last;
+          are = meets.are;
+          leads = IsPath-in w kept first meets.last.item meets.way meets.leads
+              (λ h there. in_all h (Contains-append_left meets.way (meets.last ∷ []) h there));
+          to_bare = record {
+            hop = IsHop-in w kept meets.last meets.to_bare.hop
+                (in_all meets.last (Contains-append_right meets.way (meets.last ∷ []) meets.last
+                (0, omega arith, refl)));
+            bare = meets.to_bare.bare;
+            next = meets.to_bare.next;
+          };
+        }),
+      )
 
 -- hops of a walk that leaves no lane twice wait by different unsure flushes
 Apart-unsure_at : (w : Wiring) (x : ℕ) (hops : List Hop) → ArePlacesApart w → HoldsUp w x hops
@@ -203,8 +222,7 @@ walk_for_reading w named kept n steps wiring are ends =
     let stays : is_kept kept g.0.flush ≡ true =
     (IsHop-out w kept g.0 (walk_for_hop (reading w kept) x hops is.2.holds_up g.0 g.1)).1 in
     subst (λ (q : ℕ). In q kept) g.2 (kept-In kept g.0.flush g.3 stays)) in
-    let below : items (reading w kept) ≡ items w = length-map w.waits (kept_of kept) in
-    (
+    let below : items (reading w kept) ≡ items w = length-map w.waits (kept_of kept) in (
       x,
       hops,
       record {

@@ -31,7 +31,10 @@ before_all w i k flushes are all j t there below = elim (cases_lt j i) [
   | inl before ↦ inl before
   | inr last ↦ (
       let same : j ≡ i = omega (arith, last, below) in
-      inr (same, contains_all flushes k t all
-      (subst (λ (l : List Target). Contains l t) (ap (declared_by w) same ∙ sym are) there))
+      inr (
+        same,
+        contains_all flushes k t all
+            (subst (λ (l : List Target). Contains l t) (ap (declared_by w) same ∙ sym are) there),
+      )
       )
 ]

@@ -51,7 +51,8 @@ redirect-cost : (y : ℕ) (h : Hop) (hops : List Hop) → hops_cost (redirect y 
 redirect-cost y h [] = let most : length (target_beside (record h { next = y })) ≤ 1 = target_beside-most (record h { next = y }) in omega arith
 redirect-cost y h (g ∷ hops) = let rest : hops_cost (redirect y g hops) ≤ hops_cost (g ∷ hops) + 1 = redirect-cost y g hops in omega arith
 
-pub redirect-path : (w : Wiring) (i j y : ℕ) (h : Hop) (hops : List Hop) → IsPath w i (h ∷ hops) j → lane_of w y ≡ lane_of w j → IsPath w i (redirect y h hops) y
+pub redirect-path : (w : Wiring) (i j y : ℕ) (h : Hop) (hops : List Hop) → IsPath w i (h ∷ hops) j
+    → lane_of w y ≡ lane_of w j → IsPath w i (redirect y h hops) y
 redirect-path w i j y h [] path same =
     (path.0, record { declared = path.1.declared; rescuer = path.1.rescuer }, same ∙ ap (lane_of w) (sym path.3) ∙ path.2, refl)
 redirect-path w i j y h (g ∷ hops) path same = (path.0, path.1, path.2, redirect-path w h.next j y g hops path.3 same)

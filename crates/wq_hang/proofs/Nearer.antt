@@ -87,8 +87,7 @@ module _ (on : List (List ℕ)) (f : Field) (field : IsField on f) (wiring : IsW
       by : (0 < slice_index f.pending.costs t) ⊎ (slice_index f.pending.costs t ≤ 0)
           → (d y ≤ slice_index f.pending.costs t + 1) × (t ≡ y → d y ≤ slice_index f.pending.costs t)
       by (inr nothing) =
-          let start : Contains f.starts t = field.pending.no_others t below (omega (arith, nothing)) in
-          (
+          let start : Contains f.starts t = field.pending.no_others t below (omega (arith, nothing)) in (
             omega (arith, begins 1 (inr (t, start, sym lane, y_below, refl))),
             λ same. omega (arith, begins 0 (inl (subst (λ (k : ℕ). Contains f.starts k) same start, refl))),
           )
@@ -106,8 +105,7 @@ module _ (on : List (List ℕ)) (f : Field) (field : IsField on f) (wiring : IsW
             refl,
           ) in
           let come : d y ≤ d h.item + hops_cost (hop_to h.item h.flush y ∷ []) =
-          comes_on d_hop h.item y (hop_to h.item h.flush y ∷ []) found.0.item found.0.reached path y_rescuer in
-          (
+          comes_on d_hop h.item y (hop_to h.item h.flush y ∷ []) found.0.item found.0.reached path y_rescuer in (
             omega (arith, come, found.2, hop_most h.item h.flush y),
             λ same. omega (arith, come, found.2, hop_itself h.item h.flush y (found.1 ∙ same)),
           )

@@ -1,5 +1,6 @@
 -- A walk that leaves no lane twice ends in one of three ways, and costs no less than a way to that end and the end.
-use Rattle.std.proofs.Common.{◌≡◌, ◌≢◌, ℕ, zero, suc, ◌+◌, ◌*◌, ◌<◌, ◌≤◌, ◌⊎◌, inl, inr, Bool, true, false, cond, List, []}
+use Rattle.std.proofs.Common.{◌≡◌, ◌≢◌, ℕ, zero, suc, ◌+◌, ◌*◌, ◌<◌, ◌≤◌, ◌⊎◌, inl, inr, Bool, true, false, cond, List}
+use Rattle.std.proofs.Common.{[]}
 use Rattle.std.proofs.Common.{◌∷◌, ◌++◌, length, refl, sym, ap, subst, ◌∙◌, arith}
 use Rattle.std.specs.Prelude.{Contains, flat_map, slice_index, slice_index_or, if◌then◌else◌, ◌==◌}
 use Rattle.std.specs.List.{All}
@@ -137,34 +138,33 @@ among (g ∷ hops) h (suc k, lt, at) =
 round_alone : (w : Wiring) (at : ℕ) (round : List Hop) → IsPath w at round at → HasRescuer w (lane_of w at) → (h : Hop)
     → Contains round h → (i : ℕ) → In i (pending_beside w h)
     → (others : List Hop) × IsRoundAlone w i others (hops_cost round)
-round_alone w at round path rescuer h there i pending =
-    (
-      (parts.after ++ parts.before) ++ (h ∷ []),
-      record {
-        way = parts.after ++ parts.before;
-        last = h;
-        before = 1 + hops_cost (parts.after ++ parts.before);
-        are = refl;
-        leads = record {
-          first = h.next;
-          before = 1;
-          begins = inr (i, (0, omega arith, refl), ap (lane_of w) target.1 ∙ sym here.1.2, below, refl);
-          path = IsPath-append w h.next at h.item parts.after parts.before here.1.3 here.0;
-          costs = refl;
-        };
-        hop = here.1.1;
-        waits_for = sym target.1;
-        alone = target.0;
-        next = refl;
-        costs = omega (
-          arith,
-          hops_cost-append parts.after parts.before,
-          hops_cost-append parts.before (h ∷ parts.after),
-          ap hops_cost parts.parts,
-          size,
-        );
-      },
-    )
+round_alone w at round path rescuer h there i pending = (
+  (parts.after ++ parts.before) ++ (h ∷ []),
+  record {
+    way = parts.after ++ parts.before;
+    last = h;
+    before = 1 + hops_cost (parts.after ++ parts.before);
+    are = refl;
+    leads = record {
+      first = h.next;
+      before = 1;
+      begins = inr (i, (0, omega arith, refl), ap (lane_of w) target.1 ∙ sym here.1.2, below, refl);
+      path = IsPath-append w h.next at h.item parts.after parts.before here.1.3 here.0;
+      costs = refl;
+    };
+    hop = here.1.1;
+    waits_for = sym target.1;
+    alone = target.0;
+    next = refl;
+    costs = omega (
+      arith,
+      hops_cost-append parts.after parts.before,
+      hops_cost-append parts.before (h ∷ parts.after),
+      ap hops_cost parts.parts,
+      size,
+    );
+  },
+)
   where
     parts : IsAmong round h
     parts = among round h there

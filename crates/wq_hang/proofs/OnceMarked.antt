@@ -4,7 +4,8 @@ use Rattle.std.proofs.Common.{zero, suc, ◌+◌, take, set, get_or, refl, sym, 
 use Rattle.std.specs.Prelude.{flat_map, slice_index_or, slice_get, unwrap_or, if◌then◌else◌, ◌==◌, IfSome, IfNone}
 use Rattle.std.specs.Prelude.{replicate, Option, Some, None}
 use Rattle.std.proofs.lemmas.Bool.{cases_eq, both_ways}
-use Rattle.std.proofs.lemmas.List.{get_or-replicate, length-replicate, append-nil, append_assoc, get_or-set_same, get_or-set_other, length-set}
+use Rattle.std.proofs.lemmas.List.{get_or-replicate, length-replicate, append-nil, append_assoc, get_or-set_same}
+use Rattle.std.proofs.lemmas.List.{get_or-set_other, length-set}
 use Rattle.wq_hang.specs.declared.hop.Hop.{Hop}
 use Rattle.wq_hang.specs.WalkFor.{named_beside, once}
 use Rattle.wq_hang.specs.EndsFor.{first_or}

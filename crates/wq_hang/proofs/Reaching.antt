@@ -142,7 +142,8 @@ cost_at near cost s h i within = elim (cases_eq i h.next) [
   | inr other ↦ inr (other, get_or-set_other s.costs h.next i cost 0 other)
 ]
 
-pub Later-reached : (near : Bool) (cost : ℕ) (s : Reach) (h : Hop) → h.next < length s.costs → cost < slice_index s.costs h.next → Later s (reached near cost s h)
+pub Later-reached : (near : Bool) (cost : ℕ) (s : Reach) (h : Hop) → h.next < length s.costs
+    → cost < slice_index s.costs h.next → Later s (reached near cost s h)
 Later-reached near cost s h within less = record {
   one_each = length-set s.costs h.next cost;
   by_each = length-set s.by h.next h;
@@ -290,14 +291,16 @@ module _ (w : Wiring) (first limit : ℕ) where
       each r end here later rest j (zero, lt, at) = subst (λ (k : ℕ). slice_index end.costs k ≤ cost + lane_step t) at (omega (arith, here, later.less x))
       each r end here later rest j (suc k, lt, at) = rest j (k, omega arith, at)
 
-  pub lane_costs-reach : (near : Bool) (cost : ℕ) (s : Reach) (h : Hop) → (reach near cost s h).lane_costs ≡ s.lane_costs
+  pub lane_costs-reach : (near : Bool) (cost : ℕ) (s : Reach) (h : Hop)
+      → (reach near cost s h).lane_costs ≡ s.lane_costs
   lane_costs-reach near cost s h = by (ltb cost (slice_index s.costs h.next))
     where
       by : (b : Bool) → (if b then reached near cost s h else s).lane_costs ≡ s.lane_costs
       by true = refl
       by false = refl
 
-  pub lane_costs-all : (near : Bool) (cost : ℕ) (i : ℕ) (t : Target) (js : List ℕ) (s : Reach) → (reach_all near cost i t js s).lane_costs ≡ s.lane_costs
+  pub lane_costs-all : (near : Bool) (cost : ℕ) (i : ℕ) (t : Target) (js : List ℕ) (s : Reach)
+      → (reach_all near cost i t js s).lane_costs ≡ s.lane_costs
   lane_costs-all near cost i t [] s = refl
   lane_costs-all near cost i t (j ∷ js) s = lane_costs-all near cost i t js (reach near cost s (hop_to i t j)) ∙ lane_costs-reach near cost s (hop_to i t j)
 

@@ -233,8 +233,7 @@ walk_for_hangs w names x hops wiring walk apart n =
     let beside : List ℕ = pending_for w x hops in
     let helped : HoldUp v hops beside =
     HoldUp-helped w n hops beside (HoldUp-for w names x hops wiring walk apart) in
-    let sound : IsWiring v = IsWiring-with_helpers w n wiring in
-    (
+    let sound : IsWiring v = IsWiring-with_helpers w n wiring in (
       IsRun-walk v hops beside sound helped,
       IsStuckFor-walk v hops beside sound helped names x walk.is_named (queued-named w x hops),
     )

@@ -187,36 +187,44 @@ HoldsUp-alike w x gs hs alike (inl none) =
     inl (nil-alike w hs (subst (λ (l : List Hop). AlikeHops w l hs) none.0 alike), none.1)
 HoldsUp-alike w x gs hs alike (inr (first, lane, inl meets)) =
     let parts = parts_alike w meets.way meets.round hs (subst (λ (l : List Hop). AlikeHops w l hs) meets.are alike) in
-    inr (first, lane, inl (record {
-      way = parts.front;
-      round = parts.back;
-      at = meets.at;
-      are = parts.are;
-      leads = IsPath-alike w first meets.at meets.way parts.front parts.front_alike meets.leads;
-      some = omega (arith, meets.some, length-alike w meets.round parts.back parts.back_alike);
-      goes_round = IsPath-alike w meets.at meets.at meets.round parts.back parts.back_alike meets.goes_round;
-    }))
+    inr (
+      first,
+      lane,
+      inl (record {
+        way = parts.front;
+        round = parts.back;
+        at = meets.at;
+        are = parts.are;
+        leads = IsPath-alike w first meets.at meets.way parts.front parts.front_alike meets.leads;
+        some = omega (arith, meets.some, length-alike w meets.round parts.back parts.back_alike);
+        goes_round = IsPath-alike w meets.at meets.at meets.round parts.back parts.back_alike meets.goes_round;
+      }),
+    )
 HoldsUp-alike w x gs hs alike (inr (first, lane, inr meets)) =
     let parts = parts_alike w meets.way (meets.last ∷ []) hs
     (subst (λ (l : List Hop). AlikeHops w l hs) meets.are alike) in
     let last = one-alike w meets.last parts.back parts.back_alike in
     let h : Hop = last.0 in
-    inr (first, lane, inr (record {
-      way = parts.front;
-      last = h;
-      are = parts.are ∙ ap (λ (l : List Hop). parts.front ++ l) last.1;
-      leads = subst (λ (i : ℕ). IsPath w first parts.front i) (sym last.2)
-          (IsPath-alike w first meets.last.item meets.way parts.front parts.front_alike meets.leads);
-      to_bare = record {
-        hop = record {
-          declared = last.5;
-          rescuer = subst (λ (i : ℕ). HasRescuer w (lane_of w i)) (sym last.2) meets.to_bare.hop.rescuer;
+    inr (
+      first,
+      lane,
+      inr (record {
+        way = parts.front;
+        last = h;
+        are = parts.are ∙ ap (λ (l : List Hop). parts.front ++ l) last.1;
+        leads = subst (λ (i : ℕ). IsPath w first parts.front i) (sym last.2)
+            (IsPath-alike w first meets.last.item meets.way parts.front parts.front_alike meets.leads);
+        to_bare = record {
+          hop = record {
+            declared = last.5;
+            rescuer = subst (λ (i : ℕ). HasRescuer w (lane_of w i)) (sym last.2) meets.to_bare.hop.rescuer;
+          };
+          bare = λ rescuer. meets.to_bare.bare
+              (subst (λ (i : ℕ). HasRescuer w (lane_of w i)) last.4.item rescuer);
+          next = last.3 ∙ meets.to_bare.next ∙ sym last.4.item;
         };
-        bare = λ rescuer. meets.to_bare.bare
-            (subst (λ (i : ℕ). HasRescuer w (lane_of w i)) last.4.item rescuer);
-        next = last.3 ∙ meets.to_bare.next ∙ sym last.4.item;
-      };
-    }))
+      }),
+    )
 
 -- ---- the first n hops wait by the first flushes with their words
 

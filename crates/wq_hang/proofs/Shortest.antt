@@ -1,5 +1,6 @@
 -- The run of a walk that meets no lane twice ends stuck.
-use Rattle.std.proofs.Common.{◌≡◌, ◌≢◌, ℕ, zero, suc, ◌*◌, ◌<◌, ◌≤◌, ◌⊎◌, inl, inr, Bool, true, false, List, [], ◌∷◌, ◌++◌, length, map, refl, sym, ap, subst, ◌∙◌, arith}
+use Rattle.std.proofs.Common.{◌≡◌, ◌≢◌, ℕ, zero, suc, ◌*◌, ◌<◌, ◌≤◌, ◌⊎◌, inl, inr, Bool, true, false, List, [], ◌∷◌}
+use Rattle.std.proofs.Common.{◌++◌, length, map, refl, sym, ap, subst, ◌∙◌, arith}
 use Rattle.std.specs.Prelude.{Contains, flat_map}
 use Rattle.std.specs.List.{All}
 use Rattle.std.proofs.lemmas.List.{length-append, length-map}
@@ -32,7 +33,8 @@ path_hop w i j [] path h (k, lt, at) = absurd (omega arith)
 path_hop w i j (g ∷ hops) path h (zero, lt, at) = subst (λ (x : Hop). IsHop w x × (lane_of w x.next ≡ lane_of w x.flush.item)) at (path.1, path.2)
 path_hop w i j (g ∷ hops) path h (suc k, lt, at) = path_hop w g.next j hops path.3 h (k, omega arith, at)
 
-pub path_next : (w : Wiring) (i j : ℕ) (hops : List Hop) → IsPath w i hops j → (h : Hop) → Contains hops h → In h.next (items_of hops) ⊎ (h.next ≡ j)
+pub path_next : (w : Wiring) (i j : ℕ) (hops : List Hop) → IsPath w i hops j → (h : Hop) → Contains hops h
+    → In h.next (items_of hops) ⊎ (h.next ≡ j)
 path_next w i j [] path h (k, lt, at) = absurd (omega arith)
 path_next w i j (g ∷ []) path h (zero, lt, at) = inr (ap (λ (x : Hop). x.next) (sym at) ∙ path.3)
 path_next w i j (g ∷ f ∷ hops) path h (zero, lt, at) = inl (inr (inl (ap (λ (x : Hop). x.next) (sym at) ∙ sym path.3.0)))
@@ -43,7 +45,8 @@ path_first w i j [] path some = absurd (omega arith)
 path_first w i j (g ∷ hops) path some = inl (sym path.0)
 
 -- the lanes to which a path leads are those from which it leads, but for the first and the last
-pub path_lanes : (w : Wiring) (i j : ℕ) (hops : List Hop) → IsPath w i hops j → lane_of w i ∷ lanes_to w hops ≡ lanes_from w hops ++ (lane_of w j ∷ [])
+pub path_lanes : (w : Wiring) (i j : ℕ) (hops : List Hop) → IsPath w i hops j
+    → lane_of w i ∷ lanes_to w hops ≡ lanes_from w hops ++ (lane_of w j ∷ [])
 path_lanes w i j [] path = ap (λ (x : ℕ). lane_of w x ∷ []) path
 path_lanes w i j (h ∷ hops) path =
     ap (λ (x : ℕ). lane_of w x ∷ lane_of w h.flush.item ∷ lanes_to w hops) (sym path.0)
@@ -95,7 +98,8 @@ walk_hop w hops beside (inr (g, hop, bare, one, other)) h there =
 
 -- ---- what is queued beside
 
-pub lane_to_In : (w : Wiring) (hops : List Hop) (h : Hop) → Contains hops h → In (lane_of w h.flush.item) (lanes_to w hops)
+pub lane_to_In : (w : Wiring) (hops : List Hop) (h : Hop) → Contains hops h
+    → In (lane_of w h.flush.item) (lanes_to w hops)
 lane_to_In w [] h (k, lt, at) = omega arith
 lane_to_In w (g ∷ hops) h (zero, lt, at) = inl (ap (λ (x : Hop). lane_of w x.flush.item) (sym at))
 lane_to_In w (g ∷ hops) h (suc k, lt, at) = inr (lane_to_In w hops h (k, omega arith, at))
@@ -148,12 +152,14 @@ items_apart w [] apart = tt
 items_apart w (h ∷ hops) apart = (items_avoid w h.item hops apart.0, items_apart w hops apart.1)
 
 -- an item whose lane none of the hops leaves isn't one of theirs
-pub lane_apart : (w : Wiring) (hops : List Hop) (i j : ℕ) → Avoids (lane_of w i) (lanes_from w hops) → In j (items_of hops) → lane_of w i ≢ lane_of w j
+pub lane_apart : (w : Wiring) (hops : List Hop) (i j : ℕ) → Avoids (lane_of w i) (lanes_from w hops)
+    → In j (items_of hops) → lane_of w i ≢ lane_of w j
 lane_apart w hops i j avoids there is =
     let found = In_item hops j there in
     not_in (lane_of w i) (lanes_from w hops) avoids (subst (λ (q : ℕ). In q (lanes_from w hops)) (ap (lane_of w) found.2 ∙ sym is) (lane_In w hops found.0 found.1))
 
-pub one_on_lane : (w : Wiring) (hops : List Hop) → Apart (lanes_from w hops) → (i j : ℕ) → In i (items_of hops) → In j (items_of hops) → lane_of w i ≡ lane_of w j → i ≡ j
+pub one_on_lane : (w : Wiring) (hops : List Hop) → Apart (lanes_from w hops) → (i j : ℕ) → In i (items_of hops)
+    → In j (items_of hops) → lane_of w i ≡ lane_of w j → i ≡ j
 one_on_lane w [] apart i j one other same = absurd one
 one_on_lane w (h ∷ hops) apart i j (inl one) (inl other) same = one ∙ sym other
 one_on_lane w (h ∷ hops) apart i j (inl one) (inr other) same = absurd (lane_apart w hops h.item j apart.0 other (ap (lane_of w) (sym one) ∙ same))
@@ -246,7 +252,8 @@ module _ (w : Wiring) (wiring : IsWiring w) where
       subst (λ (hs : List Hop). HoldUp w hs beside) (sym one) (subst (λ (is : List ℕ). HoldUp w (h ∷ []) is) (sym other) (HoldUp-bare h hop bare))
 
 -- the same under any number of helpers
-pub HoldUp-helped : (w : Wiring) (n : ℕ) (hops : List Hop) (beside : List ℕ) → HoldUp w hops beside → HoldUp (with_helpers w n) hops beside
+pub HoldUp-helped : (w : Wiring) (n : ℕ) (hops : List Hop) (beside : List ℕ) → HoldUp w hops beside
+    → HoldUp (with_helpers w n) hops beside
 HoldUp-helped w n hops beside hold = record {
   declared = hold.declared;
   rescuer = hold.rescuer;
@@ -286,7 +293,8 @@ alone-wait : (w : Wiring) (q : ℕ) (whole : Bool) (b : ℕ) → ¬ NeedsWorker 
 alone-wait w q false b needs = needs
 alone-wait w q true b needs = needs
 
-pub alone-moves : (w : Wiring) (hops : List Hop) → ((h : Hop) → Contains hops h → HasRescuer w (lane_of w h.item)) → All (λ (step : Step). ¬ NeedsWorker w step) (flat_map (moves_of w) hops)
+pub alone-moves : (w : Wiring) (hops : List Hop) → ((h : Hop) → Contains hops h → HasRescuer w (lane_of w h.item))
+    → All (λ (step : Step). ¬ NeedsWorker w step) (flat_map (moves_of w) hops)
 alone-moves w [] rescuer = All-nil (λ (step : Step). ¬ NeedsWorker w step)
 alone-moves w (h ∷ hops) rescuer =
     let needs_none : Step → Type 0 = λ (step : Step). ¬ NeedsWorker w step in

@@ -21,7 +21,8 @@ use Rattle.wq_hang.specs.Walk.{IsHop, IsPath, IsWalk, target_beside, unsure_hops
 use Rattle.wq_hang.specs.Search.{hops_cost}
 use Rattle.wq_hang.proofs.Apart.{Avoids, Apart, In, cases_In, not_in, Apart-few}
 use Rattle.wq_hang.proofs.Declared.{declared-target, target_beside-most}
-use Rattle.wq_hang.proofs.Weights.{lane_weight, lane_weight-unfinished, weight, weight_on, weight_on-apart, weight-end_of}
+use Rattle.wq_hang.proofs.Weights.{lane_weight, lane_weight-unfinished, weight, weight_on, weight_on-apart}
+use Rattle.wq_hang.proofs.Weights.{weight-end_of}
 use Rattle.wq_hang.proofs.StuckLanes.{item_on, IsHopFrom, hop_from, hop-weight}
 
 -- the lanes to which hops lead
@@ -257,7 +258,8 @@ module _ (w : Wiring) (wiring : IsWiring w) (s : State) (sound : IsSoundState w 
 pub IsHop-without : (w : Wiring) (n : ℕ) (h : Hop) → IsHop (with_helpers w n) h → IsHop w h
 IsHop-without w n h is = record { declared = is.declared; rescuer = is.rescuer }
 
-pub IsPath-without : (w : Wiring) (n : ℕ) (i : ℕ) (hops : List Hop) (j : ℕ) → IsPath (with_helpers w n) i hops j → IsPath w i hops j
+pub IsPath-without : (w : Wiring) (n : ℕ) (i : ℕ) (hops : List Hop) (j : ℕ) → IsPath (with_helpers w n) i hops j
+    → IsPath w i hops j
 IsPath-without w n i [] j path = path
 IsPath-without w n i (h ∷ hops) j path = (path.0, IsHop-without w n h path.1, path.2, IsPath-without w n h.next hops j path.3)
 

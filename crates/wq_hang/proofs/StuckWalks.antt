@@ -20,7 +20,8 @@ use Rattle.wq_hang.specs.declared.hop.Hop.{Hop}
 use Rattle.wq_hang.specs.Walk.{IsHop, IsPath, target_beside, walk_steps}
 use Rattle.wq_hang.specs.WalkFor.{IsWalkFor, HoldsUp, once, named_beside, pending_beside, pending_for}
 use Rattle.wq_hang.specs.ShortestFor.{EndsStuckFor}
-use Rattle.wq_hang.proofs.Apart.{Avoids, Apart, In, cases_In, Avoids-from, Apart-few, Apart-within, In-append_left, In-append_right}
+use Rattle.wq_hang.proofs.Apart.{Avoids, Apart, In, cases_In, Avoids-from, Apart-few, Apart-within, In-append_left}
+use Rattle.wq_hang.proofs.Apart.{In-append_right}
 use Rattle.wq_hang.proofs.Once.{In-once, Apart-once, length-once}
 use Rattle.wq_hang.proofs.Weights.{lane_weight, lane_weight-unfinished, weight, weight_on, weight_on-apart}
 use Rattle.wq_hang.proofs.Weights.{weight-end_of, run_weight}
@@ -31,7 +32,8 @@ use Rattle.wq_hang.proofs.LeastWalks.{lanes_from, lanes_from-same, IsPath-append
 use Rattle.wq_hang.proofs.WalkRuns.{items_of, lane_In, In_lane, In_item, In-append}
 use Rattle.wq_hang.proofs.Shortest.{path_hop, path_next}
 use Rattle.wq_hang.proofs.LaneCounts.{IsLeftOn, few_others, total, counted}
-use Rattle.wq_hang.proofs.CutWalks.{LeavesAt, Apart-hop, leaves_at, path_parts, lanes_from-append, pending_cases, pending_target}
+use Rattle.wq_hang.proofs.CutWalks.{LeavesAt, Apart-hop, leaves_at, path_parts, lanes_from-append, pending_cases}
+use Rattle.wq_hang.proofs.CutWalks.{pending_target}
 use Rattle.wq_hang.proofs.CutWalks.{In-flat_append}
 
 -- ---- what is pending beside
@@ -330,15 +332,19 @@ module _ (w : Wiring) (wiring : IsWiring w) (s : State) (sound : IsSoundState w 
       holds_up =
           let parts = path_parts w (item_on s p) (item_on s q) at.before at.hop at.after
           (subst (λ (l : List Hop). IsPath w (item_on s p) l (item_on s q)) at.parts leads.path) in
-          inr (item_on s p, own_first, inl (record {
-            way = at.before;
-            round = at.hop ∷ at.after;
-            at = at.hop.item;
-            are = at.parts;
-            leads = parts.0;
-            some = omega arith;
-            goes_round = subst (λ (i : ℕ). IsPath w at.hop.item (at.hop ∷ at.after) i) item parts.1;
-          }))
+          inr (
+            item_on s p,
+            own_first,
+            inl (record {
+              way = at.before;
+              round = at.hop ∷ at.after;
+              at = at.hop.item;
+              are = at.parts;
+              leads = parts.0;
+              some = omega arith;
+              goes_round = subst (λ (i : ℕ). IsPath w at.hop.item (at.hop ∷ at.after) i) item parts.1;
+            }),
+          )
 
       some : 0 < length hops
       some = omega (
@@ -350,18 +356,18 @@ module _ (w : Wiring) (wiring : IsWiring w) (s : State) (sound : IsSoundState w 
       beside : (i : ℕ) → In i (pending_for w x hops) → IsBeside 0 (lanes_from w hops) i
       beside i in_once = elim (In-append i (named_beside x hops) (flat_map (pending_beside w) hops)
           (In-once i (named_beside x hops ++ flat_map (pending_beside w) hops) in_once)) [
-        | inl named ↦ beside_named x left rescuer (item_on s q) hops leads.path some 0 (lanes_from w hops)
-            (some_left p q hops leads own_first some) i named
-        | inr later ↦ (
-            let h = pending_hop w hops i later in
-            let on : In (lane_of w h.0.flush.item) (lanes_from w hops) =
-            elim (next_left p q hops leads own h.0 h.1) [
-              | inl on ↦ on
-              | inr end ↦ subst (λ (r : ℕ). In r (lanes_from w hops)) (sym end) again
-            ] in
-            beside_target h.0 (All-contains IsOnWay hops h.0 leads.each h.1) 0 (lanes_from w hops) on i h.2
-            )
-      ]
+            | inl named ↦ beside_named x left rescuer (item_on s q) hops leads.path some 0 (lanes_from w hops)
+                (some_left p q hops leads own_first some) i named
+            | inr later ↦ (
+                let h = pending_hop w hops i later in
+                let on : In (lane_of w h.0.flush.item) (lanes_from w hops) =
+                elim (next_left p q hops leads own h.0 h.1) [
+                  | inl on ↦ on
+                  | inr end ↦ subst (λ (r : ℕ). In r (lanes_from w hops)) (sym end) again
+                ] in
+                beside_target h.0 (All-contains IsOnWay hops h.0 leads.each h.1) 0 (lanes_from w hops) on i h.2
+                )
+          ]
 
       steps : walk_steps hops (pending_for w x hops) ≤ weight s.lanes
       steps =
@@ -406,13 +412,17 @@ module _ (w : Wiring) (wiring : IsWiring w) (s : State) (sound : IsSoundState w 
       path = IsPath-append w (item_on s p) last.item last.next hops (last ∷ []) way (refl, hop, refl, refl)
 
       holds_up : HoldsUp w x all
-      holds_up = inr (item_on s p, own_first, inr (record {
-        way = hops;
-        last = last;
-        are = refl;
-        leads = way;
-        to_bare = record { hop = hop; bare = bare; next = refl };
-      }))
+      holds_up = inr (
+        item_on s p,
+        own_first,
+        inr (record {
+          way = hops;
+          last = last;
+          are = refl;
+          leads = way;
+          to_bare = record { hop = hop; bare = bare; next = refl };
+        }),
+      )
 
       all_apart : Apart (lanes_from w all)
       all_apart = Apart-hop w hops last leads.apart
@@ -461,30 +471,30 @@ module _ (w : Wiring) (wiring : IsWiring w) (s : State) (sound : IsSoundState w 
       beside : (i : ℕ) → In i (pending_for w x all) → IsBeside h.flush.item qs i
       beside i in_once = elim (In-append i (named_beside x all) (flat_map (pending_beside w) all)
           (In-once i (named_beside x all ++ flat_map (pending_beside w) all) in_once)) [
-        | inl named ↦ beside_named x left rescuer last.next all path some h.flush.item qs (inr first_left) i named
-        | inr later ↦ elim (In-flat_append (pending_beside w) i hops (last ∷ []) later) [
-          | inl before ↦ (
-              let g = pending_hop w hops i before in
-              let to : In (lane_of w g.0.flush.item) qs =
-              elim (next_left p q hops leads (own_item q on busy) g.0 g.1) [
-                | inl there ↦ inr (before_left (lane_of w g.0.flush.item) there)
-                | inr end ↦ inr (subst (λ (r : ℕ). In r (lanes_from w all)) (sym end) last_left)
-              ] in
-              beside_target g.0 (All-contains IsOnWay hops g.0 leads.each g.1) h.flush.item qs to i g.2
-              )
-          | inr here ↦ (
-              let same : i ≡ h.flush.item =
-              elim (In-append i (pending_beside w last) [] here) [
-                | inl is_target ↦ pending_target w last i is_target
-                | inr none ↦ absurd none
-              ] in
-              record {
-                on = inl (ap (lane_of w) same);
-                kind = inr ((λ has. bare (subst (λ (k : ℕ). HasRescuer w (lane_of w k)) same has)), same);
-              }
-              )
-        ]
-      ]
+            | inl named ↦ beside_named x left rescuer last.next all path some h.flush.item qs (inr first_left) i named
+            | inr later ↦ elim (In-flat_append (pending_beside w) i hops (last ∷ []) later) [
+              | inl before ↦ (
+                  let g = pending_hop w hops i before in
+                  let to : In (lane_of w g.0.flush.item) qs =
+                  elim (next_left p q hops leads (own_item q on busy) g.0 g.1) [
+                    | inl there ↦ inr (before_left (lane_of w g.0.flush.item) there)
+                    | inr end ↦ inr (subst (λ (r : ℕ). In r (lanes_from w all)) (sym end) last_left)
+                  ] in
+                  beside_target g.0 (All-contains IsOnWay hops g.0 leads.each g.1) h.flush.item qs to i g.2
+                  )
+              | inr here ↦ (
+                  let same : i ≡ h.flush.item =
+                  elim (In-append i (pending_beside w last) [] here) [
+                    | inl is_target ↦ pending_target w last i is_target
+                    | inr none ↦ absurd none
+                  ] in
+                  record {
+                    on = inl (ap (lane_of w) same);
+                    kind = inr ((λ has. bare (subst (λ (k : ℕ). HasRescuer w (lane_of w k)) same has)), same);
+                  }
+                  )
+            ]
+          ]
 
       steps : walk_steps all (pending_for w x all) ≤ weight s.lanes
       steps =
@@ -568,26 +578,34 @@ module _ (w : Wiring) (wiring : IsWiring w) (s : State) (sound : IsSoundState w 
 -- the same of a run, with any number of helpers: these change neither lanes nor flushes
 HoldsUp-without : (w : Wiring) (n x : ℕ) (hops : List Hop) → HoldsUp (with_helpers w n) x hops → HoldsUp w x hops
 HoldsUp-without w n x hops (inl none) = inl none
-HoldsUp-without w n x hops (inr (first, lane, inl meets)) = inr (first, lane, inl (record {
-  way = meets.way;
-  round = meets.round;
-  at = meets.at;
-  are = meets.are;
-  leads = IsPath-without w n first meets.way meets.at meets.leads;
-  some = meets.some;
-  goes_round = IsPath-without w n meets.at meets.round meets.at meets.goes_round;
-}))
-HoldsUp-without w n x hops (inr (first, lane, inr meets)) = inr (first, lane, inr (record {
-  way = meets.way;
-  last = meets.last;
-  are = meets.are;
-  leads = IsPath-without w n first meets.way meets.last.item meets.leads;
-  to_bare = record {
-    hop = IsHop-without w n meets.last meets.to_bare.hop;
-    bare = meets.to_bare.bare;
-    next = meets.to_bare.next;
-  };
-}))
+HoldsUp-without w n x hops (inr (first, lane, inl meets)) = inr (
+  first,
+  lane,
+  inl (record {
+    way = meets.way;
+    round = meets.round;
+    at = meets.at;
+    are = meets.are;
+    leads = IsPath-without w n first meets.way meets.at meets.leads;
+    some = meets.some;
+    goes_round = IsPath-without w n meets.at meets.round meets.at meets.goes_round;
+  }),
+)
+HoldsUp-without w n x hops (inr (first, lane, inr meets)) = inr (
+  first,
+  lane,
+  inr (record {
+    way = meets.way;
+    last = meets.last;
+    are = meets.are;
+    leads = IsPath-without w n first meets.way meets.last.item meets.leads;
+    to_bare = record {
+      hop = IsHop-without w n meets.last meets.to_bare.hop;
+      bare = meets.to_bare.bare;
+      next = meets.to_bare.next;
+    };
+  }),
+)
 
 pub walk_for_stuck : (w : Wiring) (named : List ℕ) (n : ℕ) (steps : List Step) → IsWiring w
     → EndsStuckFor w named n steps
@@ -599,8 +617,7 @@ walk_for_stuck w named n steps wiring (run, stuck) =
     let sound = IsSoundState-end_of v steps run in
     let is = found_for v (IsWiring-with_helpers w n wiring) s sound stuck.no_step stuck.item stuck.left in
     let own = sound.own_lane stuck.left.lane stuck.left.entry stuck.left.unfinished in
-    let few : weight s.lanes ≤ length steps = weight-end_of v steps in
-    (
+    let few : weight s.lanes ≤ length steps = weight-end_of v steps in (
       stuck.item,
       is.0,
       record {

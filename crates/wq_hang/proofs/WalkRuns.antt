@@ -1,5 +1,6 @@
 -- The run of a walk that meets no lane twice is a run, and ends stuck.
-use Rattle.std.proofs.Common.{◌≡◌, ◌≢◌, ℕ, zero, suc, ◌<◌, ◌⊎◌, inl, inr, Bool, true, false, not, eqb, List, [], ◌∷◌, ◌++◌, length, map, Some, None, refl, sym, ap, subst, ◌∙◌, arith}
+use Rattle.std.proofs.Common.{◌≡◌, ◌≢◌, ℕ, zero, suc, ◌<◌, ◌⊎◌, inl, inr, Bool, true, false, not, eqb, List, [], ◌∷◌}
+use Rattle.std.proofs.Common.{◌++◌, length, map, Some, None, refl, sym, ap, subst, ◌∙◌, arith}
 use Rattle.std.specs.Prelude.{AllPairs, Contains, flat_map, find, option_map, slice_get}
 use Rattle.std.specs.List.{All}
 use Rattle.std.proofs.lemmas.Bool.{cond-true, eq-eqb, false_from_ne_true}
@@ -11,11 +12,15 @@ use Rattle.wq_core.specs.declared.entry.Entry.{Entry}
 use Rattle.wq_core.specs.declared.entry.Waiting.{Waiting}
 use Rattle.wq_core.specs.declared.entry.Running.{Running}
 use Rattle.wq_core.specs.declared.step.Step.{Step}
-use Rattle.wq_core.specs.declared.step.Step.TheVariants.{Queue, Cancel, Start, Wait, Over, WaitAll, OverAll, Finish, Help}
-use Rattle.wq_core.specs.declared.step.HelpStep.TheVariants.{Start as DoStart, Wait as DoWait, WaitAll as DoWaitAll, Over as DoOver, OverAll as DoOverAll, Finish as DoFinish}
+use Rattle.wq_core.specs.declared.step.Step.TheVariants.{Queue, Cancel, Start, Wait, Over, WaitAll, OverAll, Finish}
+use Rattle.wq_core.specs.declared.step.Step.TheVariants.{Help}
+use Rattle.wq_core.specs.declared.step.HelpStep.TheVariants.{Start as DoStart, Wait as DoWait, WaitAll as DoWaitAll}
+use Rattle.wq_core.specs.declared.step.HelpStep.TheVariants.{Over as DoOver, OverAll as DoOverAll, Finish as DoFinish}
 use Rattle.wq_core.specs.Wiring.{Wiring, IsWiring, HasRescuer, items, lane_of, declared_by}
-use Rattle.wq_core.specs.State.{Lane, State, idle_lane, lane_at, with_lane, empty_state, run_by, RunsIn, is_running, HasPending, IsUnfinishedOn}
-use Rattle.wq_core.specs.Rules.{MayWait, MayBeOver, MayStartFirst, Lawful, effect, wait_of, begun, waiting_for, with_started, with_wait}
+use Rattle.wq_core.specs.State.{Lane, State, idle_lane, lane_at, with_lane, empty_state, run_by, RunsIn, is_running}
+use Rattle.wq_core.specs.State.{HasPending, IsUnfinishedOn}
+use Rattle.wq_core.specs.Rules.{MayWait, MayBeOver, MayStartFirst, Lawful, effect, wait_of, begun, waiting_for}
+use Rattle.wq_core.specs.Rules.{with_started, with_wait}
 use Rattle.wq_core.specs.Runs.{after, end_of, IsRun, IsRunFrom, IsForcedStep}
 use Rattle.wq_core.specs.Held.{IsSoundState}
 use Rattle.wq_core.specs.Deadlock.{IsStuck}
@@ -23,16 +28,19 @@ use Rattle.wq_core.specs.MustGoOn.{IsStuckFor}
 use Rattle.wq_core.proofs.Contexts.{is_running-some, found-pending, next-may, MayStart-first}
 use Rattle.wq_core.proofs.Helpers.{OnlyRescuersRun, only_rescuers-end_of}
 use Rattle.wq_core.proofs.Knots.{unfinished-started, unfinished-going_on}
-use Rattle.wq_core.proofs.LaneLemmas.{lane_at-with_lane_same, lane_at-with_lane_other, lane_at-empty_state, idle_lane-unfinished, Contains-filter, AllPairs-nil}
+use Rattle.wq_core.proofs.LaneLemmas.{lane_at-with_lane_same, lane_at-with_lane_other, lane_at-empty_state}
+use Rattle.wq_core.proofs.LaneLemmas.{idle_lane-unfinished, Contains-filter, AllPairs-nil}
 use Rattle.wq_core.proofs.Plays.{after-append, IsRunFrom-append, no_help-queued}
-use Rattle.wq_core.proofs.Queued.{pending_items, on_lane, pending_items-all_queued, running-all_queued, IsRunFrom-queued}
+use Rattle.wq_core.proofs.Queued.{pending_items, on_lane, pending_items-all_queued, running-all_queued}
+use Rattle.wq_core.proofs.Queued.{IsRunFrom-queued}
 use Rattle.wq_core.proofs.QueueOrder.{first_on_lane}
 use Rattle.wq_core.proofs.Sound.{IsSoundState-end_of}
 use Rattle.wq_core.proofs.WaitSteps.{held_back-holder}
 use Rattle.wq_core.proofs.Wirings.{lane_of-within}
 use Rattle.wq_hang.specs.declared.hop.Hop.{Hop}
 use Rattle.wq_hang.specs.Walk.{moves_of, run_of_walk}
-use Rattle.wq_hang.proofs.Apart.{Avoids, Apart, In, cases_In, not_in, In-Contains, Contains-In, AllPairs-Apart, In-append_left}
+use Rattle.wq_hang.proofs.Apart.{Avoids, Apart, In, cases_In, not_in, In-Contains, Contains-In, AllPairs-Apart}
+use Rattle.wq_hang.proofs.Apart.{In-append_left}
 use Rattle.wq_hang.proofs.LeastWalks.{lanes_from}
 
 -- ---- lists
@@ -49,7 +57,8 @@ lane_In w [] h (k, lt, at) = omega arith
 lane_In w (g ∷ hops) h (zero, lt, at) = inl (ap (λ (x : Hop). lane_of w x.item) (sym at))
 lane_In w (g ∷ hops) h (suc k, lt, at) = inr (lane_In w hops h (k, omega arith, at))
 
-pub In_lane : (w : Wiring) (hops : List Hop) (q : ℕ) → In q (lanes_from w hops) → (h : Hop) × Contains hops h × (lane_of w h.item ≡ q)
+pub In_lane : (w : Wiring) (hops : List Hop) (q : ℕ) → In q (lanes_from w hops)
+    → (h : Hop) × Contains hops h × (lane_of w h.item ≡ q)
 In_lane w [] q there = absurd there
 In_lane w (g ∷ hops) q (inl same) = (g, (0, omega arith, refl), sym same)
 In_lane w (g ∷ hops) q (inr later) = let found = In_lane w hops q later in (found.0, (suc found.1.0, omega (arith, found.1.1), found.1.2), found.2)

@@ -1,5 +1,6 @@
 -- A search for ways while it goes on, when it is over, and the ways that it found.
-use Rattle.std.proofs.Common.{◌≡◌, ◌≢◌, ℕ, zero, suc, ◌+◌, ◌*◌, ◌<◌, ◌≤◌, ◌⊎◌, inl, inr, Bool, true, false, eqb, List, []}
+use Rattle.std.proofs.Common.{◌≡◌, ◌≢◌, ℕ, zero, suc, ◌+◌, ◌*◌, ◌<◌, ◌≤◌, ◌⊎◌, inl, inr, Bool, true, false, eqb, List}
+use Rattle.std.proofs.Common.{[]}
 use Rattle.std.proofs.Common.{◌∷◌, ◌++◌, length, get_or, reverse, take, refl, sym, ap, subst, ◌∙◌, arith}
 use Rattle.std.specs.Prelude.{Contains, slice_index, slice_index_or, if◌then◌else◌, ◌||◌, replicate}
 use Rattle.std.specs.List.{All}
@@ -182,8 +183,7 @@ module _ (w : Wiring) (starts : List ℕ) (limit : ℕ) where
         let todo = todo_below s r i so_far taken in
         let reach : IsReachFrom w starts limit r = IsReachFrom-taken wiring on items_on s r i taken so_far.reach in
         let rescuer : HasRescuer w (lane_of w i) = so_far.reach.rescuer i todo.0 todo.1 in
-        let grown = GrownFrom-expand w starts limit wiring on items_on i r reach rescuer in
-        (
+        let grown = GrownFrom-expand w starts limit wiring on items_on i r reach rescuer in (
           subst (AreWaysSoFar w starts limit) (sym is) (record {
             reach = grown.0.reach;
             begun = All-weaker (λ j. (slice_index s.costs j ≡ 0) × (slice_index s.lane_costs (lane_of w j) ≤ 1))
@@ -233,8 +233,7 @@ module _ (w : Wiring) (starts : List ℕ) (limit : ℕ) where
               | inr still ↦ inl (later.kept j still)
             ]
         followed later led j (inr other) (inr done) (inl stays) = inr (λ t there rescuer.
-            let was = done t there rescuer in
-            (
+            let was = done t there rescuer in (
               omega (arith, was.0, stays, same j, same t.item, later.less t.item),
               omega (
                 arith,
@@ -352,8 +351,7 @@ module _ (w : Wiring) (starts : List ℕ) (limit : ℕ) (s : Reach) (reach : IsR
       let is : IsReachedFrom w s at h = subst (IsReachedFrom w s at) (sym (same h)) (by_hop at hops h trace more) in
       let turned : reverse (hops ++ (h ∷ [])) ≡ h ∷ reverse hops = reverse-append hops (h ∷ []) in
       let on : IsPath w h.next (reverse hops) item =
-      subst (λ (i : ℕ). IsPath w i (reverse hops) item) (sym is.next) trace.path in
-      (
+      subst (λ (i : ℕ). IsPath w i (reverse hops) item) (sym is.next) trace.path in (
         record {
           below = declared-item w h.item h.flush is.hop.declared;
           path = subst (λ (l : List Hop). IsPath w h.item l item) (sym turned) (refl, is.hop, is.on, on);

@@ -1,5 +1,6 @@
 -- A search for ways: each step keeps what holds at each time, and no cost rises.
-use Rattle.std.proofs.Common.{◌≡◌, ◌≢◌, ℕ, zero, suc, ◌+◌, ◌*◌, ◌<◌, ◌≤◌, ◌⊎◌, inl, inr, Bool, true, false, ltb, List, []}
+use Rattle.std.proofs.Common.{◌≡◌, ◌≢◌, ℕ, zero, suc, ◌+◌, ◌*◌, ◌<◌, ◌≤◌, ◌⊎◌, inl, inr, Bool, true, false, ltb, List}
+use Rattle.std.proofs.Common.{[]}
 use Rattle.std.proofs.Common.{◌∷◌, length, get_or, set, refl, sym, ap, subst, ◌∙◌, arith}
 use Rattle.std.specs.Prelude.{Contains, fold, slice_index, slice_index_or, if◌then◌else◌}
 use Rattle.std.proofs.lemmas.Bool.{cases_eq, ltb-true, ltb-false, false≢true}
@@ -151,8 +152,11 @@ module _ (w : Wiring) (starts : List ℕ) (limit : ℕ) where
       → ((j ≡ i) × (slice_index (begun near cost s i).costs j ≡ cost))
       ⊎ ((j ≢ i) × (slice_index (begun near cost s i).costs j ≡ slice_index s.costs j))
   begun_at near cost s i j within = elim (cases_eq j i) [
-    | inl same ↦ inl (same, subst (λ (k : ℕ). get_or (set s.costs i cost) k 0 ≡ cost) (sym same)
-        (get_or-set_same s.costs i cost 0 within))
+    | inl same ↦ inl (
+      same,
+      subst (λ (k : ℕ). get_or (set s.costs i cost) k 0 ≡ cost) (sym same)
+          (get_or-set_same s.costs i cost 0 within),
+    )
     | inr other ↦ inr (other, get_or-set_other s.costs i j cost 0 other)
   ]
 
@@ -334,8 +338,7 @@ module _ (w : Wiring) (starts : List ℕ) (limit : ℕ) where
       let r : Reach = reach near cost s (hop_to i t x) in
       let rest = GrownFrom-all near cost i t js r one.0.reach
       (λ e later j there. goes e (Later-both s r e one.0.later later) j (Contains-later x js j there)) in
-      let end : Reach = reach_all near cost i t js r in
-      (
+      let end : Reach = reach_all near cost i t js r in (
         GrownFrom-both s r end one.0 rest.0,
         first_too r end x js cost rest.0.later one.1 rest.1,
       )
@@ -362,8 +365,7 @@ module _ (w : Wiring) (starts : List ℕ) (limit : ℕ) where
       let one = GrownFrom-begin_at false 1 s x is here.below here.rescuer here.begins in
       let r : Reach = begin_at false 1 s x in
       let rest = GrownFrom-begin_all js r one.0.reach (λ j there. may j (Contains-later x js j there)) in
-      let end : Reach = begin_all js r in
-      (
+      let end : Reach = begin_all js r in (
         GrownFrom-both s r end one.0 rest.0,
         first_too r end x js 1 rest.0.later one.1 rest.1,
       )
@@ -392,8 +394,10 @@ module _ (w : Wiring) (starts : List ℕ) (limit : ℕ) where
             }
 
         by : (b : Bool) → ltb 1 (slice_index s.lane_costs (lane_of w i)) ≡ b
-            → GrownFrom s (if b then with_lane_cost (lane_of w i) 1 (begin_all (slice_index_or on (lane_of w i) []) s) else s)
-            × (slice_index (if b then with_lane_cost (lane_of w i) 1 (begin_all (slice_index_or on (lane_of w i) []) s) else s).lane_costs (lane_of w i) ≤ 1)
+            → GrownFrom s (if b then with_lane_cost (lane_of w i) 1 (begin_all (slice_index_or on (lane_of w i) []) s)
+            else s)
+            × (slice_index (if b then with_lane_cost (lane_of w i) 1
+            (begin_all (slice_index_or on (lane_of w i) []) s) else s).lane_costs (lane_of w i) ≤ 1)
         by false test = (GrownFrom-same s is, ltb-false 1 (slice_index s.lane_costs (lane_of w i)) test)
         by true test =
             let all = GrownFrom-begin_all js s is may in
@@ -434,8 +438,10 @@ module _ (w : Wiring) (starts : List ℕ) (limit : ℕ) where
 
     GrownFrom-lane : (near : Bool) (cost i : ℕ) (t : Target) (s : Reach) → IsReachFrom w starts limit s
         → LeadsOnFrom s i t cost → t.item < items w
-        → GrownFrom s (reach_lane near (cost + lane_step t) i t (lane_of w t.item) (slice_index_or on (lane_of w t.item) []) s)
-        × (slice_index (reach_lane near (cost + lane_step t) i t (lane_of w t.item) (slice_index_or on (lane_of w t.item) []) s).lane_costs (lane_of w t.item) ≤ cost + lane_step t)
+        → GrownFrom s (reach_lane near (cost + lane_step t) i t (lane_of w t.item)
+        (slice_index_or on (lane_of w t.item) []) s)
+        × (slice_index (reach_lane near (cost + lane_step t) i t (lane_of w t.item)
+        (slice_index_or on (lane_of w t.item) []) s).lane_costs (lane_of w t.item) ≤ cost + lane_step t)
     GrownFrom-lane near cost i t s is leads below =
         by (ltb (cost + lane_step t) (slice_index s.lane_costs q)) refl
       where
@@ -450,7 +456,8 @@ module _ (w : Wiring) (starts : List ℕ) (limit : ℕ) where
 
         by : (b : Bool) → ltb (cost + lane_step t) (slice_index s.lane_costs (lane_of w t.item)) ≡ b
             → GrownFrom s (if b then with_lane_cost (lane_of w t.item) (cost + lane_step t) all_of else s)
-            × (slice_index (if b then with_lane_cost (lane_of w t.item) (cost + lane_step t) all_of else s).lane_costs (lane_of w t.item) ≤ cost + lane_step t)
+            × (slice_index (if b then with_lane_cost (lane_of w t.item) (cost + lane_step t) all_of else s).lane_costs
+            (lane_of w t.item) ≤ cost + lane_step t)
         by false test =
             (GrownFrom-same s is, ltb-false (cost + lane_step t) (slice_index s.lane_costs (lane_of w t.item)) test)
         by true test =
@@ -530,8 +537,7 @@ module _ (w : Wiring) (starts : List ℕ) (limit : ℕ) where
               rescuer = rescuer;
               to = to;
               from = omega (arith, from, one.0.later.less i);
-            }) below in
-            (
+            }) below in (
               GrownFrom-both s r (to_both w on limit i cost s t) one.0 two.0,
               λ rescued. (omega (arith, one.1, two.0.later.less t.item), two.1),
             )
@@ -555,16 +561,14 @@ module _ (w : Wiring) (starts : List ℕ) (limit : ℕ) where
         let rest = GrownFrom-follows i cost ts r one.0.reach rescuer
         (λ t there. declared t (Contains-later x ts t there))
         (omega (arith, from, one.0.later.less i)) in
-        let end : Reach = fold (follow_below w on limit i cost) r ts in
-        (
+        let end : Reach = fold (follow_below w on limit i cost) r ts in (
           GrownFrom-both s r end one.0 rest.0,
           λ t there. each end (led_later r end rest.0.later one.1) rest.1 t there,
         )
       where
         led_later : (r end : Reach) → Later r end → IsLed r cost x → IsLed end cost x
         led_later r end later led rescued =
-            let is = led rescued in
-            (
+            let is = led rescued in (
               omega (arith, is.0, later.less x.item),
               omega (arith, is.1, later.lanes_less (lane_of w x.item)),
             )

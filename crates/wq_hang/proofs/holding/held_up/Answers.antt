@@ -9,7 +9,8 @@ use Rattle.wq_hang.specs.ShortestFor.{IsFewestFor}
 use Rattle.wq_hang.specs.Walk.{AreFirstAlike, ArePlacesApart, needs, run_of_walk}
 use Rattle.wq_hang.specs.WalkFor.{IsWalkFor, IsLeastWalkFor, pending_for}
 use Rattle.wq_hang.proofs.SomeLanes.{IsWiring-assigned, ArePlacesApart-assigned, same_bare}
-use Rattle.wq_hang.proofs.FewestFor.{IsFewestFor-least, IsSafeFor-no_walk, one_each_for, walk_for_items, walk_for_targets}
+use Rattle.wq_hang.proofs.FewestFor.{IsFewestFor-least, IsSafeFor-no_walk, one_each_for, walk_for_items}
+use Rattle.wq_hang.proofs.FewestFor.{walk_for_targets}
 use Rattle.wq_hang.proofs.holding.held_up.Goals as goal
 
 pub run_of_walk-requires : goal.run_of_walk-requires
@@ -75,8 +76,7 @@ returns g c =
     let same : c.new-waits.result ≡ v =
     c.new-waits.ensures ∙ same_bare c.in_ok-core.core.wiring d ws c.bare.result.now of bare ∙ of in
     let none : (x : ℕ) (hops : List Hop) → ¬ IsWalkFor c.new-waits.result named x hops =
-    rw c.in-None.is at c.in_ok-walk.ensures.none in
-    (
+    rw c.in-None.is at c.in_ok-walk.ensures.none in (
       is.assignment.assignment,
       IsSafeFor-no_walk v named (IsWiring-assigned a is)
           (λ x hops walk. none x hops (subst (λ (k : Wiring). IsWalkFor k named x hops) (sym same) walk)),

@@ -19,8 +19,12 @@ returns-then-eq-2-clause-some g c =
     let named = c.args.named.now in
     let first : ℕ = c.args.first in
     let x : ℕ = c.item-item-in-loop-item-2.result in
-    let there : Contains named x = (c.loop-item-2.item-index, c.loop-item-2-test.true, sym c.item-item-in-loop-item-2.is) in
-    (
+    let there : Contains named x = (
+      c.loop-item-2.item-index,
+      c.loop-item-2-test.true,
+      sym
+          c.item-item-in-loop-item-2.is,
+    ) in (
       there,
       sym c.lane_of.ensures.lane
           ∙ eqb-true c.lane_of.result c.lane_of-lane.result (sym c.eq-in-loop-item-2.ensures ∙ c.if-eq-2.true)

@@ -1,4 +1,5 @@
-use Rattle.std.proofs.Common.{◌≡◌, ◌+◌, ◌<◌, ◌⊎◌, inl, inr, ℕ, List, [], length, get_or, replicate, set, take, refl, sym, ap, subst, ◌∙◌}
+use Rattle.std.proofs.Common.{◌≡◌, ◌+◌, ◌<◌, ◌⊎◌, inl, inr, ℕ, List, [], length, get_or, replicate, set, take, refl}
+use Rattle.std.proofs.Common.{sym, ap, subst, ◌∙◌}
 use Rattle.std.proofs.Common.{false, arith, rules}
 use Rattle.std.specs.Prelude.{Contains, slice_index}
 use Rattle.std.proofs.lemmas.Bool.{cases_lt, both_ways}
@@ -7,7 +8,8 @@ use Rattle.wq_items.specs.declared.target.Target.{Target}
 use Rattle.wq_core.specs.Wiring.{items, declared_by}
 use Rattle.wq_hang.proofs.Declared.{declared-item, declared-target}
 use Rattle.wq_hang.proofs.FlushesSoFar.{IsBefore, before_first, before_more, before_all}
-use Rattle.wq_hang.proofs.Awaited.{AreLatestOf, AreLatestOf-none, AreLatestOf-weaker, AreLatestOf-next, AreLatest-all, set_rises}
+use Rattle.wq_hang.proofs.Awaited.{AreLatestOf, AreLatestOf-none, AreLatestOf-weaker, AreLatestOf-next, AreLatest-all}
+use Rattle.wq_hang.proofs.Awaited.{set_rises}
 use Rattle.wq_hang.proofs.pending.latest.Goals as goal
 use Rattle.wq_hang.proofs.pending.latest.Goals.{
   then-not-flush+then-cost-index,

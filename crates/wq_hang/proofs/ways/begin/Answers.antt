@@ -1,4 +1,5 @@
-use Rattle.std.proofs.Common.{◌≡◌, ◌+◌, ◌<◌, ◌⊎◌, inl, inr, ℕ, List, [], length, get_or, replicate, take, sym, ap, subst}
+use Rattle.std.proofs.Common.{◌≡◌, ◌+◌, ◌<◌, ◌⊎◌, inl, inr, ℕ, List, [], length, get_or, replicate, take, sym, ap}
+use Rattle.std.proofs.Common.{subst}
 use Rattle.std.proofs.Common.{◌∙◌, arith}
 use Rattle.std.specs.Prelude.{Contains, slice_index_or}
 use Rattle.std.proofs.lemmas.List.{take_all}
@@ -50,7 +51,8 @@ loop-item-preserved g c =
       | inr same ↦ inr (c.item-item.is ∙ same)
     ] in
     subst (AreBegun w starts limit (take (k + 1) starts)) (sym c.in_ok-start.ensures)
-    (AreBegun-start w starts limit (take k starts) (take (k + 1) starts) c.loop-item.search i c.loop-item.invariant there
+    (AreBegun-start w starts limit (take k starts) (take (k + 1) starts) c.loop-item.search i c.loop-item.invariant
+    there
     is.0 is.1 either)
 
 pub loop-item-2-init : goal.loop-item-2-init

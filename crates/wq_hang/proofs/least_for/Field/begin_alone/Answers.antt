@@ -94,8 +94,13 @@ returns-clause-others g c =
     (λ few. (t : ℕ) → Contains few.items t ⊎ NoneAlone f best t)
     (λ few all t. elim (cases_lt t (items f.wiring)) [
       | inr past ↦ inr (NoneAlone-past c.self.inside.on.now f field wiring best c.requires.most c.requires.round t past)
-      | inl below ↦ elim (c.loop-i.invariant.1 t (omega (arith, below, c.loop-i-test.false, c.items-i-end.ensures.items,
-      ap items same))) [
+      | inl below ↦ elim (c.loop-i.invariant.1 t (omega (
+        arith,
+        below,
+        c.loop-i-test.false,
+        c.items-i-end.ensures.items,
+        ap items same,
+      ))) [
         | inl there ↦ inl (all t there)
         | inr none ↦ inr none
       ]

@@ -1,4 +1,5 @@
-use Rattle.std.proofs.Common.{◌≡◌, ◌+◌, ◌-◌, ◌<◌, ◌≤◌, ◌⊎◌, inl, inr, ℕ, List, Some, length, take, get_or, refl, sym, ap, subst}
+use Rattle.std.proofs.Common.{◌≡◌, ◌+◌, ◌-◌, ◌<◌, ◌≤◌, ◌⊎◌, inl, inr, ℕ, List, Some, length, take, get_or, refl, sym}
+use Rattle.std.proofs.Common.{ap, subst}
 use Rattle.std.proofs.Common.{◌∙◌, arith}
 use Rattle.std.specs.Prelude.{Contains, slice_index}
 use Rattle.std.proofs.lemmas.List.{get_or_default}
@@ -87,8 +88,7 @@ loop-i-preserved g c =
         | else-cost-best-via-else-cost-best o ↦
             NoneAlone-near on f field wiring best so_far.0.most none_from t (omega (arith, cost, o.if-cost-best.false))
       ]
-    ] in
-    (
+    ] in (
       so_far.0,
       so_far.1,
       NoneAlone-next f (take k few) (take (k + 1) few) best t so_far.2 none either,

@@ -17,11 +17,13 @@ may_be_better-requires g c =
     let near = c.args.near.now in
     let from : ℕ = c.loop-from.from in
     let n : ℕ = c.min-to.result - from in
-    record { few = All-weaker (λ i. (i < length costs) × (slice_index costs i < c.args.best.now.cost)) (λ i. i < length costs)
-    (λ i is. is.0) (take n (drop from near))
-    (All-take (λ i. (i < length costs) × (slice_index costs i < c.args.best.now.cost)) n (drop from near)
-    (All-drop (λ i. (i < length costs) × (slice_index costs i < c.args.best.now.cost)) from near
-    c.requires.near.within)) }
+    record {
+      few = All-weaker (λ i. (i < length costs) × (slice_index costs i < c.args.best.now.cost)) (λ i. i < length costs)
+          (λ i is. is.0) (take n (drop from near))
+          (All-take (λ i. (i < length costs) × (slice_index costs i < c.args.best.now.cost)) n (drop from near)
+          (All-drop (λ i. (i < length costs) × (slice_index costs i < c.args.best.now.cost)) from near
+          c.requires.near.within));
+    }
 
 pub look_from-requires-clause-few : goal.look_from-requires-clause-few
 look_from-requires-clause-few g c =
@@ -47,8 +49,7 @@ loop-from-preserved-in_ok-look_from g c =
     let new = c.look_from.new.best in
     let so_far = c.loop-from.invariant in
     let ends = c.in_ok-look_from.ensures in
-    let le : from ≤ to = omega (arith, c.min-to.ensures, c.loop-from-test.true) in
-    (
+    let le : from ≤ to = omega (arith, c.min-to.ensures, c.loop-from-test.true) in (
       omega (arith, c.min-to.ensures),
       ends.best,
       omega (arith, ends.less, so_far.2),
@@ -66,8 +67,7 @@ loop-from-preserved g c =
     let to : ℕ = c.min-to.result in
     let old = c.loop-from.best in
     let so_far = c.loop-from.invariant in
-    let le : from ≤ to = omega (arith, c.min-to.ensures, c.loop-from-test.true) in
-    (
+    let le : from ≤ to = omega (arith, c.min-to.ensures, c.loop-from-test.true) in (
       omega (arith, c.min-to.ensures),
       so_far.1,
       so_far.2,

@@ -32,8 +32,7 @@ loop-from-preserved g c =
     let from : ℕ = c.loop-from.from in
     let to : ℕ = c.min-to.result in
     let so_far = c.loop-from.invariant in
-    let ends = c.in_ok-look_from_alone.ensures in
-    (
+    let ends = c.in_ok-look_from_alone.ensures in (
       omega (arith, c.min-to.ensures),
       ends.best,
       omega (arith, ends.less, so_far.2),

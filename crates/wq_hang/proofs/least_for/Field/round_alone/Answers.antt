@@ -1,4 +1,5 @@
-use Rattle.std.proofs.Common.{◌≡◌, ◌+◌, ◌<◌, ◌≤◌, ◌⊎◌, inl, inr, ℕ, List, [], ◌∷◌, ◌++◌, Some, None, Option, length, get_or, take, refl}
+use Rattle.std.proofs.Common.{◌≡◌, ◌+◌, ◌<◌, ◌≤◌, ◌⊎◌, inl, inr, ℕ, List, [], ◌∷◌, ◌++◌, Some, None, Option, length}
+use Rattle.std.proofs.Common.{get_or, take, refl}
 use Rattle.std.proofs.Common.{eqb, sym, ap, subst, ◌∙◌, arith, true, false}
 use Rattle.std.specs.Prelude.{Contains, slice_index}
 use Rattle.std.specs.List.{All}
@@ -191,8 +192,7 @@ way_to-requires-clause-reached g c =
     let w = c.self.inside.waits.now in
     let h : Hop = c.in-Some.last in
     let found = closing_found w c.args.item c.args.limit c.search_ways.new.search c.loop-i.least c.loop-i.last h
-    c.loop-i.invariant.found c.in-Some.is in
-    (
+    c.loop-i.invariant.found c.in-Some.is in (
       c.args.item ∷ [],
       c.args.limit,
       c.in_ok-search_ways.ensures.reach,
@@ -209,10 +209,10 @@ returns-in_ok-push-in-Some-clause-some g c =
     let way : List Hop = c.in_ok-hops-in-Some.hops.items in
     let found = closing_found w t c.args.limit s c.loop-i.least c.loop-i.last h c.loop-i.invariant.found c.in-Some.is in
     let is : IsWay w (t ∷ []) s h.item way =
-    c.in_ok-hops-in-Some.ensures (t ∷ []) c.args.limit c.in_ok-search_ways.ensures.reach (omega (arith, found.1, found.2)) in
+    c.in_ok-hops-in-Some.ensures (t ∷ []) c.args.limit c.in_ok-search_ways.ensures.reach
+    (omega (arith, found.1, found.2)) in
     let closed = IsRoundAlone-closed w t s h way found.0 is c.first_or-last.result (λ first path.
-    c.first_or-last.ensures ∙ ap (first_or h.item) c.as_slice.ensures.value ∙ first_of_way w first h.item way path) in
-    (
+    c.first_or-last.ensures ∙ ap (first_or h.item) c.as_slice.ensures.value ∙ first_of_way w first h.item way path) in (
       found.2,
       closed.0,
       subst (λ v. IsRoundAlone v t c.push.new.self.items closed.0) wiring

@@ -1,4 +1,5 @@
-use Rattle.std.proofs.Common.{◌≡◌, ◌+◌, ◌<◌, ◌≤◌, ◌⊎◌, inl, inr, ℕ, List, [], Some, None, length, get_or, take, refl, sym, ap}
+use Rattle.std.proofs.Common.{◌≡◌, ◌+◌, ◌<◌, ◌≤◌, ◌⊎◌, inl, inr, ℕ, List, [], Some, None, length, get_or, take, refl}
+use Rattle.std.proofs.Common.{sym, ap}
 use Rattle.std.proofs.Common.{subst, ◌∙◌, arith, true, false}
 use Rattle.std.specs.Prelude.{Contains, slice_index}
 use Rattle.std.proofs.lemmas.Bool.{both_ways, false≢true}
@@ -11,7 +12,8 @@ use Rattle.wq_hang.specs.Search.{hop_to, step}
 use Rattle.wq_hang.specs.EndsFor.{Field, EndsBare, IsBest, NoneBare}
 use Rattle.wq_hang.proofs.Declared.{declared-item, declared-target}
 use Rattle.wq_hang.proofs.FlushesSoFar.{IsBefore, before_first, before_more, before_all}
-use Rattle.wq_hang.proofs.EndsFound.{field_of, IsBest-is, IsBest-none, IsBest-bare, NoneBareOf, NoneBareOf-next, NoneBareOf-fewer}
+use Rattle.wq_hang.proofs.EndsFound.{field_of, IsBest-is, IsBest-none, IsBest-bare, NoneBareOf, NoneBareOf-next}
+use Rattle.wq_hang.proofs.EndsFound.{NoneBareOf-fewer}
 use Rattle.wq_hang.proofs.least_for.Field.to_bare.Goals as goal
 use Rattle.wq_hang.proofs.least_for.Field.to_bare.Goals.{
   then-all-best+then-not-has_rescuer,
@@ -44,8 +46,7 @@ pub loop-flush-init : goal.loop-flush-init
 loop-flush-init g c =
     let f : Field = field_of c.self.inside.waits.now c.self.inside.starts.now c.self.inside.ways.now
     c.self.inside.pending.now in
-    let i : ℕ = c.loop-i.i in
-    (
+    let i : ℕ = c.loop-i.i in (
       c.loop-i.invariant.0,
       NoneBareOf-fewer f (λ j t. j < i) (IsBefore i []) c.loop-i.best.cost (before_first i) c.loop-i.invariant.1,
     )
@@ -128,8 +129,7 @@ loop-i-preserved g c =
     let k : ℕ = c.loop-flush.flush-index in
     let flushes : List Target = c.flushes-flush-items.result.now in
     let are : flushes ≡ declared_by f.wiring i =
-    c.flushes-flush-items.ensures ∙ ap (declared_by f.wiring) c.new-item.ensures in
-    (
+    c.flushes-flush-items.ensures ∙ ap (declared_by f.wiring) c.new-item.ensures in (
       c.loop-flush.invariant.0,
       λ h is lt. c.loop-flush.invariant.1 h is
           (before_all f.wiring i k flushes are c.loop-flush-test.false h.item h.flush is.hop.declared lt),

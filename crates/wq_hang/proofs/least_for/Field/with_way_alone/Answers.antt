@@ -31,7 +31,12 @@ with_way-requires-clause-item g c =
     let field : IsField c.self.inside.on.now f = subst (IsField c.self.inside.on.now) c.self.view_is c.self.invariant in
     let h : Hop = c.in-Some.hop in
     let some : 0 < slice_index f.pending.costs c.args.item =
-    omega (arith, c.in-Some.ensures.some.0, ap (λ (k : Field). slice_index k.pending.costs c.args.item) c.self.view_is) in
+    omega (
+      arith,
+      c.in-Some.ensures.some.0,
+      ap (λ (k : Field). slice_index k.pending.costs c.args.item)
+          c.self.view_is,
+    ) in
     let is : h ≡ slice_index_or f.pending.by c.args.item h =
     c.in-Some.ensures.some.1 h ∙ ap (λ (k : Field). slice_index_or k.pending.by c.args.item h) c.self.view_is in
     (waits_from c.self.inside.on.now f field c.requires.0 c.args.item c.args.hops.items c.requires.1 h h c.requires.2
@@ -43,7 +48,12 @@ with_way-requires-clause-reached g c =
     let field : IsField c.self.inside.on.now f = subst (IsField c.self.inside.on.now) c.self.view_is c.self.invariant in
     let h : Hop = c.in-Some.hop in
     let some : 0 < slice_index f.pending.costs c.args.item =
-    omega (arith, c.in-Some.ensures.some.0, ap (λ (k : Field). slice_index k.pending.costs c.args.item) c.self.view_is) in
+    omega (
+      arith,
+      c.in-Some.ensures.some.0,
+      ap (λ (k : Field). slice_index k.pending.costs c.args.item)
+          c.self.view_is,
+    ) in
     let is : h ≡ slice_index_or f.pending.by c.args.item h =
     c.in-Some.ensures.some.1 h ∙ ap (λ (k : Field). slice_index_or k.pending.by c.args.item h) c.self.view_is in
     (waits_from c.self.inside.on.now f field c.requires.0 c.args.item c.args.hops.items c.requires.1 h h c.requires.2
@@ -65,7 +75,12 @@ returns g c = λ cost ends most.
     let hops : List Hop = c.args.hops.items in
     let all : List Hop = c.as_slice-3.result.now in
     let some : 0 < slice_index f.pending.costs c.args.item =
-    omega (arith, c.in-Some.ensures.some.0, ap (λ (k : Field). slice_index k.pending.costs c.args.item) c.self.view_is) in
+    omega (
+      arith,
+      c.in-Some.ensures.some.0,
+      ap (λ (k : Field). slice_index k.pending.costs c.args.item)
+          c.self.view_is,
+    ) in
     let is : h ≡ slice_index_or f.pending.by c.args.item h =
     c.in-Some.ensures.some.1 h ∙ ap (λ (k : Field). slice_index_or k.pending.by c.args.item h) c.self.view_is in
     let h_next : Hop = record h { next = next } in
@@ -78,11 +93,13 @@ returns g c = λ cost ends most.
     let led = subst (λ (l : List Hop). IfOk c.with_way.result (λ found. MatchOption found ⊥
     (λ walk. IsLedTo f h.item l walk.named walk.hops.items))) are c.with_way.ensures in
     IfOk-weaker c.with_way.result
-    (λ found. MatchOption found ⊥ (λ walk. IsLedTo f h.item (record h { next = next } ∷ hops) walk.named walk.hops.items))
+    (λ found. MatchOption found ⊥ (λ walk. IsLedTo f h.item (record h { next = next } ∷ hops) walk.named
+    walk.hops.items))
     (λ found. MatchOption found ⊥ (λ walk. IsWalkAt f cost walk.named walk.hops.items))
     (λ found of. match-weaker found
     (λ walk. IsLedTo f h.item (record h { next = next } ∷ hops) walk.named walk.hops.items)
     (λ walk. IsWalkAt f cost walk.named walk.hops.items)
-    (λ walk is_led. IsWalkAt-led c.self.inside.on.now f field cost c.args.item hops ends h h most some is next walk.named
+    (λ walk is_led. IsWalkAt-led c.self.inside.on.now f field cost c.args.item hops ends h h most some is next
+    walk.named
     walk.hops.items (c.first_or-hop.ensures ∙ ap (first_or h.next) c.as_slice.ensures.value) is_led) of)
     led
