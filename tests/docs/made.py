@@ -433,8 +433,8 @@ def completion(numbers, faults, words, directives, commands):
     counts = {}
     for row in commands:
         needed, others = arguments_of(row)
-        # (what has another argument, too, is written by hand)
-        if len(needed + others) == len(row["arguments"].split()):
+        # (a NAME is no file; what has yet another argument is written by hand)
+        if len(needed + others) == len(row["arguments"].replace("[NAME..]", "").split()):
             counts.setdefault(len(needed + others), []).append(row["command"])
     made = "".join(f"        {' | '.join(counts[count])}) files={count} ;;\n" for count in sorted(counts))
     parts.replace(r"^(?:        [a-z |]+\) files=\d ;;\n)+", made)
@@ -444,9 +444,9 @@ def completion(numbers, faults, words, directives, commands):
 # The forms of the arguments of commands, as variants of `FileForm` and `TailForm` in crates/wqplan/src/command_line.rt.
 FILE_FORMS = {
     "": "Nothing",
-    "[FILE]": "Input",
+    "[FILE] [FIXED]": "Input",
     "DECL": "One",
-    "DECL CERT": "Two Certificate",
+    "DECL CERT [FIXED]": "TwoOrThree Certificate",
     "DECL ASSIGN": "Two Assignment",
     "DECL [ASSIGN]": "OneOrTwo",
     "DECL ASSIGN RUN": "Three",

@@ -6,12 +6,13 @@
 ghost use Rattle.std.specs.Prelude.{◌≡◌, ◌∷◌, codes, map, option_map, ℕ, IfOk};
 ghost use Rattle.wq_diagnosis.specs.Diagnosis.{head, shown_lines, IsDiagnosis};
 ghost use Rattle.wq_checker.specs.Codes.{no_code};
+ghost use Rattle.wq_checker.specs.CodesAround.{no_around_code};
 ghost use Rattle.wq_diagnosis.specs.Refused.{no_item_note, NotesNoItem};
 
 use crate::further::push_further;
 use crate::layout::{column, lines_of, place_words, push_excerpt, put_line, put_lines};
 use std::alloc::{AllocError, Allocator};
-use wq_checker::No;
+use wq_checker::{No, NoAround};
 use wq_commands::TOO_MANY_LANES;
 use wq_findings::{
     CertificateKind, Finding, Found, Mark, Refused, What, in_answer, in_certificate,
@@ -327,6 +328,44 @@ fn number_of(line: &Option<Line<'_>>) -> u32 {
         Some(line) => line.no(),
         None => 0,
     }
+}
+
+/// What is wrong with a certificate around fixed workqueues to which the checker answered this no.
+fn lack_around(no: &NoAround) -> &'static str {
+    match no {
+        NoAround::Plain(No::NotFalling { .. }) => {
+            "a flush leads to no workqueue that comes before its own in `order`"
+        }
+        NoAround::Plain(No::LengthDiffers) => {
+            "the chain should have as many new workqueues as there are"
+        }
+        NoAround::Plain(No::ChainBroken { .. }) => "the chain doesn't join",
+        NoAround::Plain(No::CircleBroken { .. }) => "the circle doesn't join",
+        NoAround::Plain(No::RunBroken) => {
+            "these steps don't deadlock where each free group has a workqueue of its own"
+        }
+        NoAround::HasRescuer => "this isn't a flush that leads to no rescuer",
+    }
+}
+
+/// The diagnosis of a certificate around fixed workqueues to which the checker answered this no. No line is meant.
+///
+/// The only error is out of memory (20).
+pub fn of_lack_around<A: Allocator + Copy>(
+    alloc: A,
+    certificate: Source<'_>,
+    no: &NoAround,
+) -> Result<Vec<u8, A>, AllocError>
+    ensures { IfOk result (λ said.
+        IsDiagnosis certificate.entry.file.now (codes "no") (no_around_code no.now) 0 said.items) }
+{
+    diagnosis(
+        alloc,
+        certificate.file,
+        None,
+        Refusal::no(no.code(), 0),
+        Finding::whole(What::Said(lack_around(no))),
+    )
 }
 
 /// The diagnosis of a certificate of this declaration to which the checker answered `no`.

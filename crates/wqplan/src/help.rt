@@ -19,6 +19,10 @@ pub(crate) const CERT: &str = "A plan or a circle, in the form in which `plan` p
 pub(crate) const ASSIGN: &str =
     "Which item is on which workqueue: `wq`, `norescuer` lines or a plan";
 
+/// What FIXED is.
+pub(crate) const FIXED: &str =
+    "Workqueues that stay as they are, with some items or all: as ASSIGN";
+
 /// What NAME is.
 pub(crate) const NAME: &str = "An item that may move, with its group. Without NAME all may";
 
