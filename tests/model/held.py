@@ -1,5 +1,5 @@
 # The walks by which NAMEd items are held up, and the least of them, for the model in hang.py and reasons.py: docs/FORMAT.md, "The command
-# `hang`", Who must go on.
+# `hang`", What must go on.
 
 import dataclasses
 import heapq

@@ -7,7 +7,7 @@ that nobody is sure to make, says how many steps hold this item up. Where there 
 found by then: an item that `hang` says is held up in that many steps isn't in fewer, and one that was found isn't safe.
 
 So it is with one helper and with two, of declarations that are smaller, and of each reading of such as have unsure lines. The laws of
-"Who must go on" are put to the model, of larger declarations.
+"What must go on" are put to the model, of larger declarations.
 """
 
 import random

@@ -1,6 +1,6 @@
 //! The answer to a declaration, an assignment and the names of items that must go on, built in full in memory.
 //!
-//! The rule is that of "The command `hang`", "Who must go on", in docs/FORMAT.md. It takes the time and the memory of
+//! The rule is that of "The command `hang`", "What must go on", in docs/FORMAT.md. It takes the time and the memory of
 //! reading the assignment, of looking the names up, and of the search for the shortest run.
 
 ghost use Rattle.std.specs.Prelude.{◌≡◌, ◌<◌, IfOk, length, map};

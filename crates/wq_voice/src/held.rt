@@ -1,8 +1,8 @@
 //! What is said of items that must go on: by which waits one of them is held up; or, beside `safe`, that nothing on
 //! their workqueues waits, and that other items can hang.
 //!
-//! The words are those of "Who is held up" in docs/FORMAT.md. A call takes the time and the memory of the words; where
-//! unsure flushes may make no difference that of finding all that can hold the items up; and beside `safe` that of the
+//! The words are those of "Who is held up" in docs/MESSAGES.md. A call takes the time and the memory of the words; if
+//! unsure flushes may make no difference, that of finding all that can hold the items up; and beside `safe` that of the
 //! search for a shortest hang.
 
 ghost use Rattle.std.specs.Prelude.{◌≡◌, ◌++◌, ◌<◌, List, IfOk, Ok, length, map, option_map};

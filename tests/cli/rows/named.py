@@ -1,6 +1,6 @@
 # NAMEs of `hang`, `replay` and `circles`: declarations, and of each assignments, the NAMEs, and the answers that may be printed.
 #
-# The rules are those of "Who must go on" and "Circles that hold up NAMEs" in docs/FORMAT.md, from which each answer was worked out by
+# The rules are those of "What must go on" and "Circles that hold up NAMEs" in docs/FORMAT.md, from which each answer was worked out by
 # hand. Where several runs are as good, all of them stand here.
 
 SELF = "item a / item n / flush a a"
