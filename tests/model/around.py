@@ -13,6 +13,7 @@ from certificate import BAD_CERT_LINE, GROUP_SPLIT, HAS_RESCUER, NOT_ALL_ITEMS, 
 from certificate import ARC_LIMIT, WORKQUEUE_LIMIT, Assignment, CircleText, Lines, WqLines, must  # noqa: E402
 from circle import led_to_no_rescuer  # noqa: E402
 from deadlock import circle_of, deadlocking_run, run_text  # noqa: E402
+from declaration import read_declaration  # noqa: E402
 from steps import end_of_run  # noqa: E402
 from walks import among_rescuers  # noqa: E402
 
@@ -51,6 +52,12 @@ def read_fixed(text, declared):
     return fixed
 
 
+def is_asked(command, texts):
+    """Whether a command with these texts, of which none is refused, plans or checks around a workqueue."""
+    without = {"plan": 1, "check": 2}.get(command, len(texts))
+    return len(texts) > without and read_fixed(texts[-1], read_declaration(texts[0])).count > 0
+
+
 def free_groups(declared, fixed):
     """The numbers of the groups of which FIXED has no item."""
     return [group for group, members in enumerate(declared.groups) if members[0] not in fixed.workqueue_of]
@@ -68,6 +75,15 @@ def start_of(declared, fixed):
     """The start."""
     free = free_groups(declared, fixed)
     return with_new(declared, fixed, {group: fixed.count + number for number, group in enumerate(free)}, len(free))
+
+
+def text_of(assignment):
+    """The workqueues of an assignment, in which items may be missing, as a text."""
+    on = [[] for _ in range(assignment.count)]
+    for name, number in assignment.workqueue_of.items():
+        on[number].append(name)
+    words = [[b"norescuer" if number in assignment.bare else b"wq", b"%d" % number, *names] for number, names in enumerate(on)]
+    return b"".join(b" ".join(line) + b"\n" for line in words)
 
 
 # Plan texts around workqueues --------------------------------------------------------------------

@@ -59,11 +59,11 @@ def fixed_text(wqs, bare):
     return join(*(b" ".join([b"norescuer" if number in bare else b"wq", b"%d" % number, *names]) for number, names in enumerate(wqs)))
 
 
-def random_around_case(seed, number, most_items=8, most_flushes=12):
-    """A declaration and a FIXED, neither of which is refused."""
+def random_around_case(seed, number, most_items=8, most_flushes=12, sure=False):
+    """A declaration and a FIXED, neither of which is refused. It has no unsure line if `sure`."""
     choose = random.Random(f"{seed} around {number}")
     while True:
-        text = make_declaration(choose, most_items, most_flushes, choose.choice([0, 0, 0.5]))
+        text = make_declaration(choose, most_items, most_flushes, choose.choice([0, 0, 0.5]) * (not sure))
         try:
             declared = read_declaration(text)
         except Refused:  # an item that is in two groups
@@ -146,17 +146,29 @@ def with_mistakes(choose, text):
     return join(*(b" ".join(words) for words in lines))
 
 
-def random_plan_case(seed, number):
+def without_a_name(choose, text):
+    """The text without one of the names on its lines. Of the items of a group one is missing then, if there are several."""
+    lines = [line.split() for line in text.splitlines()]
+    named = [words for words in lines if len(words) > 2]
+    if named:
+        words = choose.choice(named)
+        del words[choose.randrange(2, len(words))]
+    return join(*(b" ".join(words) for words in lines))
+
+
+def random_plan_case(seed, number, sure=False):
     """For `plan`: a declaration and a FIXED, in which there may be a mistake."""
     choose = random.Random(f"{seed} plan around {number}")
-    text, fixed = random_around_case(seed, number)
-    return [text, with_mistakes(choose, fixed) if choose.random() < 0.3 else fixed]
+    text, fixed = random_around_case(seed, number, sure=sure)
+    if choose.random() < 0.3:
+        fixed = without_a_name(choose, fixed) if choose.random() < 0.25 else with_mistakes(choose, fixed)
+    return [text, fixed]
 
 
-def random_check_case(seed, number):
+def random_check_case(seed, number, sure=False):
     """For `check`: a declaration, a certificate and a FIXED: what `plan` prints, mostly with a mistake in it, or of another FIXED."""
     choose = random.Random(f"{seed} check around {number}")
-    text, fixed = random_around_case(f"{seed} check", number)
+    text, fixed = random_around_case(f"{seed} check", number, sure=sure)
     printed, _ = plan.answer(text, fixed)
     if choose.random() < 0.3:
         other = fixed_text(*make_fixed(choose, read_declaration(text)))
