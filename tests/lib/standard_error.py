@@ -259,10 +259,26 @@ def fits(printed, errors, places, command, names=()):
     input. With a third file of `check` no line may be meant.
     """
     files = [os.fsencode(place) for place in places] or [STDIN]
-    found = NO.fullmatch(printed)
-    if found and len(files) == 3 and is_of(files[1], diagnosis(*found.groups(), b"0"), errors):
+    if command == "check" and len(files) == 3 and has_no_byte(printed, errors, files[1]):
         return True
+    if (command, len(files)) in (("plan", 2), ("check", 3)) and NO_ITEM.fullmatch(printed) and not errors:
+        return True  # there are items, and all of them are on workqueues of FIXED
+    refused = REFUSED.fullmatch(printed)
+    if command == "check" and len(files) == 3 and refused and 40 <= int(refused[2]) < 50:
+        return belongs(printed, errors, files[2:], command, names)
     return belongs(printed, errors, meant(printed, files), command, names)
+
+
+def has_no_byte(printed, errors, file):
+    """Whether this is a diagnosis of a certificate around workqueues, of which no byte is meant."""
+    found = NO.fullmatch(printed)
+    if found:
+        return is_of(file, diagnosis(*found.groups(), b"0"), errors)
+    refused = REFUSED.fullmatch(printed)
+    if not refused or not 40 <= int(refused[2]) < 50:
+        return False
+    line = b"" if refused[3] == b"0" else b":" + refused[3]
+    return is_of(file, re.compile(rb"%s: [ -~]+ \[refused %s, `wqplan explain %s`\]\n" % (line, refused[2], refused[2])), errors)
 
 
 def main(arguments):

@@ -15,10 +15,10 @@ use wq_around::Around;
 use wq_checker::{NoAround, YesAround};
 use wq_commands::{Found, PlanCommand, Texts, Voice, Which};
 use wq_core::{Assigned, Workqueues};
-use wq_diagnosis::{CertificateKind, Source, of_lack_around, of_no_item, of_refused_certificate};
+use wq_diagnosis::{Source, of_lack_around, of_no_item, of_refused_around, of_refused_fixed};
 use wq_groups::Declaration;
 use wq_names::workqueue_names;
-use wq_voice::{FileNames, FlushLines, Lead, Subject, Wording, of_subject, say_refused_text};
+use wq_voice::{FileNames, FlushLines, Lead, Subject, Wording, of_subject};
 
 /// How the workqueues of the start hang soonest.
 fn say_start<'a, A: Allocator + Copy>(
@@ -73,6 +73,23 @@ fn say_around<'a, A: Allocator + Copy>(
     }
 }
 
+/// Says that the fixed workqueues behind a declaration are refused.
+fn say_refused_fixed<A: Allocator + Copy>(
+    alloc: A,
+    names: &FileNames<'_>,
+    declared: &Declaration<'_, A>,
+    texts: &Texts<A>,
+    code: u32,
+    line: u32,
+) -> Result<Option<Vec<u8, A>>, AllocError> {
+    let fixed = Source {
+        file: names.second,
+        text: texts.second(),
+    };
+    let said = of_refused_fixed(alloc, declared, texts.first(), fixed, code, line)?;
+    Ok(Some(said))
+}
+
 impl<A: Allocator + Copy> Voice<PlanAroundCommand, A> for FileNames<'_> {
     ghost use Rattle.wq_around_command.specs.Saying.{SaysPlanAround};
 
@@ -89,9 +106,8 @@ impl<A: Allocator + Copy> Voice<PlanAroundCommand, A> for FileNames<'_> {
         found: &Found<Planned<A>>,
     ) -> Result<Option<Vec<u8, A>>, AllocError> {
         match found {
-            Found::Refused { which, code, line } => {
-                let kind = CertificateKind::Assignment;
-                say_refused_text(alloc, self, kind, declared, texts, *which, *code, *line)
+            Found::Refused { code, line, .. } => {
+                say_refused_fixed(alloc, self, declared, texts, *code, *line)
             }
             Found::Read(Planned::Plain(end)) => {
                 self.say(alloc, seed, &PlanCommand, declared, texts, end)
@@ -103,7 +119,7 @@ impl<A: Allocator + Copy> Voice<PlanAroundCommand, A> for FileNames<'_> {
     }
 }
 
-/// Says that one of the texts behind the declaration is refused: a certificate, or fixed workqueues.
+/// Says that a certificate is refused, or the fixed workqueues behind it.
 fn say_refused<A: Allocator + Copy>(
     alloc: A,
     names: &FileNames<'_>,
@@ -113,23 +129,22 @@ fn say_refused<A: Allocator + Copy>(
     code: u32,
     line: u32,
 ) -> Result<Option<Vec<u8, A>>, AllocError> {
-    let (kind, refused) = match which {
-        Which::Certificate => (
-            CertificateKind::Answer,
-            Source {
+    let said = match which {
+        Which::Certificate => {
+            let certificate = Source {
                 file: names.second,
                 text: texts.second(),
-            },
-        ),
-        Which::Run => (
-            CertificateKind::Assignment,
-            Source {
+            };
+            of_refused_around(alloc, certificate, code, line)?
+        }
+        Which::Run => {
+            let fixed = Source {
                 file: names.run,
                 text: texts.third(),
-            },
-        ),
+            };
+            of_refused_fixed(alloc, declared, texts.first(), fixed, code, line)?
+        }
     };
-    let said = of_refused_certificate(alloc, kind, declared, texts.first(), refused, code, line)?;
     Ok(Some(said))
 }
 
