@@ -66,6 +66,12 @@ CASES = {
     ("hang", "random flushes with circles, own workqueues, every second unsure"),
     ("hang", "16,384 flushes lead to no rescuer, 2,048 workqueues without a rescuer, all unsure"),
     ("hang", "a chain, one workqueue, one unsure"),
+    ("hang", "random flushes on, around, with NAMEs"),
+    ("hang", "flushes of the next 512, 2,048 workqueues, with NAMEs"),
+    ("circles", "a chain, own workqueues, all of them, with NAMEs"),
+    ("plan", "a circle of all, every second stays"),
+    ("plan", "a chain, every second stays, the last one first"),
+    ("check", "a chain, every second stays"),
 } | REFUSED
 
 
