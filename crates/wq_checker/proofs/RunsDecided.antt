@@ -114,12 +114,12 @@ module _ (w : Wiring) (steps : List Step) where
       | inr moves ↦ (Free, (run, moves))
       | inl stuck ↦ elim (both (cases_HasNoHelp steps)
           (both (cases_IsOnce w steps) (cases_AsDeclaredFrom w (empty_state w) steps))) [
-        | inl h ↦ (
-          Deadlock,
-          record { run = run; no_help = h.0; once = h.1.0; as_declared = h.1.1; stuck = stuck },
-        )
-        | inr no_deadlock ↦ (Stuck, (run, stuck, λ h. no_deadlock (h.no_help, (h.once, h.as_declared))))
-      ]
+            | inl h ↦ (
+              Deadlock,
+              record { run = run; no_help = h.0; once = h.1.0; as_declared = h.1.1; stuck = stuck },
+            )
+            | inr no_deadlock ↦ (Stuck, (run, stuck, λ h. no_deadlock (h.no_help, (h.once, h.as_declared))))
+          ]
     ]
   ]
 

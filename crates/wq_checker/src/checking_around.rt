@@ -60,8 +60,7 @@ fn is_bare(bare: &[bool], lane: LaneId) -> bool
 /// Whether a flush from one workqueue to another falls.
 fn falls(bare: &[bool], places: &[usize], from: LaneId, to: LaneId) -> bool {
     is_bare(bare, from)
-        || !is_bare(bare, to)
-            && places[usize::from(to.get())] < places[usize::from(from.get())]
+        || !is_bare(bare, to) && places[usize::from(to.get())] < places[usize::from(from.get())]
 }
 
 /// The first flush of an item that doesn't fall.
@@ -250,7 +249,12 @@ fn check_circle<A: Allocator + Copy>(
         return Ok(Err(NoAround::Plain(No::CircleBroken { at })));
     }
     let length = arcs.len() as u32;
-    with_run(alloc, start, steps, YesAround::Plain(Yes::Circle { length }))
+    with_run(
+        alloc,
+        start,
+        steps,
+        YesAround::Plain(Yes::Circle { length }),
+    )
 }
 
 /// The answer to a norescuer text.

@@ -60,7 +60,10 @@ fn first_of_item<A: Allocator + Copy>(
 }
 
 /// The flush with the lower place, if there are two.
-pub(crate) fn earlier(one: Option<DeclaredFlush>, other: Option<DeclaredFlush>) -> Option<DeclaredFlush>
+pub(crate) fn earlier(
+    one: Option<DeclaredFlush>,
+    other: Option<DeclaredFlush>,
+) -> Option<DeclaredFlush>
     ensures { result ≡ earlier one other }
 {
     match (one, other) {

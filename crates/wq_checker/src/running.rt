@@ -238,6 +238,6 @@ pub fn check_run_for<A: Allocator + Copy>(
         named.now steps.now end) }
     ensures memory { OnErr result (0 < workqueues.now.assignment.lanes) }
 {
-    let core = Core::on_workqueues(alloc, table, groups, workqueues)?;
-    ends_for(alloc, core, named, steps)
+    let machine = Core::on_workqueues(alloc, table, groups, workqueues)?;
+    ends_for(alloc, machine, named, steps)
 }

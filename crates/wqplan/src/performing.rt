@@ -351,16 +351,32 @@ fn plan<'a, O: World<'a>, I: Read, W: Write, E: Write>(
     ensures input { TakesInput I.remaining input.old input.new max_declaration (paths files.now) }
     ensures unsaid { OnErr result (teller.new ≡ teller.old) }
 {
-    let voice = names_of(files);
+    let file_names = names_of(files);
     if has_second(files) {
         let command = PlanAroundCommand;
         carry_out_files(
-            world, alloc, seed, &command, &voice, files, input, writer, teller,
+            world,
+            alloc,
+            seed,
+            &command,
+            &file_names,
+            files,
+            input,
+            writer,
+            teller,
         )
     } else {
         let command = PlanCommand;
         carry_out_files(
-            world, alloc, seed, &command, &voice, files, input, writer, teller,
+            world,
+            alloc,
+            seed,
+            &command,
+            &file_names,
+            files,
+            input,
+            writer,
+            teller,
         )
     }
 }
@@ -387,16 +403,32 @@ fn check<'a, O: World<'a>, I: Read, W: Write, E: Write>(
     ensures input { TakesInput I.remaining input.old input.new max_declaration (paths files.now) }
     ensures unsaid { OnErr result (teller.new ≡ teller.old) }
 {
-    let voice = names_of(files);
+    let file_names = names_of(files);
     if has_third(files) {
         let command = CheckAroundCommand;
         carry_out_files(
-            world, alloc, seed, &command, &voice, files, input, writer, teller,
+            world,
+            alloc,
+            seed,
+            &command,
+            &file_names,
+            files,
+            input,
+            writer,
+            teller,
         )
     } else {
         let command = CheckCommand;
         carry_out_files(
-            world, alloc, seed, &command, &voice, files, input, writer, teller,
+            world,
+            alloc,
+            seed,
+            &command,
+            &file_names,
+            files,
+            input,
+            writer,
+            teller,
         )
     }
 }

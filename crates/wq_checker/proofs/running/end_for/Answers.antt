@@ -3,8 +3,10 @@ use Rattle.std.proofs.lemmas.Bool.{false≢true}
 use Rattle.wq_core.specs.MustGoOn.{IsStuckFor}
 use Rattle.wq_core.proofs.Helpers.{no_help-run}
 use Rattle.wq_checker.proofs.running.end_for.Goals as goal
-use Rattle.wq_checker.proofs.running.end_for.Goals.{else-in_order-via-then-in_order+in_ok-is_once+else-branch,
-    else-in_order-via-else-in_order}
+use Rattle.wq_checker.proofs.running.end_for.Goals.{
+  else-in_order-via-then-in_order+in_ok-is_once+else-branch,
+  else-in_order-via-else-in_order,
+}
 
 pub returns-then-branch-clause-end : goal.returns-then-branch-clause-end
 returns-then-branch-clause-end g c =

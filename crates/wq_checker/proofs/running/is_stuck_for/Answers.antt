@@ -13,8 +13,8 @@ pub returns-then-is_none : goal.returns-then-is_none
 returns-then-is_none g c =
     let m = c.args.core.now in
     IsStuckFor-cannot_move m.wiring m.state c.args.named.now
-        (from_none c.enabled.result ((q : ℕ) → ¬ CanMove m.wiring m.state q) c.if-is_none.ensures
-        c.enabled.ensures.none) c.has_one_left.result c.has_one_left.ensures
+    (from_none c.enabled.result ((q : ℕ) → ¬ CanMove m.wiring m.state q) c.if-is_none.ensures
+    c.enabled.ensures.none) c.has_one_left.result c.has_one_left.ensures
 
 -- what holds where there is something
 from_some : (o : Option ℕ) (P : ℕ → Type 0) → is_some o ≡ true → IfSome o P → (q : ℕ) × P q
@@ -25,6 +25,7 @@ pub returns-else-is_none : goal.returns-else-is_none
 returns-else-is_none g c =
     let m = c.args.core.now in
     let moves = from_some c.enabled.result (λ q. CanMove m.wiring m.state q
-        × ((p : ℕ) → p < q → ¬ CanMove m.wiring m.state p)) c.if-is_none.ensures c.enabled.ensures.some in
-    ((λ e. absurd (let never : false ≡ true = sym c.if-is_none.false ∙ e in cc)),
-        (λ stuck. absurd (IsStuckFor-can_move m.wiring m.state c.args.named.now moves.0 moves.1.0 stuck)))
+    × ((p : ℕ) → p < q → ¬ CanMove m.wiring m.state p)) c.if-is_none.ensures c.enabled.ensures.some in (
+      (λ e. absurd (let never : false ≡ true = sym c.if-is_none.false ∙ e in cc)),
+      (λ stuck. absurd (IsStuckFor-can_move m.wiring m.state c.args.named.now moves.0 moves.1.0 stuck)),
+    )
