@@ -172,15 +172,7 @@ pub(crate) fn best_chain<A: Allocator + Copy>(
 {
     let doubts = all_doubts(alloc, graph, unsure, ranks, heights, new)?;
     match first_of(doubts.as_slice(), heights, new, most) {
-        Some(first) => follow(
-            alloc,
-            graph,
-            unsure,
-            doubts.as_slice(),
-            heights,
-            new,
-            first,
-        ),
+        Some(first) => follow(alloc, graph, unsure, doubts.as_slice(), heights, new, first),
         None => Ok(Vec::new(alloc)),
     }
 }

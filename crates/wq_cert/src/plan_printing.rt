@@ -17,7 +17,10 @@ use wq_items::{ItemId, ItemTable};
 use wq_text::{put, put_end, put_number, put_word};
 
 /// Appends `plan K`.
-pub(crate) fn put_plan_line<A: Allocator + Copy>(out: &mut Vec<u8, A>, lanes: u16) -> Result<(), AllocError>
+pub(crate) fn put_plan_line<A: Allocator + Copy>(
+    out: &mut Vec<u8, A>,
+    lanes: u16,
+) -> Result<(), AllocError>
     ensures { OnOk result (out.new.items ≡ out.old.items ++ line_text (plan_line lanes)) }
 {
     put(out, b"plan")?;

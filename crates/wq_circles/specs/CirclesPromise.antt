@@ -100,7 +100,7 @@ pub record KeepsHeldFlushes (s : Declared) (ws : Workqueues) (named : List ℕ) 
       × (¬ IsSafeFor (wiring_of (declared_waits s) ws) named)
       × ((kept others : List ℕ)
       → ((p : ℕ) → is_among (map (λ (b : WaitArc). b.place) (flat_map (λ arcs. arcs) components ++ waits ++ ways))
-          p ≡ true
+      p ≡ true
       → is_among kept p ≡ is_among others p)
       → IsSafeFor (reading (wiring_of (declared_waits s) ws) kept) named
       → IsSafeFor (reading (wiring_of (declared_waits s) ws) others) named)

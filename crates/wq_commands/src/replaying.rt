@@ -53,7 +53,10 @@ fn word_text<A: Allocator + Copy>(alloc: A, word: &[u8]) -> Result<Vec<u8, A>, A
 }
 
 /// The line that says how a run ends.
-pub(crate) fn replay_text<A: Allocator + Copy>(alloc: A, end: RunEnd) -> Result<Vec<u8, A>, AllocError>
+pub(crate) fn replay_text<A: Allocator + Copy>(
+    alloc: A,
+    end: RunEnd,
+) -> Result<Vec<u8, A>, AllocError>
     ensures { IfOk result (λ text. text.items ≡ line_text (replay_words end)) }
 {
     match end {

@@ -32,9 +32,9 @@ module _ (d : Declaration) (f : Fixed) (ws : Workqueues) (declaration : IsDeclar
   now-new : (q : ℕ) → fixed_lanes f ≤ q → q < (start f).assignment.lanes → (fixed_lanes f ≤ now q) × (now q < ws.assignment.lanes)
   now-new q high within =
       let there = lane_for-within (fixed_lanes f) f.lane_of_group ws.assignment.lane_of_group q (fixed_lanes f) ws.assignment.lanes (omega (arith, assignment.one_each, fixed.one_each)) high (omega (arith, count_free-is f.lane_of_group))
-              (λ g free. (keeps.new g free, assignment.within g 0 (group_within g free))) in
+      (λ g free. (keeps.new g free, assignment.within g 0 (group_within g free))) in
       let is : now q ≡ lane_for (fixed_lanes f) f.lane_of_group ws.assignment.lane_of_group q =
-          cond-false (ltb q (fixed_lanes f)) q (lane_for (fixed_lanes f) f.lane_of_group ws.assignment.lane_of_group q) (le-ltb q (fixed_lanes f) high) in
+      cond-false (ltb q (fixed_lanes f)) q (lane_for (fixed_lanes f) f.lane_of_group ws.assignment.lane_of_group q) (le-ltb q (fixed_lanes f) high) in
       let low : fixed_lanes f ≤ lane_for (fixed_lanes f) f.lane_of_group ws.assignment.lane_of_group q = there.0 in
       let few : lane_for (fixed_lanes f) f.lane_of_group ws.assignment.lane_of_group q < ws.assignment.lanes = there.1 in
       (omega arith, omega arith)
@@ -44,24 +44,27 @@ module _ (d : Declaration) (f : Fixed) (ws : Workqueues) (declaration : IsDeclar
 
   all_now : (qs : List ℕ) → AllByRecursion (λ q. q < (start f).assignment.lanes) qs → AllByRecursion (λ x. x < fixed_lanes f + (ws.assignment.lanes - fixed_lanes f)) (map now qs)
   all_now [] below = tt
-  all_now (q ∷ qs) below = (elim (cases_lt q (fixed_lanes f)) [
-    | inl low ↦ let is : now q ≡ q = now-fixed q low in omega (arith, keeps.lanes)
-    | inr high ↦ let few : now q < ws.assignment.lanes = (now-new q high below.0).1 in omega (arith, keeps.lanes)
-  ], all_now qs below.1)
+  all_now (q ∷ qs) below = (
+    elim (cases_lt q (fixed_lanes f)) [
+      | inl low ↦ let is : now q ≡ q = now-fixed q low in omega (arith, keeps.lanes)
+      | inr high ↦ let few : now q < ws.assignment.lanes = (now-new q high below.0).1 in omega (arith, keeps.lanes)
+    ],
+    all_now qs below.1,
+  )
 
   count_now : (qs : List ℕ) → AllByRecursion (λ q. q < (start f).assignment.lanes) qs → count_from (fixed_lanes f) (map now qs) ≡ count_new (fixed_lanes f) qs
   count_now [] below = refl
   count_now (q ∷ qs) below = elim (cases_lt q (fixed_lanes f)) [
     | inl low ↦
-      let is : now q ≡ q = now-fixed q low in
-      cond-true (ltb (now q) (fixed_lanes f)) (count_from (fixed_lanes f) (map now qs)) (1 + count_from (fixed_lanes f) (map now qs)) (lt-ltb (now q) (fixed_lanes f) (omega arith))
-      ∙ count_now qs below.1
-      ∙ sym (cond-false (nat_le (fixed_lanes f) q) (1 + count_new (fixed_lanes f) qs) (count_new (fixed_lanes f) qs) (lt-leb (fixed_lanes f) q low))
+        let is : now q ≡ q = now-fixed q low in
+        cond-true (ltb (now q) (fixed_lanes f)) (count_from (fixed_lanes f) (map now qs)) (1 + count_from (fixed_lanes f) (map now qs)) (lt-ltb (now q) (fixed_lanes f) (omega arith))
+        ∙ count_now qs below.1
+        ∙ sym (cond-false (nat_le (fixed_lanes f) q) (1 + count_new (fixed_lanes f) qs) (count_new (fixed_lanes f) qs) (lt-leb (fixed_lanes f) q low))
     | inr high ↦
-      let from : fixed_lanes f ≤ now q = (now-new q high below.0).0 in
-      cond-false (ltb (now q) (fixed_lanes f)) (count_from (fixed_lanes f) (map now qs)) (1 + count_from (fixed_lanes f) (map now qs)) (le-ltb (now q) (fixed_lanes f) from)
-      ∙ ap suc (count_now qs below.1)
-      ∙ sym (cond-true (nat_le (fixed_lanes f) q) (1 + count_new (fixed_lanes f) qs) (count_new (fixed_lanes f) qs) (le-leb (fixed_lanes f) q high))
+        let from : fixed_lanes f ≤ now q = (now-new q high below.0).0 in
+        cond-false (ltb (now q) (fixed_lanes f)) (count_from (fixed_lanes f) (map now qs)) (1 + count_from (fixed_lanes f) (map now qs)) (le-ltb (now q) (fixed_lanes f) from)
+        ∙ ap suc (count_now qs below.1)
+        ∙ sym (cond-true (nat_le (fixed_lanes f) q) (1 + count_new (fixed_lanes f) qs) (count_new (fixed_lanes f) qs) (le-leb (fixed_lanes f) q high))
   ]
 
   new_among-is : (qs : List ℕ) → count_new (fixed_lanes f) qs ≡ new_among f qs

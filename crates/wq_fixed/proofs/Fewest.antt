@@ -23,13 +23,13 @@ module _ (least : ℕ) where
   length-rest_from [] = refl
   length-rest_from (x ∷ xs) = elim (cases_lt x least) [
     | inl below ↦
-      ap (λ (ys : List ℕ). length ys) (cond-true (ltb x least) (rest_from least xs) ((x - least) ∷ rest_from least xs) (lt-ltb x least below))
-      ∙ length-rest_from xs
-      ∙ sym (cond-true (ltb x least) (count_from least xs) (1 + count_from least xs) (lt-ltb x least below))
+        ap (λ (ys : List ℕ). length ys) (cond-true (ltb x least) (rest_from least xs) ((x - least) ∷ rest_from least xs) (lt-ltb x least below))
+        ∙ length-rest_from xs
+        ∙ sym (cond-true (ltb x least) (count_from least xs) (1 + count_from least xs) (lt-ltb x least below))
     | inr from ↦
-      ap (λ (ys : List ℕ). length ys) (cond-false (ltb x least) (rest_from least xs) ((x - least) ∷ rest_from least xs) (le-ltb x least from))
-      ∙ ap suc (length-rest_from xs)
-      ∙ sym (cond-false (ltb x least) (count_from least xs) (1 + count_from least xs) (le-ltb x least from))
+        ap (λ (ys : List ℕ). length ys) (cond-false (ltb x least) (rest_from least xs) ((x - least) ∷ rest_from least xs) (le-ltb x least from))
+        ∙ ap suc (length-rest_from xs)
+        ∙ sym (cond-false (ltb x least) (count_from least xs) (1 + count_from least xs) (le-ltb x least from))
   ]
 
   rest_from-below : (n : ℕ) (xs : List ℕ) → AllByRecursion (λ x. x < least + n) xs → AllByRecursion (λ x. x < n) (rest_from least xs)
@@ -37,8 +37,8 @@ module _ (least : ℕ) where
   rest_from-below n (x ∷ xs) below = elim (cases_lt x least) [
     | inl low ↦ subst (AllByRecursion (λ y. y < n)) (sym (cond-true (ltb x least) (rest_from least xs) ((x - least) ∷ rest_from least xs) (lt-ltb x least low))) (rest_from-below n xs below.1)
     | inr from ↦
-      let within : x < least + n = below.0 in
-      subst (AllByRecursion (λ y. y < n)) (sym (cond-false (ltb x least) (rest_from least xs) ((x - least) ∷ rest_from least xs) (le-ltb x least from))) (omega arith, rest_from-below n xs below.1)
+        let within : x < least + n = below.0 in
+        subst (AllByRecursion (λ y. y < n)) (sym (cond-false (ltb x least) (rest_from least xs) ((x - least) ∷ rest_from least xs) (le-ltb x least from))) (omega arith, rest_from-below n xs below.1)
   ]
 
   IsIn-rest_from : (y : ℕ) (xs : List ℕ) → least ≤ y → IsIn (y - least) (rest_from least xs) → IsIn y xs

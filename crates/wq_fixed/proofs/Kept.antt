@@ -30,19 +30,21 @@ module _ (d : Declaration) (f : Fixed) (ws : Workqueues) (declaration : IsDeclar
       let here : group_lane ws.assignment g ≡ q = keeps.stays g q at in
       let within : q < fixed_lanes f = fixed.within g q at in
       let stays : lane_now q ≡ q = cond-true (ltb q (fixed_lanes f)) q (lane_for (fixed_lanes f) f.lane_of_group ws.assignment.lane_of_group q) (lt-ltb q (fixed_lanes f) within) in
-      let same : get_or ws.bare q false ≡ get_or f.bare q false = keeps.bare q (omega (arith, keeps.lanes, within)) in
-      (ap lane_now there ∙ stays ∙ sym here,
-      ap (λ (n : ℕ). get_or f.bare n false) there ∙ sym same ∙ ap (λ (n : ℕ). get_or ws.bare n false) (sym here))
+      let same : get_or ws.bare q false ≡ get_or f.bare q false = keeps.bare q (omega (arith, keeps.lanes, within)) in (
+        ap lane_now there ∙ stays ∙ sym here,
+        ap (λ (n : ℕ). get_or f.bare n false) there ∙ sym same ∙ ap (λ (n : ℕ). get_or ws.bare n false) (sym here),
+      )
   lane_here_by g None group at =
       let there = start-free (fixed_lanes f) f.lane_of_group g at in
       let from : fixed_lanes f ≤ group_lane (start f).assignment g = there.0 in
       let here : fixed_lanes f ≤ group_lane ws.assignment g = keeps.new g at in
-      let within : group_lane ws.assignment g < ws.assignment.lanes = assignment.within g 0 (omega (arith, assignment.one_each, group)) in
-      (cond-false (ltb (group_lane (start f).assignment g) (fixed_lanes f)) (group_lane (start f).assignment g) (lane_for (fixed_lanes f) f.lane_of_group ws.assignment.lane_of_group (group_lane (start f).assignment g)) (le-ltb (group_lane (start f).assignment g) (fixed_lanes f) from)
-      ∙ lane_for-free (fixed_lanes f) f.lane_of_group ws.assignment.lane_of_group g (omega (arith, assignment.one_each, fixed.one_each)) at,
-      get_or_past f.bare (group_lane (start f).assignment g) false from
-      ∙ sym (get_or_past f.bare (group_lane ws.assignment g) false here)
-      ∙ sym (keeps.bare (group_lane ws.assignment g) within))
+      let within : group_lane ws.assignment g < ws.assignment.lanes = assignment.within g 0 (omega (arith, assignment.one_each, group)) in (
+        cond-false (ltb (group_lane (start f).assignment g) (fixed_lanes f)) (group_lane (start f).assignment g) (lane_for (fixed_lanes f) f.lane_of_group ws.assignment.lane_of_group (group_lane (start f).assignment g)) (le-ltb (group_lane (start f).assignment g) (fixed_lanes f) from)
+            ∙ lane_for-free (fixed_lanes f) f.lane_of_group ws.assignment.lane_of_group g (omega (arith, assignment.one_each, fixed.one_each)) at,
+        get_or_past f.bare (group_lane (start f).assignment g) false from
+            ∙ sym (get_or_past f.bare (group_lane ws.assignment g) false here)
+            ∙ sym (keeps.bare (group_lane ws.assignment g) within),
+      )
 
   pub lane_here : (g : ℕ) → g < d.groups → IsLaneHere g
   lane_here g group = elim ((slice_get_cases f.lane_of_group g).1) [
@@ -55,11 +57,11 @@ module _ (d : Declaration) (f : Fixed) (ws : Workqueues) (declaration : IsDeclar
       → (g : ℕ) × (g < d.groups) × (slice_get d.group_of i ≡ Some g) × (group_lane (start f).assignment g ≡ p)
   of_item i p at = elim ((slice_get_cases d.group_of i).1) [
     | inl found ↦
-      let mapped : slice_get (item_lanes (start f).assignment d.group_of) i ≡ Some (group_lane (start f).assignment found.0) =
-          slice_get-map (group_lane (start f).assignment) d.group_of i ∙ ap (λ (o : Option ℕ). option_map (group_lane (start f).assignment) o) found.2 in
-      let below : get_or d.group_of i 0 < d.groups = declaration.partition.within i 0 found.1 in
-      let is : get_or d.group_of i 0 ≡ found.0 = get_or_from_slice_get d.group_of i found.0 0 found.2 in
-      (found.0, omega (arith, below, is), found.2, cc)
+        let mapped : slice_get (item_lanes (start f).assignment d.group_of) i ≡ Some (group_lane (start f).assignment found.0) =
+        slice_get-map (group_lane (start f).assignment) d.group_of i ∙ ap (λ (o : Option ℕ). option_map (group_lane (start f).assignment) o) found.2 in
+        let below : get_or d.group_of i 0 < d.groups = declaration.partition.within i 0 found.1 in
+        let is : get_or d.group_of i 0 ≡ found.0 = get_or_from_slice_get d.group_of i found.0 0 found.2 in
+        (found.0, omega (arith, below, is), found.2, cc)
     | inr past ↦ absurd (let never : None ≡ Some p = sym (slice_get-map (group_lane (start f).assignment) d.group_of i ∙ ap (λ (o : Option ℕ). option_map (group_lane (start f).assignment) o) past.1) ∙ at in cc)
   ]
 
@@ -70,9 +72,10 @@ module _ (d : Declaration) (f : Fixed) (ws : Workqueues) (declaration : IsDeclar
   at_here i p at =
       let (g, group, is, lane) = of_item i p at in
       let here = lane_here g group in
-      let now : lane_now p ≡ group_lane ws.assignment g = ap lane_now (sym lane) ∙ here.0 in
-      (slice_get-map (group_lane ws.assignment) d.group_of i ∙ ap (λ (o : Option ℕ). option_map (group_lane ws.assignment) o) is ∙ ap (λ (n : ℕ). Some n) (sym now),
-      ap (λ (n : ℕ). get_or f.bare n false) (sym lane) ∙ here.1 ∙ ap (λ (n : ℕ). get_or ws.bare n false) (sym now))
+      let now : lane_now p ≡ group_lane ws.assignment g = ap lane_now (sym lane) ∙ here.0 in (
+        slice_get-map (group_lane ws.assignment) d.group_of i ∙ ap (λ (o : Option ℕ). option_map (group_lane ws.assignment) o) is ∙ ap (λ (n : ℕ). Some n) (sym now),
+        ap (λ (n : ℕ). get_or f.bare n false) (sym lane) ∙ here.1 ∙ ap (λ (n : ℕ). get_or ws.bare n false) (sym now),
+      )
 
   -- what waits in the start waits here
   pub waits_here : (p q : ℕ) → RescuedWaits (wiring_of d (start f)) p q → RescuedWaits (wiring_of d ws) (lane_now p) (lane_now q)

@@ -56,15 +56,7 @@ fn say_answer<A: Allocator + Copy>(
                 file: names.declaration,
                 text: texts.first(),
             };
-            let said = say_held(
-                alloc,
-                declaration,
-                assignment,
-                assigned,
-                named,
-                *item,
-                hops,
-            )?;
+            let said = say_held(alloc, declaration, assignment, assigned, named, *item, hops)?;
             Ok(Some(said))
         }
     }

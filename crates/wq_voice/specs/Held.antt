@@ -1,7 +1,22 @@
 -- What is said of items that must go on: by which waits one of them is held up; or, beside `safe`, that nothing on
 -- their workqueues waits, and that other items can hang.
-use Rattle.std.specs.Prelude.{◌≡◌, ◌==◌, ◌&&◌, if◌then◌else◌, cond, ℕ, Bool, true, false, not, List, [], ◌∷◌, ◌++◌,
-    length}
+use Rattle.std.specs.Prelude.{
+  ◌≡◌,
+  ◌==◌,
+  ◌&&◌,
+  if◌then◌else◌,
+  cond,
+  ℕ,
+  Bool,
+  true,
+  false,
+  not,
+  List,
+  [],
+  ◌∷◌,
+  ◌++◌,
+  length,
+}
 use Rattle.std.specs.Prelude.{Option, Some, None, filter, map, unwrap_or}
 use Rattle.std.specs.List.{range_with_len}
 use Rattle.wq_items.specs.Readings.{is_among}

@@ -7,5 +7,5 @@ use Rattle.wq_commands.proofs.named.named_items.Given as goal
 abbrev pub invariant-loop-name : goal.invariant-loop-name
 invariant-loop-name g l =
     option_map (λ (is : List ℕ). l.items.items ++ is) (items_of l.table.names
-        (map (λ n. n.now) (drop l.name-index l.names)))
+    (map (λ n. n.now) (drop l.name-index l.names)))
     ≡ items_of l.table.names (map (λ n. n.now) l.names)
