@@ -330,10 +330,11 @@ fn number_of(line: &Option<Line<'_>>) -> u32 {
     }
 }
 
-/// What is wrong with a line of a certificate around fixed workqueues that is refused with this number, or with the
-/// whole text.
-fn fault_around(code: u32) -> &'static str {
+/// What is wrong with a line of a certificate around fixed workqueues that is refused with this number; or, if that is
+/// 0, with the whole text.
+fn fault_around(code: u32, line: u32) -> &'static str {
     match code {
+        40 if line == 0 => "the text ends too early, or it has more than 8,388,608 bytes",
         41 => "an item is on two workqueues, or one that FIXED doesn't have is on none",
         42 => "the items of a group are on several workqueues",
         43 => "a number isn't the next one, or is too large",
@@ -375,7 +376,7 @@ pub fn of_refused_around<A: Allocator + Copy>(
 ) -> Result<Vec<u8, A>, AllocError>
     ensures { IfOk result (λ said. IsDiagnosis certificate.entry.file.now (codes "refused") code line said.items) }
 {
-    of_text(alloc, certificate, code, line, fault_around(code))
+    of_text(alloc, certificate, code, line, fault_around(code, line))
 }
 
 /// The diagnosis of fixed workqueues that are refused with the number `code` for `line`. `declared` is what the text

@@ -20,8 +20,7 @@ pub(crate) const ASSIGN: &str =
     "Which item is on which workqueue: `wq`, `norescuer` lines or a plan";
 
 /// What FIXED is.
-pub(crate) const FIXED: &str =
-    "Workqueues that stay as they are, with some items or all: as ASSIGN";
+pub(crate) const FIXED: &str = "Which workqueues stay as they are, with which items: as ASSIGN";
 
 /// What NAME is.
 pub(crate) const NAME: &str = "An item that may move, with its group. Without NAME all may";
