@@ -1,4 +1,4 @@
-use Rattle.std.proofs.Common.{◌≡◌, ◌<◌, ◌+◌, ◌↔◌, ℕ, zero, suc, List, ◌∷◌, length, drop, false, true, sym, ap, subst, ◌∙◌, get_or, drop-cons, arith}
+use Rattle.std.proofs.Common.{◌≡◌, ◌<◌, ◌+◌, ◌↔◌, ℕ, zero, suc, List, ◌∷◌, length, drop, false, sym, ap, subst, ◌∙◌, get_or, drop-cons, arith}
 use Rattle.std.proofs.lemmas.Bool.{false≢true}
 use Rattle.wq_core.specs.State.{State, HasUnfinishedOf}
 use Rattle.wq_checker.specs.Searching.{HasOneLeft}
