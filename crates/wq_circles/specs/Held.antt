@@ -11,6 +11,8 @@ use Rattle.wq_core.specs.Wiring.{HasRescuer, RescuedWaits}
 use Rattle.wq_core.specs.Workqueues.{Workqueues, wiring_of}
 use Rattle.wq_deadlock.specs.Judging.{bare_waits}
 use Rattle.wq_circles.specs.Leading.{Leads}
+use Rattle.wq_circles.specs.Lists.{Next}
+use Rattle.wq_circles.specs.Searching.{AreFound, Search}
 use Rattle.wq_circles.specs.Components.{AreComponents}
 
 -- one workqueue is the other one, or leads to it, by way of workqueues that have a rescuer alone
@@ -35,6 +37,17 @@ CanBeHeld d ws components q =
     HasRescuer (wiring_of d ws) q
     × ((p : ℕ) × IsOrLeads d ws q p
     × (BeginsOn d ws (flat_map (λ arcs. arcs) components) p ⊎ BeginsOn d ws (bare_waits d ws) p))
+
+-- what a found vertex leads to by its list was found
+abbrev pub LeadsToFound : List (List ℕ) → Search → Type 0
+LeadsToFound lists s = (v w : ℕ) → Contains s.order v → Next lists v w → Contains s.order w
+
+-- the search s goes on to t: beside what was found before, it finds v and all that v leads to
+pub record FindsFrom (lists : List (List ℕ)) (s : Search) (v : ℕ) (t : Search) : Type 0 where
+  pub marks : length t.marks ≡ length s.marks
+  pub found : AreFound t
+  pub closed : LeadsToFound lists t
+  pub reached : (w : ℕ) → Contains t.order w ↔ (Contains s.order w ⊎ ((w ≡ v) ⊎ Leads (Next lists) v w))
 
 -- for each workqueue whether this is so of it
 pub record AreMarksOf (d : Declaration) (ws : Workqueues) (P : ℕ → Type 0) (marks : List Bool) : Type 0 where

@@ -4,14 +4,19 @@
 //! made, one along the arcs from those of the items, and one against them. It takes the time and the memory of the
 //! components, and of these.
 
-ghost use Rattle.std.specs.Prelude.{◌≡◌, ◌<◌, ℕ, List, IfOk, length, map, slice_index_or, false};
-ghost use Rattle.std.specs.List.{All};
+ghost use Rattle.std.specs.Prelude.{◌≡◌, ◌<◌, ℕ, List, IfOk, length, map, filter, flat_map, slice_index_or, false};
+ghost use Rattle.std.specs.List.{All, range_with_len};
+ghost use Rattle.wq_items.specs.Readings.{is_among};
 ghost use Rattle.wq_graph.specs.declared.arc.WaitArc.{WaitArc};
 ghost use Rattle.wq_groups.specs.DeclaredGroups.{declared_waits};
 ghost use Rattle.wq_groups.specs.Assignment.{item_lane};
-ghost use Rattle.wq_deadlock.specs.Judging.{bare_waits};
+ghost use Rattle.wq_graph.specs.Graph.{arcs_by_place};
+ghost use Rattle.wq_deadlock.specs.Judging.{bare_waits, rescued_graph};
 ghost use Rattle.wq_circles.specs.Components.{AreComponents};
-ghost use Rattle.wq_circles.specs.Held.{AreHeldCircles, AreMarksOf, CanBeHeld, IsLedTo};
+ghost use Rattle.wq_circles.specs.Held.{AreHeldCircles, AreMarksOf, CanBeHeld, FindsFrom, LeadsToFound, IsLedTo};
+ghost use Rattle.wq_circles.specs.Held.{begins_marked, is_marked_component, is_way};
+ghost use Rattle.wq_circles.specs.Lists.{AreTurned, head_lists};
+ghost use Rattle.wq_circles.specs.Searching.{AreFound};
 
 use crate::joining::components;
 use crate::lists::{heads, tails};
@@ -43,12 +48,19 @@ fn lane_of<A: Allocator + Copy>(assigned: &Assigned<'_, '_, A>, item: ItemId) ->
     assigned.workqueues().assignment().lane(group).get()
 }
 
-/// Finds a vertex and all that it leads to, unless it was found.
+/// Finds a vertex and all that it leads to, unless it was found. What a found vertex leads to was found with it.
 fn find<A: Allocator + Copy>(
     found: &mut FoundVertices<A>,
     lists: &[Vec<u16, A>],
     vertex: u16,
-) -> Result<(), AllocError> {
+) -> Result<(), AllocError>
+    requires one_each { length found.old.marks ≡ length lists.now }
+    requires found { AreFound found.old }
+    requires closed { LeadsToFound (map (λ l. l.items) lists.now) found.old }
+    requires vertex { vertex < length lists.now }
+    requires within { All (λ list. All (λ w. w < length lists.now) list.items) lists.now }
+    ensures { IfOk result (λ _. FindsFrom (map (λ l. l.items) lists.now) found.old vertex found.new) }
+{
     if !found.has(vertex) {
         spread(found, lists, vertex)?;
     }
@@ -62,6 +74,8 @@ fn led_to<A: Allocator + Copy>(
     heads: &[Vec<u16, A>],
     named: &[ItemId],
 ) -> Result<FoundVertices<A>, AllocError>
+    requires heads { map (λ l. l.items) heads.now
+        ≡ head_lists (rescued_graph (declared_waits assigned.now.declared) assigned.now.workqueues) }
     requires named { All (λ i. i < length assigned.now.declared.table.names) named.now }
     ensures { IfOk result (λ found. AreMarksOf (declared_waits assigned.now.declared) assigned.now.workqueues
         (IsLedTo (declared_waits assigned.now.declared) assigned.now.workqueues named.now) found.marks) }
@@ -84,6 +98,9 @@ fn can_be_held<A: Allocator + Copy>(
     components: &[Vec<WaitArc, A>],
     waits: &[WaitArc],
 ) -> Result<FoundVertices<A>, AllocError>
+    requires tails { AreTurned
+        (head_lists (rescued_graph (declared_waits assigned.now.declared) assigned.now.workqueues))
+        (map (λ l. l.items) tails.now) }
     requires components { AreComponents (declared_waits assigned.now.declared) assigned.now.workqueues
         (map (λ l. l.items) components.now) }
     requires waits { waits.now ≡ bare_waits (declared_waits assigned.now.declared) assigned.now.workqueues }
@@ -109,7 +126,12 @@ fn led_among<A: Allocator + Copy>(
     assigned: &Assigned<'_, '_, A>,
     led: &FoundVertices<A>,
     arcs: &[WaitArc],
-) -> Result<Vec<WaitArc, A>, AllocError> {
+) -> Result<Vec<WaitArc, A>, AllocError>
+    requires marks { length led.now.marks ≡ assigned.now.workqueues.assignment.lanes }
+    requires items { All (λ (a : WaitArc). a.src < length assigned.now.declared.partition.group_of) arcs.now }
+    ensures { IfOk result (λ some. some.items ≡ filter
+        (begins_marked (declared_waits assigned.now.declared) assigned.now.workqueues led.now.marks) arcs.now) }
+{
     let mut some = Vec::new(alloc);
     for arc in arcs {
         if led.has(lane_of(assigned, arc.src)) {
@@ -124,7 +146,11 @@ fn in_components<A: Allocator + Copy>(
     alloc: A,
     components: &[Vec<WaitArc, A>],
     flushes: usize,
-) -> Result<Vec<bool, A>, AllocError> {
+) -> Result<Vec<bool, A>, AllocError>
+    ensures { IfOk result (λ marks. marks.items ≡ map
+        (is_among (map (λ (b : WaitArc). b.place) (flat_map (λ arcs. arcs) (map (λ l. l.items) components.now))))
+        (range_with_len 0 flushes)) }
+{
     let mut marks = vec![in alloc; false; flushes]?;
     for arcs in components {
         for arc in arcs {
@@ -145,7 +171,14 @@ fn ways_among<A: Allocator + Copy>(
     led: &FoundVertices<A>,
     held: &FoundVertices<A>,
     components: &[Vec<WaitArc, A>],
-) -> Result<Vec<WaitArc, A>, AllocError> {
+) -> Result<Vec<WaitArc, A>, AllocError>
+    requires led { length led.now.marks ≡ assigned.now.workqueues.assignment.lanes }
+    requires held { length held.now.marks ≡ assigned.now.workqueues.assignment.lanes }
+    ensures { IfOk result (λ ways. ways.items ≡ filter
+        (is_way (declared_waits assigned.now.declared) assigned.now.workqueues led.now.marks held.now.marks
+        (map (λ l. l.items) components.now))
+        (arcs_by_place assigned.now.declared.table.waits assigned.now.declared.partition.group_of)) }
+{
     let all = group_arcs_by_place(alloc, assigned.table(), assigned.groups())?;
     let marks = in_components(alloc, components, all.len())?;
     let mut ways = Vec::new(alloc);
@@ -167,7 +200,14 @@ fn led_components<A: Allocator + Copy>(
     assigned: &Assigned<'_, '_, A>,
     led: &FoundVertices<A>,
     components: Vec<Vec<WaitArc, A>, A>,
-) -> Result<Vec<Vec<WaitArc, A>, A>, AllocError> {
+) -> Result<Vec<Vec<WaitArc, A>, A>, AllocError>
+    requires marks { length led.now.marks ≡ assigned.now.workqueues.assignment.lanes }
+    requires items { All (λ arcs. All (λ (a : WaitArc). a.src < length assigned.now.declared.partition.group_of)
+        arcs.items) components.items }
+    ensures { IfOk result (λ some. map (λ l. l.items) some.items ≡ filter
+        (is_marked_component (declared_waits assigned.now.declared) assigned.now.workqueues led.now.marks)
+        (map (λ l. l.items) components.items)) }
+{
     let mut some = Vec::new(alloc);
     for arcs in components {
         let is_led = match arcs.first() {
@@ -187,7 +227,12 @@ fn held_in_graph<A: Allocator + Copy>(
     assigned: &Assigned<'_, '_, A>,
     graph: &WaitGraph<A>,
     named: &[ItemId],
-) -> Result<HeldCircles<A>, AllocError> {
+) -> Result<HeldCircles<A>, AllocError>
+    requires graph { graph.now ≡ rescued_graph (declared_waits assigned.now.declared) assigned.now.workqueues }
+    requires named { All (λ i. i < length assigned.now.declared.table.names) named.now }
+    ensures { IfOk result (λ held. AreHeldCircles (declared_waits assigned.now.declared) assigned.now.workqueues
+        named.now (map (λ l. l.items) held.components.items) held.waits.items held.ways.items) }
+{
     let heads = heads(alloc, graph)?;
     let tails = tails(alloc, heads.as_slice(), graph.vertices())?;
     let all = components(alloc, assigned)?;
