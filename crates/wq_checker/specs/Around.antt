@@ -65,28 +65,33 @@ pub record IsFirstNotFallingAround (d : Declaration) (f : Fixed) (c : AroundPlan
 
 -- ---- chains and circles of the start
 
--- the arc is a declared flush between items on lanes of the start that have a rescuer; and its item is on the lane of
--- the target of the arc before it, if there is one
-pub record JoinsAround (d : Declaration) (f : Fixed) (before : Option (ℕ × ℕ)) (arc : ℕ × ℕ) : Type 0 where
-  pub declared : ItemWaits d.waits arc.0 arc.1
-  pub from : HasRescuer (start_wiring d f) (lane_of (start_wiring d f) arc.0)
-  pub to : HasRescuer (start_wiring d f) (lane_of (start_wiring d f) arc.1)
-  pub joined : (b : ℕ × ℕ) → before ≡ Some b
-      → lane_of (start_wiring d f) b.1 ≡ lane_of (start_wiring d f) arc.0
+-- the arc is a declared flush between items on lanes that have a rescuer; and its item is on the lane of the target of
+-- the arc before it, if there is one
+pub record JoinsIn (w : Wiring) (before : Option (ℕ × ℕ)) (arc : ℕ × ℕ) : Type 0 where
+  pub declared : ItemWaits w.waits arc.0 arc.1
+  pub from : HasRescuer w (lane_of w arc.0)
+  pub to : HasRescuer w (lane_of w arc.1)
+  pub joined : (b : ℕ × ℕ) → before ≡ Some b → lane_of w b.1 ≡ lane_of w arc.0
 
 -- each arc joins the one before it
+abbrev pub AllJoinIn : Wiring → (ℕ → Option (ℕ × ℕ)) → List (ℕ × ℕ) → Type 0
+AllJoinIn w before arcs = (k : ℕ) (arc : ℕ × ℕ) → slice_get arcs k ≡ Some arc → JoinsIn w (before k) arc
+
+-- the same in the start
 abbrev pub AllJoinAround : Declaration → Fixed → (ℕ → Option (ℕ × ℕ)) → List (ℕ × ℕ) → Type 0
-AllJoinAround d f before arcs =
-    (k : ℕ) (arc : ℕ × ℕ) → slice_get arcs k ≡ Some arc → JoinsAround d f (before k) arc
+AllJoinAround d f = AllJoinIn (start_wiring d f)
 
 -- arc `at`, counted from 1, is the first that doesn't join the one before it
-pub record IsFirstBreakAround (d : Declaration) (f : Fixed) (before : ℕ → Option (ℕ × ℕ)) (arcs : List (ℕ × ℕ)) (at : ℕ)
-    : Type 0 where
+pub record IsFirstBreakIn (w : Wiring) (before : ℕ → Option (ℕ × ℕ)) (arcs : List (ℕ × ℕ)) (at : ℕ) : Type 0 where
   pub from_one : 0 < at
   pub arc : ℕ × ℕ
   pub stands : slice_get arcs (at - 1) ≡ Some arc
-  pub breaks : ¬ JoinsAround d f (before (at - 1)) arc
-  pub first : (k : ℕ) (other : ℕ × ℕ) → k < at - 1 → slice_get arcs k ≡ Some other → JoinsAround d f (before k) other
+  pub breaks : ¬ JoinsIn w (before (at - 1)) arc
+  pub first : (k : ℕ) (other : ℕ × ℕ) → k < at - 1 → slice_get arcs k ≡ Some other → JoinsIn w (before k) other
+
+-- the same in the start
+abbrev pub IsFirstBreakAround : Declaration → Fixed → (ℕ → Option (ℕ × ℕ)) → List (ℕ × ℕ) → ℕ → Type 0
+IsFirstBreakAround d f = IsFirstBreakIn (start_wiring d f)
 
 -- the lanes of the start on a chain of these arcs: that of the first item, and those of the targets
 abbrev pub lanes_along : Declaration → Fixed → List (ℕ × ℕ) → List ℕ
@@ -135,10 +140,14 @@ AnswersPlanAround d f c _ = ⊥
 
 -- ---- circles, and flushes to no rescuer
 
--- the steps, if there are any, are a run that deadlocks in the start
+-- the steps, if there are any, are a run that deadlocks
+abbrev pub ShowsDeadlockIn : Wiring → Option (List Step) → Type 0
+ShowsDeadlockIn w None = Unit {0}
+ShowsDeadlockIn w (Some steps) = DeadlocksBy w steps
+
+-- the same in the start
 abbrev pub ShowsDeadlockAround : Declaration → Fixed → Option (List Step) → Type 0
-ShowsDeadlockAround d f None = Unit {0}
-ShowsDeadlockAround d f (Some steps) = DeadlocksBy (start_wiring d f) steps
+ShowsDeadlockAround d f = ShowsDeadlockIn (start_wiring d f)
 
 -- what is answered to the text of a circle
 abbrev pub AnswersCircleAround : Declaration → Fixed → CircleCertificate → Result YesAround NoAround → Type 0
@@ -150,12 +159,15 @@ AnswersCircleAround d f c (Err (no_around.Plain RunBroken)) =
     AllJoinAround d f (before_in_circle c.arcs) c.arcs × (¬ ShowsDeadlockAround d f c.steps)
 AnswersCircleAround d f c _ = ⊥
 
--- the arc is a declared flush of an item on a lane of the start that has a rescuer, and its target is on one that has
--- none
-pub record LeadsToNone (d : Declaration) (f : Fixed) (arc : ℕ × ℕ) : Type 0 where
-  pub declared : ItemWaits d.waits arc.0 arc.1
-  pub from : HasRescuer (start_wiring d f) (lane_of (start_wiring d f) arc.0)
-  pub to : ¬ HasRescuer (start_wiring d f) (lane_of (start_wiring d f) arc.1)
+-- the arc is a declared flush of an item on a lane that has a rescuer, and its target is on one that has none
+pub record LeadsToNoneIn (w : Wiring) (arc : ℕ × ℕ) : Type 0 where
+  pub declared : ItemWaits w.waits arc.0 arc.1
+  pub from : HasRescuer w (lane_of w arc.0)
+  pub to : ¬ HasRescuer w (lane_of w arc.1)
+
+-- the same in the start
+abbrev pub LeadsToNone : Declaration → Fixed → ℕ × ℕ → Type 0
+LeadsToNone d f = LeadsToNoneIn (start_wiring d f)
 
 -- what is answered to a norescuer text
 abbrev pub AnswersNoRescuer : Declaration → Fixed → NoRescuerCertificate → Result YesAround NoAround → Type 0
@@ -169,6 +181,12 @@ abbrev pub AnswersAround : Declaration → Fixed → AroundCertificate → Resul
 AnswersAround d f (OfPlanAround c) answer = AnswersPlanAround d f c answer
 AnswersAround d f (OfCircleAround c) answer = AnswersCircleAround d f c answer
 AnswersAround d f (OfNoRescuer c) answer = AnswersNoRescuer d f c answer
+
+-- this yes is answered if the steps, if there are any, deadlock; otherwise that they don't
+abbrev pub IsWithRun : Wiring → Option (List Step) → YesAround → Result YesAround NoAround → Type 0
+IsWithRun w steps yes answer =
+    (ShowsDeadlockIn w steps × (answer ≡ Ok yes))
+    ⊎ ((¬ ShowsDeadlockIn w steps) × (answer ≡ Err (no_around.Plain RunBroken)))
 
 -- ---- certificates that can be asked about
 

@@ -11,3 +11,4 @@ pub mod Searching
 pub mod Codes
 pub mod Around
 pub mod CodesAround
+pub mod SearchingAround

@@ -7,13 +7,25 @@
 //! items and flushes and in the length of the order, and for each arc of its chain in the number of flushes that the
 //! arc's item declares. A circle takes that for its arcs, and for its run that of `check_run_on`.
 
-ghost use Rattle.std.specs.Prelude.{◌≡◌, ◌<◌, ◌≤◌, ◌↔◌, IsTrue, IfOk, IfSome, IfNone, option_map, length, map, slice_index, slice_index_or, false};
+ghost use Rattle.std.specs.Prelude.{◌≡◌, ◌<◌, ◌≤◌, ◌↔◌, IsTrue, IfOk, IfSome, IfNone, option_map, length, map};
+ghost use Rattle.std.specs.Prelude.{slice_index_or, false};
 ghost use Rattle.std.specs.List.{All, range_with_len};
+ghost use Rattle.wq_items.specs.Table.{ItemWaits};
+ghost use Rattle.wq_groups.specs.Assignment.{item_lane};
+ghost use Rattle.wq_groups.specs.Declaration.{declaration_of};
 ghost use Rattle.wq_groups.specs.DeclaredGroups.{declared_waits};
-ghost use Rattle.wq_fixed.specs.Fixed.{IsFixed, fixed_lanes, start};
+ghost use Rattle.wq_core.specs.Workqueues.{wiring_of};
+ghost use Rattle.wq_fixed.specs.Fixed.{Fixed, IsFixed, fixed_lanes, start as start_of};
 ghost use Rattle.wq_cert.specs.AroundReading.{around_certificate};
+ghost use Rattle.wq_checker.specs.Answers.{ArcsOfItems};
+ghost use Rattle.wq_checker.specs.Chains.{before_from};
+ghost use Rattle.wq_checker.specs.Searching.{OfItem};
+ghost use Rattle.wq_checker.specs.SearchingAround.{AllItemsFall, FallsTo, FindsStaying, IsFirstItemStaying};
 ghost use Rattle.wq_checker.specs.Around.{AnswersAround, IsAroundAsked, YesIsLeastAround, CircleIsOfAll, NoneIsOfAll};
-ghost use Rattle.wq_checker.specs.Around.{place_in};
+ghost use Rattle.wq_checker.specs.Around.{AllJoinIn, AnswersCircleAround, AnswersNoRescuer, AnswersPlanAround};
+ghost use Rattle.wq_checker.specs.Around.{HasFewSteps};
+ghost use Rattle.wq_checker.specs.Around.{IsCircleAroundAsked, IsFirstBreakIn, IsNoRescuerAsked, IsPlanAroundAsked};
+ghost use Rattle.wq_checker.specs.Around.{IsWithRun, JoinsIn, ShowsDeadlockIn, new_along, place_in};
 
 use crate::answer::{No, Yes};
 use crate::around::{NoAround, YesAround};
@@ -58,7 +70,11 @@ fn is_bare(bare: &[bool], lane: LaneId) -> bool
 }
 
 /// Whether a flush from one workqueue to another falls.
-fn falls(bare: &[bool], places: &[usize], from: LaneId, to: LaneId) -> bool {
+fn falls(bare: &[bool], places: &[usize], from: LaneId, to: LaneId) -> bool
+    requires from { from < length places.now }
+    requires to { to < length places.now }
+    ensures { IsTrue result ↔ FallsTo bare.now places.now from to }
+{
     is_bare(bare, from)
         || !is_bare(bare, to) && places[usize::from(to.get())] < places[usize::from(from.get())]
 }
@@ -71,7 +87,14 @@ fn first_of_item<A: Allocator + Copy>(
     bare: &[bool],
     places: &[usize],
     item: ItemId,
-) -> Option<DeclaredFlush> {
+) -> Option<DeclaredFlush>
+    requires grouped { length groups.now.group_of ≡ length table.now.names }
+    requires assigned { length assignment.now.lane_of_group ≡ groups.now.groups }
+    requires places { length places.now ≡ assignment.now.lanes }
+    requires item { item < length table.now.names }
+    ensures { FindsStaying (declaration_of table.now groups.now) assignment.now bare.now places.now
+        (OfItem (declaration_of table.now groups.now) item) result }
+{
     let _items = table.len();
     let from = assignment.lane(groups.of(item));
     for target in table.waits(item) {
@@ -92,7 +115,15 @@ fn first_not_falling<A: Allocator + Copy>(
     assignment: &Assignment<A>,
     bare: &[bool],
     places: &[usize],
-) -> Option<(ItemId, ItemId)> {
+) -> Option<(ItemId, ItemId)>
+    requires grouped { length groups.now.group_of ≡ length table.now.names }
+    requires assigned { length assignment.now.lane_of_group ≡ groups.now.groups }
+    requires places { length places.now ≡ assignment.now.lanes }
+    ensures some { IfSome result (λ f. IsFirstItemStaying (declaration_of table.now groups.now) assignment.now
+        bare.now places.now f.0 f.1) }
+    ensures none { IfNone result (AllItemsFall (declaration_of table.now groups.now) assignment.now
+        bare.now places.now) }
+{
     let mut least = None;
     for number in 0..table.len() {
         let item = ItemId::new(number);
@@ -104,18 +135,28 @@ fn first_not_falling<A: Allocator + Copy>(
 }
 
 /// The workqueue of an item.
-fn lane_of<A: Allocator + Copy>(start: &Assigned<'_, '_, A>, item: ItemId) -> LaneId {
+fn lane_of<A: Allocator + Copy>(start: &Assigned<'_, '_, A>, item: ItemId) -> LaneId
+    requires { item < length start.now.declared.partition.group_of }
+    ensures { result ≡ item_lane start.now.workqueues.assignment start.now.declared.partition.group_of item }
+{
     let group = start.groups().of(item);
     start.workqueues().assignment().lane(group)
 }
 
 /// Whether an item is on a workqueue that has no rescuer.
-fn is_on_bare<A: Allocator + Copy>(start: &Assigned<'_, '_, A>, item: ItemId) -> bool {
+fn is_on_bare<A: Allocator + Copy>(start: &Assigned<'_, '_, A>, item: ItemId) -> bool
+    requires { item < length start.now.declared.partition.group_of }
+    ensures { result ≡ slice_index_or start.now.workqueues.bare
+        (item_lane start.now.workqueues.assignment start.now.declared.partition.group_of item) false }
+{
     start.workqueues().is_bare(lane_of(start, item))
 }
 
 /// Whether an item declares a flush of another one.
-fn declares<A: Allocator + Copy>(start: &Assigned<'_, '_, A>, arc: (ItemId, ItemId)) -> bool {
+fn declares<A: Allocator + Copy>(start: &Assigned<'_, '_, A>, arc: (ItemId, ItemId)) -> bool
+    requires { arc.0 < length start.now.declared.table.names }
+    ensures { IsTrue result ↔ ItemWaits start.now.declared.table.waits arc.0 arc.1 }
+{
     have_target(start.table().waits(arc.0), arc.1)
 }
 
@@ -124,7 +165,12 @@ fn joins<A: Allocator + Copy>(
     start: &Assigned<'_, '_, A>,
     before: Option<(ItemId, ItemId)>,
     arc: (ItemId, ItemId),
-) -> bool {
+) -> bool
+    requires before { IfSome before (λ b. b.1 < length start.now.declared.table.names) }
+    requires item { arc.0 < length start.now.declared.table.names }
+    requires target { arc.1 < length start.now.declared.table.names }
+    ensures { IsTrue result ↔ JoinsIn (wiring_of (declared_waits start.now.declared) start.now.workqueues) before arc }
+{
     declares(start, arc)
         && !is_on_bare(start, arc.0)
         && !is_on_bare(start, arc.1)
@@ -141,7 +187,13 @@ fn first_break<A: Allocator + Copy>(
     first: Option<(ItemId, ItemId)>,
     arcs: &[(ItemId, ItemId)],
 ) -> Option<u32>
+    requires first { IfSome first (λ b. b.1 < length start.now.declared.table.names) }
+    requires arcs { ArcsOfItems (declared_waits start.now.declared) arcs.now }
     requires few { length arcs.now ≤ 4096 }
+    ensures some { IfSome result (λ at. IsFirstBreakIn
+        (wiring_of (declared_waits start.now.declared) start.now.workqueues) (before_from first arcs.now) arcs.now at) }
+    ensures none { IfNone result (AllJoinIn
+        (wiring_of (declared_waits start.now.declared) start.now.workqueues) (before_from first arcs.now) arcs.now) }
 {
     let mut before = first;
     let mut at = 0;
@@ -162,7 +214,10 @@ fn new_along<A: Allocator + Copy>(
     length: u32,
     arcs: &[(ItemId, ItemId)],
 ) -> u32
+    requires arcs { ArcsOfItems (declared_waits start.now.declared) arcs.now }
     requires few { length arcs.now ≤ 4096 }
+    ensures { (f : Fixed) → start.now.workqueues ≡ start_of f → fixed_lanes f ≡ new
+        → result ≡ new_along (declared_waits start.now.declared) f length arcs.now }
 {
     let Some(first) = arcs.first() else {
         return length;
@@ -183,7 +238,14 @@ fn check_plan<A: Allocator + Copy>(
     order: &[LaneId],
     chain: u32,
     arcs: &[(ItemId, ItemId)],
-) -> Result<Result<YesAround, NoAround>, AllocError> {
+) -> Result<Result<YesAround, NoAround>, AllocError>
+    requires fixed { IsFixed start.now.declared.partition.groups fixed.now }
+    requires start { start.now.workqueues ≡ start_of fixed.now }
+    requires asked { IsPlanAroundAsked (declared_waits start.now.declared) fixed.now
+        (record { assignment = assignment.now; order = order.now; length = chain; arcs = arcs.now }) }
+    ensures { IfOk result (λ r. AnswersPlanAround (declared_waits start.now.declared) fixed.now
+        (record { assignment = assignment.now; order = order.now; length = chain; arcs = arcs.now }) r) }
+{
     let places = places_in(alloc, order, assignment.lanes())?;
     let (table, groups) = (start.table(), start.groups());
     let stays = first_not_falling(table, groups, assignment, fixed.bare(), places.as_slice());
@@ -208,7 +270,12 @@ fn show_deadlock<A: Allocator + Copy>(
     alloc: A,
     start: &Assigned<'_, '_, A>,
     steps: &Option<Vec<Step, A>>,
-) -> Result<bool, AllocError> {
+) -> Result<bool, AllocError>
+    requires { HasFewSteps (option_map (λ s. s.items) steps.now) }
+    ensures { IfOk result (λ is. IsTrue is ↔ ShowsDeadlockIn
+        (wiring_of (declared_waits start.now.declared) start.now.workqueues)
+        (option_map (λ s. s.items) steps.now)) }
+{
     match steps {
         Some(steps) => {
             let end = check_run_on(
@@ -230,7 +297,11 @@ fn with_run<A: Allocator + Copy>(
     start: &Assigned<'_, '_, A>,
     steps: &Option<Vec<Step, A>>,
     yes: YesAround,
-) -> Result<Result<YesAround, NoAround>, AllocError> {
+) -> Result<Result<YesAround, NoAround>, AllocError>
+    requires { HasFewSteps (option_map (λ s. s.items) steps.now) }
+    ensures { IfOk result (λ r. IsWithRun (wiring_of (declared_waits start.now.declared) start.now.workqueues)
+        (option_map (λ s. s.items) steps.now) yes r) }
+{
     if show_deadlock(alloc, start, steps)? {
         Ok(Ok(yes))
     } else {
@@ -244,7 +315,13 @@ fn check_circle<A: Allocator + Copy>(
     start: &Assigned<'_, '_, A>,
     arcs: &[(ItemId, ItemId)],
     steps: &Option<Vec<Step, A>>,
-) -> Result<Result<YesAround, NoAround>, AllocError> {
+) -> Result<Result<YesAround, NoAround>, AllocError>
+    requires asked { IsCircleAroundAsked (declared_waits start.now.declared)
+        (record { arcs = arcs.now; steps = option_map (λ s. s.items) steps.now }) }
+    ensures { IfOk result (λ r. (f : Fixed) → start.now.workqueues ≡ start_of f
+        → AnswersCircleAround (declared_waits start.now.declared) f
+        (record { arcs = arcs.now; steps = option_map (λ s. s.items) steps.now }) r) }
+{
     if let Some(at) = first_break(start, arcs.last().copied(), arcs) {
         return Ok(Err(NoAround::Plain(No::CircleBroken { at })));
     }
@@ -263,7 +340,13 @@ fn check_norescuer<A: Allocator + Copy>(
     start: &Assigned<'_, '_, A>,
     arc: (ItemId, ItemId),
     steps: &Option<Vec<Step, A>>,
-) -> Result<Result<YesAround, NoAround>, AllocError> {
+) -> Result<Result<YesAround, NoAround>, AllocError>
+    requires asked { IsNoRescuerAsked (declared_waits start.now.declared)
+        (record { arc = arc; steps = option_map (λ s. s.items) steps.now }) }
+    ensures { IfOk result (λ r. (f : Fixed) → start.now.workqueues ≡ start_of f
+        → AnswersNoRescuer (declared_waits start.now.declared) f
+        (record { arc = arc; steps = option_map (λ s. s.items) steps.now }) r) }
+{
     if !declares(start, arc) || is_on_bare(start, arc.0) || !is_on_bare(start, arc.1) {
         return Ok(Err(NoAround::HasRescuer));
     }
@@ -273,9 +356,9 @@ fn check_norescuer<A: Allocator + Copy>(
 /// Checks a certificate around fixed workqueues, where what is declared is on the workqueues of their start: what it
 /// shows, or the first reason why it shows nothing.
 ///
-/// The certificate is one of the declaration and these workqueues, as every certificate is that is read. A yes to a plan
-/// implies that it is safe, and that any workqueues that keep the fixed ones and are fewer deadlock. A yes to a circle or
-/// to a flush to no rescuer implies that all that keep them do. The only error is out of memory (20).
+/// The certificate is one of the declaration and these workqueues, as every certificate is that is read. A yes to a
+/// plan implies that it is safe, and that any workqueues that keep the fixed ones and are fewer deadlock. A yes to a
+/// circle or to a flush to no rescuer implies that all that keep them do. The only error is out of memory (20).
 pub fn check_around<A: Allocator + Copy>(
     alloc: A,
     start: &Assigned<'_, '_, A>,
@@ -283,7 +366,7 @@ pub fn check_around<A: Allocator + Copy>(
     answer: &AroundAnswer<A>,
 ) -> Result<Result<YesAround, NoAround>, AllocError>
     requires fixed { IsFixed start.now.declared.partition.groups fixed.now }
-    requires start { start.now.workqueues ≡ start fixed.now }
+    requires start { start.now.workqueues ≡ start_of fixed.now }
     requires asked { IsAroundAsked (declared_waits start.now.declared) fixed.now (around_certificate answer.now) }
     ensures answer { IfOk result (λ r.
         AnswersAround (declared_waits start.now.declared) fixed.now (around_certificate answer.now) r) }
