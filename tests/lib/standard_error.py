@@ -190,12 +190,12 @@ def said_beside(printed, files, command):
 def answer(printed):
     """The first word of a refusal or of a `no`, its number and its line; of any other answer None.
 
-    The line of a `no` is any: it is that of the word that is meant.
+    The line of a `no` is any: it is that of the word that is meant. With 55 there is none.
     """
     refused, no = REFUSED.fullmatch(printed), NO.fullmatch(printed)
     if refused:
         return refused.groups()
-    return (*no.groups(), NUMBER) if no else None
+    return (*no.groups(), b"0" if no[2] == b"55" else NUMBER) if no else None
 
 
 def meant(printed, files):

@@ -461,7 +461,7 @@ const HAS_RESCUER: Explanation = (
 a workqueue without a rescuer, or its target on one that has one. Items that
 FIXED doesn't have are on workqueues with a rescuer.
 
-The rule: docs/FORMAT.md, \"Certificates around workqueues\"
+The rule: docs/FORMAT.md, \"Planning around workqueues\"
 
 To see it:
     printf 'item a\\nitem b\\nflush a b\\n' > decl

@@ -57,7 +57,7 @@ const ORDER: Explanation = (
 it. They are those that have a rescuer, of FIXED and of the plan. It shows that
 the plan is safe, whatever their numbers are.
 
-The rule: docs/FORMAT.md, \"Plan texts around workqueues\"
+The rule: docs/FORMAT.md, \"Planning around workqueues\"
 
 To see it:
     printf 'item a\\nitem b\\nflush a b\\n' > decl
