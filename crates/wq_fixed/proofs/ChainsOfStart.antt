@@ -17,13 +17,13 @@ use Rattle.wq_fixed.proofs.Kept.{lane_now, waits_here}
 use Rattle.wq_fixed.proofs.Fewest.{count_from, again_from, circle_from_again, IsChain-map}
 
 -- how many of these numbers are from `least` on
-count_new : ℕ → List ℕ → ℕ
+abbrev count_new : ℕ → List ℕ → ℕ
 count_new least [] = 0
 count_new least (q ∷ qs) = cond (nat_le least q) (1 + count_new least qs) (count_new least qs)
 
 module _ (d : Declaration) (f : Fixed) (ws : Workqueues) (declaration : IsDeclaration d) (fixed : IsFixed d.groups f) (assignment : IsAssignment d.groups ws.assignment) (keeps : Keeps f ws) where
   -- the lane that stands for a lane of the start
-  now : ℕ → ℕ
+  abbrev now : ℕ → ℕ
   now = lane_now d f ws declaration fixed assignment keeps
 
   now-fixed : (q : ℕ) → q < fixed_lanes f → now q ≡ q
@@ -63,7 +63,7 @@ module _ (d : Declaration) (f : Fixed) (ws : Workqueues) (declaration : IsDeclar
     | inr high ↦
         let from : fixed_lanes f ≤ now q = (now-new q high below.0).0 in
         cond-false (ltb (now q) (fixed_lanes f)) (count_from (fixed_lanes f) (map now qs)) (1 + count_from (fixed_lanes f) (map now qs)) (le-ltb (now q) (fixed_lanes f) from)
-        ∙ ap suc (count_now qs below.1)
+        ∙ ap (λ (n : ℕ). 1 + n) (count_now qs below.1)
         ∙ sym (cond-true (nat_le (fixed_lanes f) q) (1 + count_new (fixed_lanes f) qs) (count_new (fixed_lanes f) qs) (le-leb (fixed_lanes f) q high))
   ]
 

@@ -9,12 +9,12 @@ use Rattle.wq_items.specs.Chain.{IsChain, Circle, last_of}
 use Rattle.wq_items.proofs.Pigeonhole.{IsIn, HasAgain, has_again}
 
 -- the numbers from `least` on, less `least`
-pub rest_from : ℕ → List ℕ → List ℕ
+abbrev pub rest_from : ℕ → List ℕ → List ℕ
 rest_from least [] = []
 rest_from least (x ∷ xs) = cond (ltb x least) (rest_from least xs) ((x - least) ∷ rest_from least xs)
 
 -- how many numbers are from `least` on
-pub count_from : ℕ → List ℕ → ℕ
+abbrev pub count_from : ℕ → List ℕ → ℕ
 count_from least [] = 0
 count_from least (x ∷ xs) = cond (ltb x least) (count_from least xs) (1 + count_from least xs)
 
@@ -28,7 +28,7 @@ module _ (least : ℕ) where
         ∙ sym (cond-true (ltb x least) (count_from least xs) (1 + count_from least xs) (lt-ltb x least below))
     | inr from ↦
         ap (λ (ys : List ℕ). length ys) (cond-false (ltb x least) (rest_from least xs) ((x - least) ∷ rest_from least xs) (le-ltb x least from))
-        ∙ ap suc (length-rest_from xs)
+        ∙ (let same : suc (length (rest_from least xs)) ≡ 1 + count_from least xs = omega (arith, length-rest_from xs) in same)
         ∙ sym (cond-false (ltb x least) (count_from least xs) (1 + count_from least xs) (le-ltb x least from))
   ]
 
@@ -45,23 +45,25 @@ module _ (least : ℕ) where
   IsIn-rest_from y [] from found = found
   IsIn-rest_from y (x ∷ xs) from found = elim (cases_lt x least) [
     | inl low ↦ inr (IsIn-rest_from y xs from (subst (IsIn (y - least)) (cond-true (ltb x least) (rest_from least xs) ((x - least) ∷ rest_from least xs) (lt-ltb x least low)) found))
-    | inr high ↦ by high (subst (IsIn (y - least)) (cond-false (ltb x least) (rest_from least xs) ((x - least) ∷ rest_from least xs) (le-ltb x least high)) found)
+    | inr high ↦ by high (IsIn-rest_from y xs from) (subst (IsIn (y - least)) (cond-false (ltb x least) (rest_from least xs) ((x - least) ∷ rest_from least xs) (le-ltb x least high)) found)
   ]
     where
-      by : least ≤ x → IsIn (y - least) ((x - least) ∷ rest_from least xs) → IsIn y (x ∷ xs)
-      by high (inl same) = inl (omega arith)
-      by high (inr later) = inr (IsIn-rest_from y xs from later)
+      by : least ≤ x → (IsIn (y - least) (rest_from least xs) → IsIn y xs)
+          → IsIn (y - least) ((x - least) ∷ rest_from least xs) → IsIn y (x ∷ xs)
+      by high rest (inl same) = inl (omega (arith, high, from, same))
+      by high rest (inr later) = inr (rest later)
 
   HasAgain-rest_from : (xs : List ℕ) → HasAgain (rest_from least xs) → HasAgain xs
   HasAgain-rest_from [] again = again
   HasAgain-rest_from (x ∷ xs) again = elim (cases_lt x least) [
     | inl low ↦ inr (HasAgain-rest_from xs (subst HasAgain (cond-true (ltb x least) (rest_from least xs) ((x - least) ∷ rest_from least xs) (lt-ltb x least low)) again))
-    | inr high ↦ by high (subst HasAgain (cond-false (ltb x least) (rest_from least xs) ((x - least) ∷ rest_from least xs) (le-ltb x least high)) again)
+    | inr high ↦ by high (HasAgain-rest_from xs) (subst HasAgain (cond-false (ltb x least) (rest_from least xs) ((x - least) ∷ rest_from least xs) (le-ltb x least high)) again)
   ]
     where
-      by : least ≤ x → HasAgain ((x - least) ∷ rest_from least xs) → HasAgain (x ∷ xs)
-      by high (inl found) = inl (IsIn-rest_from x xs high found)
-      by high (inr later) = inr (HasAgain-rest_from xs later)
+      by : least ≤ x → (HasAgain (rest_from least xs) → HasAgain xs)
+          → HasAgain ((x - least) ∷ rest_from least xs) → HasAgain (x ∷ xs)
+      by high rest (inl found) = inl (IsIn-rest_from x xs high found)
+      by high rest (inr later) = inr (rest later)
 
   -- more numbers from `least` on than there are below least + n
   pub again_from : (n : ℕ) (xs : List ℕ) → AllByRecursion (λ x. x < least + n) xs → n < count_from least xs → HasAgain xs

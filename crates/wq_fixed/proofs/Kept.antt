@@ -15,11 +15,11 @@ use Rattle.wq_fixed.proofs.StartLanes.{start-stays, start-free, lane_for, lane_f
 
 module _ (d : Declaration) (f : Fixed) (ws : Workqueues) (declaration : IsDeclaration d) (fixed : IsFixed d.groups f) (assignment : IsAssignment d.groups ws.assignment) (keeps : Keeps f ws) where
   -- the lane that stands for a lane of the start
-  pub lane_now : ℕ → ℕ
+  abbrev pub lane_now : ℕ → ℕ
   lane_now q = cond (ltb q (fixed_lanes f)) q (lane_for (fixed_lanes f) f.lane_of_group ws.assignment.lane_of_group q)
 
   -- what is known of the lane of a group in the start, and of its lane here
-  IsLaneHere : ℕ → Type 0
+  abbrev pub IsLaneHere : ℕ → Type 0
   IsLaneHere g =
       (lane_now (group_lane (start f).assignment g) ≡ group_lane ws.assignment g)
       × (get_or f.bare (group_lane (start f).assignment g) false ≡ get_or ws.bare (group_lane ws.assignment g) false)

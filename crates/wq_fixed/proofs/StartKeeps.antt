@@ -9,7 +9,10 @@ use Rattle.wq_fixed.proofs.StartLanes.{count_free, count_free-is, length-start_l
 
 start-below : (next total : ℕ) (lanes : List (Option ℕ)) → ((g q : ℕ) → slice_get lanes g ≡ Some (Some q) → q < total) → next + count_free lanes ≤ total → AllByRecursion (λ l. l < total) (start_lanes next lanes)
 start-below next total [] each few = tt
-start-below next total (None ∷ lanes) each few = (omega arith, start-below (next + 1) total lanes (λ g q at. each (suc g) q at) (omega arith))
+start-below next total (None ∷ lanes) each few =
+    let more : next + (1 + count_free lanes) ≤ total = few in
+    let first : next < total = omega (arith, more) in
+    (first, start-below (next + 1) total lanes (λ g q at. each (suc g) q at) (omega (arith, more)))
 start-below next total (Some s ∷ lanes) each few = (each 0 s refl, start-below next total lanes (λ g q at. each (suc g) q at) few)
 
 module _ (groups : ℕ) (f : Fixed) (fixed : IsFixed groups f) where
