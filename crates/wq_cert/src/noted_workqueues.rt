@@ -6,7 +6,8 @@
 
 ghost use Rattle.std.specs.Prelude.{◌≡◌, ◌<◌, ℕ, ◌∷◌, ◌++◌, [], true, false, not, List, length, map, Ok, Err, IfOk};
 ghost use Rattle.std.specs.Prelude.{◌≤◌, IfErr, Option, Some, None, MatchOption, unwrap_or};
-ghost use Rattle.std.specs.List.{All, concat, list_all};
+ghost use Rattle.std.specs.List.{All, concat, count_by, list_all};
+ghost use Rattle.wq_fixed.specs.Fixed.{has_none};
 ghost use Rattle.wq_groups.specs.Partition.{IsPartition};
 ghost use Rattle.wq_cert.specs.Lines.{cert_line};
 ghost use Rattle.wq_cert.specs.Noted.{marks, lanes_with, AreNoted, IsNextNoted, is_other, said_line};
