@@ -30,22 +30,29 @@ part_lanes p workqueues =
     then Err (NumberOutOfRange 0)
     else Ok (lanes_with p workqueues))
 
--- a whole plan text if the first word is `plan`: no workqueue is bare. Else `wq` and `norescuer` lines, which are read
--- alike; the workqueues of `norescuer` lines are bare
-abbrev pub fixed_reading : List (List ℕ) → Partition → List CertLine → Result Fixed CertError
-fixed_reading names p lines =
-    if begins_plan lines
-    then and_read (λ n behind_plan.
+-- a whole plan text, in which no workqueue is bare
+abbrev pub fixed_plan_reading : List (List ℕ) → Partition → List CertLine → Result Fixed CertError
+fixed_plan_reading names p lines =
+    and_read (λ n behind_plan.
     and_read (λ workqueues rest.
     and_then (λ lanes.
     and_then (λ _. Ok (record { lane_of_group = lanes; bare = map (λ _. false) workqueues })) (chain_reading names rest))
     (part_lanes p workqueues))
     (next_workqueues names p.group_of n [] behind_plan))
     (next_line (count_reading (codes "plan")) lines)
-    else and_read (λ workqueues rest.
+
+-- `wq` and `norescuer` lines, which are read alike; the workqueues of `norescuer` lines are bare
+abbrev pub fixed_lines_reading : List (List ℕ) → Partition → List CertLine → Result Fixed CertError
+fixed_lines_reading names p lines =
+    and_read (λ workqueues rest.
     and_then (λ lanes. at_end (record { lane_of_group = lanes; bare = map is_bare_line lines }) rest)
     (part_lanes p workqueues))
     (all_workqueues names p.group_of [] (map as_wq lines))
+
+-- a whole plan text if the first word is `plan`, else lines of workqueues alone
+abbrev pub fixed_reading : List (List ℕ) → Partition → List CertLine → Result Fixed CertError
+fixed_reading names p lines =
+    if begins_plan lines then fixed_plan_reading names p lines else fixed_lines_reading names p lines
 
 -- what the text of fixed workqueues says
 abbrev pub fixed_of_text : List (List ℕ) → Partition → List ℕ → Result Fixed CertError

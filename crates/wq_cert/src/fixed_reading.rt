@@ -3,14 +3,10 @@
 //! The rules are those of "Planning around workqueues" in docs/FORMAT.md. Reading takes the time and the memory of
 //! reading an assignment.
 
-ghost use Rattle.std.specs.Prelude.{◌≡◌, ◌<◌, ◌≤◌, ◌+◌, ℕ, List, length, map, replicate, false, Ok, Err, None, IfOk, IfErr};
-ghost use Rattle.std.specs.List.{count_by, list_all, range_with_len};
-ghost use Rattle.wq_text.specs.Limits.{limit_fault};
-ghost use Rattle.wq_fixed.specs.Fixed.{has_none};
-ghost use Rattle.wq_cert.specs.FixedReading.{fixed_reading, fixed_of_text};
+ghost use Rattle.std.specs.Prelude.{◌≡◌, length, map, Ok, IfOk, IfErr};
+ghost use Rattle.wq_cert.specs.FixedReading.{fixed_lines_reading, fixed_of_text, fixed_plan_reading};
 ghost use Rattle.wq_cert.specs.Lines.{cert_line};
-ghost use Rattle.wq_cert.specs.Texts.{max_certificate, max_certificate_line, IsCertFaultOf};
-ghost use Rattle.wq_cert.specs.declared.fault.CertError.TheVariants.{OutOfMemory};
+ghost use Rattle.wq_cert.specs.Texts.{IsCertFaultOf};
 
 use crate::arc_reading::read_chain;
 use crate::assignment_reading::begins_plan;
@@ -33,6 +29,11 @@ fn read_fixed_plan<A: Allocator + Copy>(
     mut lines: CertLines<'_>,
 ) -> Result<Fixed<A>, CertError>
     requires { length groups.now.group_of ≡ length table.now.names }
+    ensures fixed { IfOk result (λ fixed.
+        fixed_plan_reading table.now.names groups.now (map cert_line lines.entry) ≡ Ok fixed) }
+    ensures groups { IfOk result (λ fixed. length fixed.lane_of_group ≡ groups.now.groups) }
+    ensures fault { IfErr result (λ e.
+        IsCertFaultOf e (fixed_plan_reading table.now.names groups.now (map cert_line lines.entry))) }
 {
     let Some(first) = lines.next() else {
         return Err(CertError::BadCertLine { line: 0 });
@@ -53,6 +54,11 @@ fn read_fixed_lines<A: Allocator + Copy>(
     view: &CertView<'_>,
 ) -> Result<Fixed<A>, CertError>
     requires { length groups.now.group_of ≡ length table.now.names }
+    ensures fixed { IfOk result (λ fixed.
+        fixed_lines_reading table.now.names groups.now (map cert_line view.now) ≡ Ok fixed) }
+    ensures groups { IfOk result (λ fixed. length fixed.lane_of_group ≡ groups.now.groups) }
+    ensures fault { IfErr result (λ e.
+        IsCertFaultOf e (fixed_lines_reading table.now.names groups.now (map cert_line view.now))) }
 {
     let (workqueues, after) = read_all_workqueues(alloc, table, groups, view.lines(), true)?;
     let lane_of_group = workqueues.part(groups)?;
@@ -66,8 +72,8 @@ fn read_fixed_lines<A: Allocator + Copy>(
 /// Reads the workqueues in a text, on which items of a table in these groups may be missing. The text is a whole plan
 /// text, or lines of workqueues alone.
 ///
-/// The errors are those of `read_workqueues`, but that an item may be on no workqueue. Where an item of a group is on one
-/// and another isn't, it is `GroupSplit` (42) with line 0; where the workqueues and the groups on none of them are more
+/// The errors are those of `read_workqueues`, but that an item may be on no workqueue. If an item of a group is on one
+/// and another isn't, it is `GroupSplit` (42) with line 0; if the workqueues and the groups on none of them are more
 /// than 4,096, it is `NumberOutOfRange` (43) with line 0.
 pub fn read_fixed<A: Allocator + Copy>(
     alloc: A,

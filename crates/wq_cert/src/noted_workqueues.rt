@@ -150,6 +150,7 @@ fn are_whole<A: Allocator + Copy>(
 /// How many groups have no workqueue.
 fn count_without(lane_of_group: &[Option<LaneId>]) -> u32
     requires { length lane_of_group.now ≤ 4096 }
+    ensures { result ≡ count_by has_none lane_of_group.now }
 {
     let mut count = 0;
     for lane in lane_of_group {

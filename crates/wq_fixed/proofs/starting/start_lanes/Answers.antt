@@ -41,8 +41,8 @@ loop-lane-preserved g c =
           ap count_free whole ∙ count_free-free so_far in (
             ap (λ v. v.items) w.lanes-is
                 ∙ w.in_ok-push-in-None.ensures.items
-                ∙ ap (λ (l : List ℕ). l ++ (c.loop-lane.next ∷ [])) c.loop-lane.invariant.0
-                ∙ ap (λ (n : ℕ). start_lanes first so_far ++ (n ∷ [])) next
+                ∙ ap (λ (l : List ℕ). l ++ (w.new.result ∷ [])) c.loop-lane.invariant.0
+                ∙ ap (λ (n : ℕ). start_lanes first so_far ++ (n ∷ [])) (w.new.ensures ∙ next)
                 ∙ sym (ap (start_lanes first) whole ∙ start_lanes-free first so_far),
             (let e : c.match-lane.next ≡ first + count_free (take (k + 1) lanes) =
                 omega (arith, w.next-is, next, count) in e)
