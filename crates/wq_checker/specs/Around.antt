@@ -1,5 +1,5 @@
 -- Answers of the checker around fixed workqueues: what a certificate shows, or the first reason why it shows nothing.
-use Rattle.std.specs.Prelude.{◌≡◌, ◌≢◌, ◌×◌, ◌⊎◌, ⊥, ℕ, ◌-◌, ◌+◌, ◌<◌, ◌≤◌, ◌==◌, List, [], ◌∷◌, length, map, Option, Some}
+use Rattle.std.specs.Prelude.{◌≡◌, ◌≢◌, ◌⊎◌, ℕ, ◌-◌, ◌+◌, ◌<◌, ◌≤◌, ◌==◌, List, [], ◌∷◌, length, map, Option, Some}
 use Rattle.std.specs.Prelude.{None, IsSome, Result, Ok, Err, slice_get, unwrap_or}
 use Rattle.std.specs.List.{All, position}
 use Rattle.wq_items.specs.declared.target.Target.{Target}
@@ -184,8 +184,8 @@ AnswersAround d f (OfNoRescuer c) answer = AnswersNoRescuer d f c answer
 
 -- this yes is answered if the steps, if there are any, deadlock; otherwise that they don't
 abbrev pub IsWithRun : Wiring → Option (List Step) → YesAround → Result YesAround NoAround → Type 0
-IsWithRun w steps yes answer =
-    (ShowsDeadlockIn w steps × (answer ≡ Ok yes))
+IsWithRun w steps said answer =
+    (ShowsDeadlockIn w steps × (answer ≡ Ok said))
     ⊎ ((¬ ShowsDeadlockIn w steps) × (answer ≡ Err (no_around.Plain RunBroken)))
 
 -- ---- certificates that can be asked about

@@ -1,5 +1,5 @@
 -- Searching around fixed workqueues: what is found of flushes that fall by an order.
-use Rattle.std.specs.Prelude.{◌≡◌, ◌×◌, ℕ, ◌<◌, Bool, false, List, Option, Some, None, slice_index, slice_index_or}
+use Rattle.std.specs.Prelude.{◌≡◌, ℕ, ◌<◌, Bool, false, List, Option, Some, None, slice_index, slice_index_or}
 use Rattle.wq_items.specs.declared.target.Target.{Target}
 use Rattle.wq_items.specs.Table.{ItemWaits}
 use Rattle.wq_groups.specs.Declaration.{Declaration}

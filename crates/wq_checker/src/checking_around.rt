@@ -15,7 +15,7 @@ ghost use Rattle.wq_groups.specs.Assignment.{item_lane};
 ghost use Rattle.wq_groups.specs.Declaration.{declaration_of};
 ghost use Rattle.wq_groups.specs.DeclaredGroups.{declared_waits};
 ghost use Rattle.wq_core.specs.Workqueues.{wiring_of};
-ghost use Rattle.wq_fixed.specs.Fixed.{Fixed, IsFixed, fixed_lanes, start as start_of};
+ghost use Rattle.wq_fixed.specs.Fixed.{Fixed as FixedView, IsFixed, fixed_lanes, start as start_of};
 ghost use Rattle.wq_cert.specs.AroundReading.{around_certificate};
 ghost use Rattle.wq_checker.specs.Answers.{ArcsOfItems};
 ghost use Rattle.wq_checker.specs.Chains.{before_from};
@@ -171,11 +171,12 @@ fn joins<A: Allocator + Copy>(
     requires target { arc.1 < length start.now.declared.table.names }
     ensures { IsTrue result ↔ JoinsIn (wiring_of (declared_waits start.now.declared) start.now.workqueues) before arc }
 {
-    declares(start, arc)
-        && !is_on_bare(start, arc.0)
-        && !is_on_bare(start, arc.1)
+    let (item, target) = arc;
+    declares(start, (item, target))
+        && !is_on_bare(start, item)
+        && !is_on_bare(start, target)
         && match before {
-            Some(before) => lane_of(start, before.1) == lane_of(start, arc.0),
+            Some((_, end)) => lane_of(start, end) == lane_of(start, item),
             None => true,
         }
 }
@@ -211,16 +212,16 @@ fn first_break<A: Allocator + Copy>(
 fn new_along<A: Allocator + Copy>(
     start: &Assigned<'_, '_, A>,
     new: u16,
-    length: u32,
+    chain: u32,
     arcs: &[(ItemId, ItemId)],
 ) -> u32
     requires arcs { ArcsOfItems (declared_waits start.now.declared) arcs.now }
     requires few { length arcs.now ≤ 4096 }
-    ensures { (f : Fixed) → start.now.workqueues ≡ start_of f → fixed_lanes f ≡ new
-        → result ≡ new_along (declared_waits start.now.declared) f length arcs.now }
+    ensures { (f : FixedView) → start.now.workqueues ≡ start_of f → fixed_lanes f ≡ new
+        → result ≡ new_along (declared_waits start.now.declared) f chain arcs.now }
 {
     let Some(first) = arcs.first() else {
-        return length;
+        return chain;
     };
     let mut count = u32::from(lane_of(start, first.0).get() >= new);
     for arc in arcs {
@@ -318,7 +319,7 @@ fn check_circle<A: Allocator + Copy>(
 ) -> Result<Result<YesAround, NoAround>, AllocError>
     requires asked { IsCircleAroundAsked (declared_waits start.now.declared)
         (record { arcs = arcs.now; steps = option_map (λ s. s.items) steps.now }) }
-    ensures { IfOk result (λ r. (f : Fixed) → start.now.workqueues ≡ start_of f
+    ensures { IfOk result (λ r. (f : FixedView) → start.now.workqueues ≡ start_of f
         → AnswersCircleAround (declared_waits start.now.declared) f
         (record { arcs = arcs.now; steps = option_map (λ s. s.items) steps.now }) r) }
 {
@@ -343,11 +344,12 @@ fn check_norescuer<A: Allocator + Copy>(
 ) -> Result<Result<YesAround, NoAround>, AllocError>
     requires asked { IsNoRescuerAsked (declared_waits start.now.declared)
         (record { arc = arc; steps = option_map (λ s. s.items) steps.now }) }
-    ensures { IfOk result (λ r. (f : Fixed) → start.now.workqueues ≡ start_of f
+    ensures { IfOk result (λ r. (f : FixedView) → start.now.workqueues ≡ start_of f
         → AnswersNoRescuer (declared_waits start.now.declared) f
         (record { arc = arc; steps = option_map (λ s. s.items) steps.now }) r) }
 {
-    if !declares(start, arc) || is_on_bare(start, arc.0) || !is_on_bare(start, arc.1) {
+    let (item, target) = arc;
+    if !declares(start, (item, target)) || is_on_bare(start, item) || !is_on_bare(start, target) {
         return Ok(Err(NoAround::HasRescuer));
     }
     with_run(alloc, start, steps, YesAround::NoRescuer)
