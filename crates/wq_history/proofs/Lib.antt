@@ -18,4 +18,5 @@ pub mod Uniqueness
 pub mod OneAnswer
 pub mod Woken
 pub mod Sleeping
+pub mod Owing
 pub mod Words

@@ -27,7 +27,7 @@ use Rattle.wq_history.proofs.Uniqueness.{same-row, comes, same-event, one-row}
 -- ---- what a row of a context shows
 
 -- what a context does, it may do
-may-do : (b : BookView) (q c : ℕ) (deed : HelpStep) (said : Bool) (n : ℕ)
+pub may-do : (b : BookView) (q c : ℕ) (deed : HelpStep) (said : Bool) (n : ℕ)
     → MayCome b.wiring b.rows (event_in q c deed) said n → MayDo b.wiring (state b) q c deed
 may-do b q zero (DoStart i) said n may = MayStart-first (lane_at (state b) q) i may.1.0
 may-do b q zero _ said n may = may.1.0

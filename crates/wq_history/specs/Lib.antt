@@ -12,3 +12,4 @@ pub mod Waits
 pub mod Calls
 pub mod Sleeping
 pub mod Judging
+pub mod Owing

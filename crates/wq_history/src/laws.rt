@@ -3,7 +3,7 @@
 //! They are about rows and books alone, whatever code wrote these.
 
 ghost use Rattle.std.specs.Prelude.{◌≡◌, ℕ, ◌+◌, ◌<◌, ◌≤◌, ◌↔◌, ◌⊎◌, List, [], ◌∷◌, ◌++◌, length, Bool, true, false};
-ghost use Rattle.std.specs.Prelude.{◌&&◌, Result};
+ghost use Rattle.std.specs.Prelude.{◌&&◌, Result, IfErr, None, Some, replicate, slice_get};
 ghost use Rattle.std.specs.List.{All, count_by};
 ghost use Rattle.wq_core.specs.declared.step.Context.{Context};
 ghost use Rattle.wq_core.specs.Wiring.{Wiring, IsWiring, items, lane_of, max_helpers, HasContext};
@@ -33,6 +33,7 @@ ghost use Rattle.wq_history.specs.Calls.{IsRowOf, Writes, IsEarly, Replies, Answ
 ghost use Rattle.wq_history.specs.Waits.{Condition, IsMet, BecomesMet, WakesBy, WakesEnough, WakesOne, sleepers_for};
 ghost use Rattle.wq_history.specs.Waits.{by_closing};
 ghost use Rattle.wq_history.specs.Sleeping.{Crew, Moves, IsCovered};
+ghost use Rattle.wq_history.specs.Owing.{Made, Plays, EndsAWait};
 
 /// A history is legal exactly if it is legal without its last row, and that row may follow the others.
 pub fn a_history_is_legal_row_by_row()
@@ -176,4 +177,13 @@ pub fn what_is_answered_exists()
 pub fn an_ask_takes_two_rows_at_most()
     ensures { (old new : BookView) (x : Subject) (row : Row) → Replies old (Ask x) (Wrote row) new →
         free old ≤ free new + 2 }
+{}
+
+/// Callers make calls of a book in turn, as the methods of a runtime do: a caller that waits makes the end of its own
+/// wait next, and nobody makes that of another. Then none of these ends is refused: it is never said that nobody
+/// asked (65), nor that the context doesn't wait so (64).
+pub fn the_end_of_a_wait_is_not_refused()
+    ensures { (b : BookView) (callers : ℕ) (made : List Made) (n : ℕ) (m : Made) → IsBook b →
+        Plays b (replicate callers None) made → slice_get made n ≡ Some m → EndsAWait m.call →
+        IfErr m.answer (λ _. ⊥) }
 {}
