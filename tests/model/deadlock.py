@@ -48,9 +48,12 @@ def step_as_declared(state, workqueue):
     return b"finish", workqueue, entry.item
 
 
-def deadlocking_run(declared, assignment):
-    """The steps of the deadlocking run. There is none where the assignment is safe."""
-    first = queued_first(declared, assignment)
+def deadlocking_run(declared, assignment, first=None):
+    """The steps of the deadlocking run. There is none where the assignment is safe.
+
+    `first` has the items that are queued first, if they aren't those of the circle that is found here.
+    """
+    first = first or queued_first(declared, assignment)
     if not first:
         return []
     state = State(declared, assignment)

@@ -89,7 +89,7 @@ def circle_text(declaration, circle):
     lines = [b"circle %d" % len(circle)]
     lines += [b"arc %s %s" % (item, target) for item, target in circle]
     own = Assignment(declaration.group_of, len(declaration.groups))
-    return lines + run_text(deadlocking_run(declaration, own))
+    return lines + run_text(deadlocking_run(declaration, own, [item for item, _ in circle]))
 
 
 def answer(text):

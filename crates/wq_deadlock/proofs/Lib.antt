@@ -6,6 +6,7 @@ pub mod OwnLanes
 pub mod Queueings
 pub mod CircleKnots
 pub mod CircleRuns
+pub mod FewArcs
 pub mod Verdicts
 pub mod Renumbered
 pub mod OnlyRun

@@ -14,9 +14,9 @@ use Rattle.wq_graph.specs.declared.arc.WaitArc.{WaitArc}
 use Rattle.wq_graph.specs.Graph.{lane_graph, arcs_from, HasArc, IsGraph}
 use Rattle.wq_graph.proofs.Graphs.{VertexWaits-lane_graph, IsGraph-lane_graph}
 use Rattle.wq_levels.specs.Ranks.{AreRanks}
-use Rattle.wq_levels.specs.Walks.{IsWalkedCircle}
+use Rattle.wq_levels.specs.Walks.{IsWalkedCircle, LeadsRound}
 use Rattle.wq_levels.proofs.Ranks.{AreRanks-fall}
-use Rattle.wq_levels.proofs.OneCircle.{HasCircle-walked, IsWalkedCircle-few}
+use Rattle.wq_levels.proofs.OneCircle.{HasCircle-walked}
 use Rattle.wq_core.specs.declared.step.Step.{Step}
 use Rattle.wq_core.specs.Wiring.{LaneWaits, wiring, lane_of}
 use Rattle.wq_core.specs.Played.{queue_order}
@@ -25,6 +25,7 @@ use Rattle.wq_core.proofs.Safety.{IsSafe-falls}
 use Rattle.wq_deadlock.specs.CircleRun.{flushing_items, IsCircleRun}
 use Rattle.wq_deadlock.specs.Verdict.{IsSafeByRanks, IsDeadlock}
 use Rattle.wq_deadlock.proofs.CircleRuns.{DeadlocksBy-circle_run}
+use Rattle.wq_deadlock.proofs.FewArcs.{LeadsRound-few}
 use Rattle.wq_deadlock.proofs.Queueings.{length-queue_order}
 
 module _ (d : Declaration) (a : Assignment) (declaration : IsDeclaration d) (assignment : IsAssignment d.groups a) where
@@ -70,17 +71,18 @@ module _ (d : Declaration) (a : Assignment) (declaration : IsDeclaration d) (ass
 
     -- ---- circles
 
+    pub length-flushing_items : (circle : List WaitArc) → LeadsRound (lane_graph d a) circle
+        → length (queue_order (wiring d a) (flushing_items circle)) ≤ 8192
+    length-flushing_items circle round =
+        let queued = length-queue_order (wiring d a) (flushing_items circle) in
+        let size = length-map circle (λ (b : WaitArc). b.src) in
+        let short = LeadsRound-few (lane_graph d a) circle round in
+        omega (arith, queued, size, short, long, few, declaration.one_list_each, declaration.partition.few_items)
+
     module _ (circle : List WaitArc) (walked : IsWalkedCircle (lane_graph d a) circle) where
       pub lanes_wait : Circle (LaneWaits (wiring d a))
       lanes_wait =
           Circle-map (HasArc (lane_graph d a)) (LaneWaits (wiring d a)) (λ q. q) (λ p q arc. (VertexWaits-lane_graph d a declaration assignment p q).1 arc) (HasCircle-walked (lane_graph d a) sound circle walked).0
-
-      pub length-flushing_items : length (queue_order (wiring d a) (flushing_items circle)) ≤ 8192
-      length-flushing_items =
-          let queued = length-queue_order (wiring d a) (flushing_items circle) in
-          let size = length-map circle (λ (b : WaitArc). b.src) in
-          let round = IsWalkedCircle-few (lane_graph d a) circle walked in
-          omega (arith, queued, size, round, long, few, declaration.one_list_each, declaration.partition.few_items)
 
       pub IsDeadlock-walked : (steps : List Step) → IsCircleRun (wiring d a) circle steps → IsDeadlock d a steps
       IsDeadlock-walked steps is_run = record {

@@ -7,13 +7,17 @@ ghost use Rattle.std.specs.Prelude.{◌≡◌, ◌<◌, length, IfOk, OnErr};
 ghost use Rattle.std.specs.List.{range_with_len};
 ghost use Rattle.std.specs.Option.{option_map};
 ghost use Rattle.wq_groups.specs.Declaration.{declaration_of};
-ghost use Rattle.wq_core.specs.Wiring.{own_lanes};
+ghost use Rattle.wq_core.specs.Wiring.{wiring, own_lanes};
+ghost use Rattle.wq_graph.specs.Graph.{group_graph};
+ghost use Rattle.wq_levels.specs.Walks.{LeadsRound};
+ghost use Rattle.wq_deadlock.specs.CircleRun.{IsCircleRun};
 ghost use Rattle.wq_deadlock.specs.Verdict.{IsGroupsRun};
 
-use crate::deciding::verdict;
+use crate::deciding::{run_of_circle, verdict};
 use crate::outcome::Verdict;
 use std::alloc::{AllocError, Allocator};
 use wq_core::Step;
+use wq_graph::WaitArc;
 use wq_groups::{Assignment, Groups, LaneId};
 use wq_items::ItemTable;
 
@@ -62,4 +66,25 @@ pub fn circle_run<A: Allocator + Copy>(
         Verdict::Safe(_) => Ok(None),
         Verdict::Deadlock(steps) => Ok(Some(steps)),
     }
+}
+
+/// The run of this circle of groups if each group g has lane g: what flushes along its arcs is queued first. By it that
+/// assignment deadlocks. The groups must be those of this table, and the arcs must lead round a circle of groups.
+///
+/// The only error is out of memory (20).
+pub fn run_round<A: Allocator + Copy>(
+    alloc: A,
+    table: &ItemTable<'_, A>,
+    groups: &Groups<A>,
+    circle: &[WaitArc],
+) -> Result<Vec<Step, A>, AllocError>
+    requires grouped { length groups.now.group_of ≡ length table.now.names }
+    requires round { LeadsRound (group_graph (declaration_of table.now groups.now)) circle.now }
+    ensures { IfOk result (λ steps. IsCircleRun
+        (wiring (declaration_of table.now groups.now) (own_lanes groups.now.groups)) circle.now steps.items) }
+{
+    // Each group has a member.
+    prove!(groups.len() <= table.len());
+    let assignment = own_lanes(alloc, groups)?;
+    run_of_circle(alloc, table, groups, &assignment, circle)
 }

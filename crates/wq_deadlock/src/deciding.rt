@@ -9,7 +9,7 @@
 ghost use Rattle.std.specs.Prelude.{◌≡◌, ◌<◌, length, IfOk, OnErr};
 ghost use Rattle.wq_graph.specs.Graph.{lane_graph};
 ghost use Rattle.wq_groups.specs.Declaration.{declaration_of};
-ghost use Rattle.wq_levels.specs.Walks.{IsWalkedCircle};
+ghost use Rattle.wq_levels.specs.Walks.{LeadsRound};
 ghost use Rattle.wq_core.specs.Wiring.{wiring};
 ghost use Rattle.wq_deadlock.specs.CircleRun.{IsCircleRun};
 ghost use Rattle.wq_deadlock.specs.Verdict.{IsVerdict};
@@ -24,8 +24,8 @@ use wq_groups::{Assignment, Groups};
 use wq_items::ItemTable;
 use wq_levels::{Ranked, rank};
 
-/// The run of the circle in which the lanes wait.
-fn run_of_circle<A: Allocator + Copy>(
+/// The run of a circle in which the lanes wait.
+pub(crate) fn run_of_circle<A: Allocator + Copy>(
     alloc: A,
     table: &ItemTable<'_, A>,
     groups: &Groups<A>,
@@ -34,7 +34,7 @@ fn run_of_circle<A: Allocator + Copy>(
 ) -> Result<Vec<Step, A>, AllocError>
     requires grouped { length groups.now.group_of ≡ length table.now.names }
     requires assigned { length assignment.now.lane_of_group ≡ groups.now.groups }
-    requires walked { IsWalkedCircle (lane_graph (declaration_of table.now groups.now) assignment.now) circle.now }
+    requires round { LeadsRound (lane_graph (declaration_of table.now groups.now) assignment.now) circle.now }
     ensures { IfOk result (λ steps.
         IsCircleRun (wiring (declaration_of table.now groups.now) assignment.now) circle.now steps.items) }
 {

@@ -22,7 +22,7 @@ mod stuck;
 mod workqueues;
 
 pub use bare::{bare_waits, is_on_bare};
-pub use circles::{circle_run, own_lanes};
+pub use circles::{circle_run, own_lanes, run_round};
 pub use deciding::verdict;
 pub use judged::Judged;
 pub use outcome::Verdict;

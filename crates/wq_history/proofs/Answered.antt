@@ -1,10 +1,10 @@
 -- Calls by name: what the relation says of a call is what the contract of its name says.
 use Rattle.std.proofs.Common.{◌≡◌, ℕ, inl, inr, Bool, true, false, refl, sym, ap, subst, ◌∙◌, Some, None, MatchOption}
-use Rattle.wq_history.proofs.Words.{Running, IsHeldBack, CancelEvent, AskEvent, AskLaneEvent, Row, item_in, Subject}
-use Rattle.wq_history.proofs.Words.{OfItem, OfLane, Flush, Call, Queue, Cancel, Ask, Told, Start, Wait, Over, Finish}
-use Rattle.wq_history.proofs.Words.{Wrote, Done, NotYet, BookError, CallError, WrongLane, NotAsked, told_event}
-use Rattle.wq_history.proofs.Words.{start_event, wait_event, over_event, finish_event, asks_waiting, BookView, state}
-use Rattle.wq_history.proofs.Words.{Appends, AppendsOne, RunsItem, IsWaiting, IsNotAwake, RefusesIf, Refuses, Replies}
+use Rattle.wq_history.proofs.Words.{Running, CancelEvent, AskEvent, AskLaneEvent, Row, item_in, Subject, OfItem, OfLane}
+use Rattle.wq_history.proofs.Words.{Flush, Call, Cancel, Ask, Told, Start, Wait, Over, Finish, Wrote, Done, NotYet}
+use Rattle.wq_history.proofs.Words.{BookError, CallError, WrongLane, NotAsked, told_event, start_event, wait_event}
+use Rattle.wq_history.proofs.Words.{over_event, finish_event, asks_waiting, BookView, state, Appends, AppendsOne}
+use Rattle.wq_history.proofs.Words.{RunsItem, IsWaiting, IsNotAwake, RefusesIf, Refuses, Replies, DoStart}
 use Rattle.wq_core.specs.declared.entry.Waiting.{Waiting as WaitOf}
 use Rattle.wq_history.specs.declared.asking.Ask.TheVariants.{Idle as ItemIdle, Waiting as ItemWaiting}
 use Rattle.wq_history.specs.declared.asking.Asked.{Asked}
@@ -14,12 +14,12 @@ use Rattle.wq_history.specs.declared.asking.LaneAsked.{LaneAsked}
 use Rattle.wq_history.specs.declared.asking.LaneTold.TheVariants.{Done as LaneTold}
 use Rattle.wq_history.specs.declared.fault.BookError.TheVariants.{HistoryFull as BookFull, WrongLane as BookWrongLane}
 use Rattle.wq_history.specs.Errors.{call_error, IsOfBook}
-use Rattle.wq_history.specs.Book.{LaneRuns}
-use Rattle.wq_history.specs.Book.{RefusesItem, RefusesLane}
-use Rattle.wq_history.specs.Answers.{AnswersAsk, AnswersTold, AnswersAskLane, AnswersToldLane, AnswersStart, AnswersOver}
+use Rattle.wq_history.specs.Book.{LaneRuns, RefusesItem, RefusesLane}
+use Rattle.wq_history.specs.Answers.{AnswersAsk, AnswersTold, AnswersAskLane, AnswersToldLane, AnswersStart}
+use Rattle.wq_history.specs.Answers.{AnswersOver}
 use Rattle.wq_history.specs.Calls.{AlwaysWrites, RefusesAs}
-use Rattle.wq_history.proofs.CallRows.{wrong-only, appends-as, appends_event, told-yes, start-yes, over-yes}
-use Rattle.wq_history.proofs.CallRows.{finish-yes, start-item, held-back}
+use Rattle.wq_history.proofs.CallRows.{wrong-only, appends-as, appends_event, told-yes, deed-says, over-yes, finish-yes}
+use Rattle.wq_history.proofs.CallRows.{yes-row, start-item, held-back}
 
 -- ---- refusals
 
@@ -51,13 +51,10 @@ lane_of_book wrong _ why = tt
 
 -- so is a call that writes one row unless it is refused
 pub row_of_book : (b : BookView) (call : Call) (e : CallError) → AlwaysWrites call → Refuses b call e → IsOfBook e
-row_of_book b (Queue i) NotAsked writes why = why
-row_of_book b (Cancel i) NotAsked writes why = why
 row_of_book b (Ask (OfItem i)) NotAsked writes why = why
 row_of_book b (Ask (OfLane q)) NotAsked writes why = why
-row_of_book b (Wait c f) NotAsked writes why = why
-row_of_book b (Finish c i) NotAsked writes why = why
-row_of_book b call NotAsked writes why = absurd writes
+row_of_book b (Told x mark) NotAsked writes why = absurd writes
+row_of_book b call NotAsked writes why = absurd why
 row_of_book b call _ writes why = tt
 
 -- ---- replies
@@ -123,12 +120,10 @@ pub start_some : (old new : BookView) (q h item : ℕ) (row : Row) → item ≡ 
     → Replies old (Start (record { lane = q; number = h })) (Wrote row) new → AnswersStart old new q h (Some item)
 start_some old new q h item row is replies =
     let i : ℕ = replies.0.0 in
-    let started : Appends old new (start_event q h i) row.yes row.number = appends-as old new row.event
-    (start_event q h i) row.yes row.yes row.number row.number replies.0.2 refl refl replies.1 in
-    let yes : row.yes ≡ true = start-yes old.wiring old.rows q h i row.yes row.number started.may in
-    let appends = subst (λ (k : Bool). Appends old new (start_event q h i) k row.number) yes started in
+    let appends = yes-row old new row (start_event q h i) replies.0.2 replies.1
+    (deed-says old.wiring old.rows q h (DoStart i)) in
     let same : item ≡ i = is ∙ (ap item_in replies.0.2 ∙ start-item q h i) in
-    subst (λ (k : ℕ). AnswersStart old new q h (Some k)) (sym same) (replies.0.1, (row.number, appends))
+    subst (λ (k : ℕ). AnswersStart old new q h (Some k)) (sym same) (replies.0.1, appends)
 
 -- nothing is started: the context is done, or it sleeps
 pub start_none : (old new : BookView) (q h : ℕ) → Replies old (Start (record { lane = q; number = h })) Done new
@@ -151,23 +146,16 @@ pub over_true : (old new : BookView) (q h : ℕ) (f : WaitOf) (row : Row) → Is
     (record { target = f.target; whole = f.whole })) (Wrote row) new
     → AnswersOver old new q h true
 over_true old new q h f row waits replies =
-    let over : Appends old new (over_event f.whole q h f.target) row.yes row.number = appends-as old new row.event
-    (over_event f.whole q h f.target) row.yes row.yes row.number row.number replies.0 refl refl replies.1 in
-    let yes : row.yes ≡ true = over-yes old.wiring old.rows f.whole q h f.target row.yes row.number over.may in
-    let appends = subst (λ (k : Bool). Appends old new (over_event f.whole q h f.target) k row.number) yes over in
-    (f, waits, (row.number, appends))
+    let event = over_event f.whole q h f.target in
+    (f, waits, yes-row old new row event replies.0 replies.1 (over-yes old.wiring old.rows f.whole q h f.target))
 
 pub over_false : (old new : BookView) (q h : ℕ) (f : Flush)
     → Replies old (Over (record { lane = q; number = h }) f) NotYet new
     → AnswersOver old new q h false
 over_false old new q h f replies =
     let with = replies.0.1 in
-    let g : WaitOf = with.0 in
     let held = (held-back old.wiring (state old) f.whole f.target replies.0.0).1 replies.0.2 in
-    let marked = subst (λ (m : ℕ). IsHeldBack old.wiring (state old) f.whole f.target m) (sym with.3) held in
-    let targeted = subst (λ (t : ℕ). IsHeldBack old.wiring (state old) f.whole t g.mark) (sym with.2) marked in
-    let same = subst (λ (k : Bool). IsHeldBack old.wiring (state old) k g.target g.mark) (sym with.1.1) targeted in
-    ((g, with.1.0, same), replies.1)
+    ((with.0, with.1.0, rw (with.1.1, with.2, with.3) held), replies.1)
 
 -- the end of the wait that is there isn't refused
 pub over_not_refused : (b : BookView) (q h : ℕ) (f : WaitOf) (e : CallError) → IsWaiting b q h f
@@ -180,11 +168,8 @@ pub finish_done : (old new : BookView) (q h i : ℕ) (row : Row) → RunsItem ol
     → Replies old (Finish (record { lane = q; number = h }) i) (Wrote row) new
     → (r : Running) × LaneRuns old q h r × AppendsOne old new (finish_event q h r.entry.item) true
 finish_done old new q h i row runs replies =
-    let finished : Appends old new (finish_event q h i) row.yes row.number = appends-as old new row.event
-    (finish_event q h i) row.yes row.yes row.number row.number replies.0 refl refl replies.1 in
-    let yes : row.yes ≡ true = finish-yes old.wiring old.rows q h i row.yes row.number finished.may in
-    let appends : AppendsOne old new (finish_event q h i) true =
-    (row.number, subst (λ (k : Bool). Appends old new (finish_event q h i) k row.number) yes finished) in
+    let appends = yes-row old new row (finish_event q h i) replies.0 replies.1
+    (finish-yes old.wiring old.rows q h i) in
     (runs.0, runs.1, subst (λ (k : ℕ). AppendsOne old new (finish_event q h k) true) (sym runs.2) appends)
 
 -- or it waits

@@ -1,15 +1,18 @@
 -- Rows of calls: what they say, and what they are about.
 use Rattle.std.proofs.Common.{◌≡◌, ℕ, zero, suc, ◌<◌, ◌≤◌, Bool, true, false, List, [], ◌∷◌, refl, subst, arith, ◌↔◌}
 use Rattle.std.proofs.Common.{IsTrue, not, Contains}
-use Rattle.wq_items.proofs.Lists.{Contains-first}
+use Rattle.wq_items.proofs.Lists.{Contains-here}
 use Rattle.wq_history.proofs.Words.{Entry, HelpStep, DoStart, Wiring, helpers_of, HasContext, State, lane_at}
-use Rattle.wq_history.proofs.Words.{IsHeldBack, Event, QueueEvent, CancelEvent, Row, lane_in, item_in, Subject, OfItem}
-use Rattle.wq_history.proofs.Words.{OfLane, Wrote, CallError, WrongLane, event_in, ask_event, told_event, start_event}
-use Rattle.wq_history.proofs.Words.{over_event, finish_event, state_after, asks_waiting, IsThere, SaysUnfinishedOf}
+use Rattle.wq_history.proofs.Words.{IsHeldBack, Event, QueueEvent, CancelEvent, Row, item_in, Subject, Wrote, CallError}
+use Rattle.wq_history.proofs.Words.{WrongLane, event_in, told_event, start_event, over_event, finish_event, state_after}
 use Rattle.wq_history.proofs.Words.{MayCome, BookView, state, free, IsBook, HasPendingOn, LacksRows, Appends}
-use Rattle.wq_history.proofs.Words.{AppendsOne, subject_of, IsUnfinishedBelow, RefusesIf, Writes, Replies}
+use Rattle.wq_history.proofs.Words.{AppendsOne, subject_of, IsUnfinishedBelow, RefusesIf, Writes, Replies, DoOver}
+use Rattle.wq_history.proofs.Words.{DoOverAll, DoFinish, Says, MayDo, deed_item, items}
 use Rattle.wq_history.specs.declared.call.Call.TheVariants.{Queue as QueueCall, Cancel as CancelCall}
-use Rattle.wq_history.proofs.KeptRows.{exist}
+use Rattle.wq_core.proofs.Contexts.{MayStart-first}
+use Rattle.wq_history.proofs.LegalRows.{IsSoundState-legal}
+use Rattle.wq_history.proofs.WaitEvents.{told-exactly}
+use Rattle.wq_history.proofs.Deeds.{deed-there}
 
 -- ---- the same row
 
@@ -39,39 +42,31 @@ appends_cancel old new i row replies = appends_event old new row (CancelEvent i)
 
 pub told-yes : (w : Wiring) (rows : List Row) (x : Subject) (said : Bool) (n : ℕ)
     → MayCome w rows (told_event x) said n → said ≡ true
-told-yes w rows (OfItem i) said n may = may.0
-told-yes w rows (OfLane q) said n may = may.0
+told-yes w rows x said n may = ((told-exactly w rows x said n).0 may).0
 
-pub start-yes : (w : Wiring) (rows : List Row) (q c i : ℕ) (said : Bool) (n : ℕ)
-    → MayCome w rows (start_event q c i) said n → said ≡ true
-start-yes w rows q zero i said n may = may.0
-start-yes w rows q (suc h) i said n may = may.0
+-- what a context does says what it has to
+pub deed-says : (w : Wiring) (rows : List Row) (q c : ℕ) (deed : HelpStep) (said : Bool) (n : ℕ)
+    → MayCome w rows (event_in q c deed) said n → Says w (state_after w rows) deed said
+deed-says w rows q zero (DoStart i) said n may = may.0
+deed-says w rows q zero _ said n may = may.0
+deed-says w rows q (suc h) deed said n may = may.0
 
 pub over-yes : (w : Wiring) (rows : List Row) (whole : Bool) (q c b : ℕ) (said : Bool) (n : ℕ)
     → MayCome w rows (over_event whole q c b) said n → said ≡ true
-over-yes w rows false q zero b said n may = may.0
-over-yes w rows false q (suc h) b said n may = may.0
-over-yes w rows true q zero b said n may = may.0
-over-yes w rows true q (suc h) b said n may = may.0
+over-yes w rows false q c b said n may = deed-says w rows q c (DoOver b) said n may
+over-yes w rows true q c b said n may = deed-says w rows q c (DoOverAll b) said n may
 
 pub finish-yes : (w : Wiring) (rows : List Row) (q c i : ℕ) (said : Bool) (n : ℕ)
     → MayCome w rows (finish_event q c i) said n → said ≡ true
-finish-yes w rows q zero i said n may = may.0
-finish-yes w rows q (suc h) i said n may = may.0
+finish-yes w rows q c i said n may = deed-says w rows q c (DoFinish i) said n may
 
--- ---- asks, and callers that are told
-
--- when an ask may come
-pub ask-may : (w : Wiring) (rows : List Row) (x : Subject) (said : Bool) (n : ℕ) → IsThere w x
-    → SaysUnfinishedOf (state_after w rows) x said → n ≡ (state_after w rows).next → MayCome w rows (ask_event x) said n
-ask-may w rows (OfItem i) said n there says next = (there, says, next)
-ask-may w rows (OfLane q) said n there says next = (there, says, next)
-
--- when a caller may be told
-pub told-may : (w : Wiring) (rows : List Row) (x : Subject) (n : ℕ) → 0 < asks_waiting x rows
-    → ¬ IsUnfinishedBelow (state_after w rows) x n → MayCome w rows (told_event x) true n
-told-may w rows (OfItem i) n some done = (refl, some, done)
-told-may w rows (OfLane q) n some done = (refl, some, done)
+-- a row that is written, of an event that comes only with yes
+pub yes-row : (old new : BookView) (row : Row) (event : Event) → row.event ≡ event → Writes old row new
+    → ((said : Bool) (n : ℕ) → MayCome old.wiring old.rows event said n → said ≡ true)
+    → AppendsOne old new event true
+yes-row old new row event is writes always =
+    let one = appends_event old new row event is writes in
+    (one.0, subst (λ (k : Bool). Appends old new event k one.0) (always row.yes one.0 one.1.may) one.1)
 
 -- a cancellation lacks a row only if none is free
 pub cancel-lacks : (b : BookView) (i : ℕ) → LacksRows b (CancelEvent i) → free b ≡ 0
@@ -85,10 +80,12 @@ pub start-item : (q c i : ℕ) → item_in (start_event q c i) ≡ i
 start-item q zero i = refl
 start-item q (suc h) i = refl
 
-lane-event : (q c : ℕ) (deed : HelpStep) → lane_in (event_in q c deed) ≡ q
-lane-event q zero (DoStart i) = refl
-lane-event q zero _ = refl
-lane-event q (suc h) deed = refl
+-- what a context does, it may do
+pub may-do : (b : BookView) (q c : ℕ) (deed : HelpStep) (said : Bool) (n : ℕ)
+    → MayCome b.wiring b.rows (event_in q c deed) said n → MayDo b.wiring (state b) q c deed
+may-do b q zero (DoStart i) said n may = MayStart-first (lane_at (state b) q) i may.1.0
+may-do b q zero _ said n may = may.1.0
+may-do b q (suc h) deed said n may = may.1.0.1
 
 -- a helper that does something exists
 helper-come : (w : Wiring) (rows : List Row) (q c : ℕ) (deed : HelpStep) (said : Bool) (n : ℕ)
@@ -96,15 +93,14 @@ helper-come : (w : Wiring) (rows : List Row) (q c : ℕ) (deed : HelpStep) (said
 helper-come w rows q zero deed said n come = omega arith
 helper-come w rows q (suc h) deed said n come = come.1.0.0.1
 
--- the context of a row that is appended exists
-pub context-appended : (w : Wiring) (b new : BookView) (q c : ℕ) (deed : HelpStep) (said : Bool) (n : ℕ)
-    → b.wiring ≡ w → IsBook b → Appends b new (event_in q c deed) said n → HasContext w q c
-context-appended w b new q c deed said n of_wiring book appends =
-    let lanes = (exist b.wiring b.rows (event_in q c deed) said n book.wiring book.legal appends.may).1 in (
-      subst (λ (p : ℕ). p < w.lanes) (lane-event q c deed)
-          (subst (λ (x : Wiring). lane_in (event_in q c deed) < x.lanes) of_wiring lanes),
-      subst (λ (x : Wiring). c ≤ helpers_of x q) of_wiring (helper-come b.wiring b.rows q c deed said n appends.may),
-    )
+-- the context of a row that is written exists, and so does the item that it is about
+pub context-writes : (b new : BookView) (q c : ℕ) (deed : HelpStep) (row : Row) → IsBook b
+    → row.event ≡ event_in q c deed → Writes b row new → HasContext b.wiring q c × (deed_item deed < items b.wiring)
+context-writes b new q c deed row book is writes =
+    let (n, appends) = appends_event b new row (event_in q c deed) is writes in
+    let there = deed-there b.wiring (state b) q c deed book.wiring (IsSoundState-legal b.wiring b.rows book.legal)
+    (may-do b q c deed row.yes n appends.may) in
+    ((there.1, helper-come b.wiring b.rows q c deed row.yes n appends.may), there.0)
 
 -- ---- refusals and marks
 
@@ -122,24 +118,15 @@ held-back w s true b mark = ((λ is. is), (λ is. is))
 -- ---- what is pending
 
 -- nothing is pending on a lane, exactly if it isn't so that an entry is
-nothing_pending : (b : BookView) (q : ℕ) → (¬ HasPendingOn b q) → (lane_at (state b) q).pending ≡ []
-nothing_pending b q none = by_cases (lane_at (state b) q).pending (λ e pending. none (e, pending)) where
-  by_cases : (pending : List Entry) → ((e : Entry) → ¬ Contains pending e) → pending ≡ []
-  by_cases [] none = refl
-  by_cases (e ∷ es) none = absurd (none e (Contains-first (e ∷ es) e refl))
-
-some_pending : (b : BookView) (q : ℕ) → HasPendingOn b q → ¬ ((lane_at (state b) q).pending ≡ [])
-some_pending b q (e, pending) none =
-    let nowhere : Contains [] e = subst (λ (es : List Entry). Contains es e) none pending in
-    omega (arith, nowhere.1)
-
 pub says_nothing : (b : BookView) (q : ℕ) (pending : Bool) → (IsTrue pending ↔ HasPendingOn b q)
     → IsTrue (not pending) ↔ ((lane_at (state b) q).pending ≡ [])
-says_nothing b q true says = (
-  (λ is. let bad : false ≡ true = is in absurd cc),
-  (λ none. absurd (some_pending b q (says.0 refl) none)),
-)
-says_nothing b q false says = (
-  (λ is. nothing_pending b q (λ some. let bad : false ≡ true = says.1 some in absurd cc)),
-  (λ none. refl),
-)
+says_nothing b q pending says = by_list (lane_at (state b) q).pending pending says where
+  by_list : (es : List Entry) (some : Bool) → (IsTrue some ↔ ((e : Entry) × Contains es e))
+      → IsTrue (not some) ↔ (es ≡ [])
+  by_list [] true there = absurd (omega (arith, (there.0 refl).1.1))
+  by_list [] false there = ((λ is. refl), (λ none. refl))
+  by_list (e ∷ es) true there = ((λ is. absurd (let never : false ≡ true = is in cc)), (λ none. absurd cc))
+  by_list (e ∷ es) false there = (
+    (λ is. absurd (let never : false ≡ true = there.1 (e, Contains-here e es) in cc)),
+    (λ none. absurd cc),
+  )

@@ -2,16 +2,17 @@
 use Rattle.std.proofs.Common.{◌≡◌, ◌≢◌, ℕ, zero, suc, ◌<◌, ◌≤◌, inl, inr, Bool, true, false, List, refl, sym, subst}
 use Rattle.std.proofs.Common.{◌∙◌, arith, Option, Some, None, IfNone, ◌↔◌, IsTrue}
 use Rattle.std.specs.Bool.{beq}
-use Rattle.std.specs.Cmp.{both_ways}
+use Rattle.std.proofs.lemmas.Bool.Decides.{same_from_decides}
 use Rattle.wq_history.proofs.Words.{Entry, Waiting, Running, HelperStep, HelpStep, DoStart, DoWait, DoWaitAll, DoOver}
 use Rattle.wq_history.proofs.Words.{DoOverAll, DoFinish, Wiring, IsWiring, max_helpers, HasContext, HasHelper, items}
-use Rattle.wq_history.proofs.Words.{lane_of, State, lane_at, run_by, next_of, is_running, RunsIn, HasUnfinishedOf}
-use Rattle.wq_history.proofs.Words.{IsBusy, Lawful, Gives, MayDo, MayWait, MayBeOver, IsHeldBack, step_in, deed_item}
-use Rattle.wq_history.proofs.Words.{wait_deed, over_deed, IsSoundState, Machine, IsMachine, Event, Row, step_of}
-use Rattle.wq_history.proofs.Words.{event_in, SaysUnfinishedOf, Says, MayComeIn, MayCome, subject_of, rows_needed}
-use Rattle.wq_history.proofs.Words.{BookView, state, IsWaiting}
+use Rattle.wq_history.proofs.Words.{lane_of, State, lane_at, run_by, next_of, is_running, RunsIn, Lawful, Gives, MayDo}
+use Rattle.wq_history.proofs.Words.{MayWait, MayBeOver, IsHeldBack, step_in, deed_item, wait_deed, over_deed}
+use Rattle.wq_history.proofs.Words.{IsSoundState, Machine, IsMachine, Event, Row, step_of, event_in, SaysUnfinishedOf}
+use Rattle.wq_history.proofs.Words.{Says, MayComeIn, MayCome, subject_of, rows_needed, BookView, state, IsWaiting}
 use Rattle.wq_core.proofs.Contexts.{helpers_of-few, next-may}
 use Rattle.wq_core.proofs.Safety.{lawful-step_in}
+use Rattle.wq_core.proofs.LawfulSteps.{waiting-target}
+use Rattle.wq_core.proofs.Wirings.{lane_of-within}
 use Rattle.wq_rows.specs.declared.event.Event.TheVariants.{Start, Over, Finish, Told, OverAll, ToldLane, Help}
 use Rattle.wq_rows.specs.Packing.{HelpMayAnswer, MayAnswer}
 use Rattle.wq_history.proofs.WaitEvents.{declared-item}
@@ -54,12 +55,9 @@ over_says w s true b = refl
 -- it says one thing
 pub says_one : (w : Wiring) (s : State) (deed : HelpStep) (x y : Bool) → Says w s deed x → Says w s deed y → x ≡ y
 says_one w s deed x y a b = by_deed deed a b where
-  same_word : (Said : Type 0) → IsTrue x ↔ Said → IsTrue y ↔ Said → x ≡ y
-  same_word Said of_x of_y = both_ways x y (λ t. of_y.1 (of_x.0 t)) (λ t. of_x.1 (of_y.0 t))
-
   by_deed : (d : HelpStep) → Says w s d x → Says w s d y → x ≡ y
-  by_deed (DoWait t) a b = same_word (HasUnfinishedOf s t) a b
-  by_deed (DoWaitAll t) a b = same_word (IsBusy (lane_at s (lane_of w t))) a b
+  by_deed (DoWait t) a b = same_from_decides x y a b
+  by_deed (DoWaitAll t) a b = same_from_decides x y a b
   by_deed _ a b = a ∙ sym b
 
 -- a word that is right is the one that is said exactly if that is right, too
@@ -131,20 +129,13 @@ none-weaker (Some x) P Q weaker is = tt
 
 -- the lane of an item exists
 pub own-lane : (w : Wiring) (i q : ℕ) → IsWiring w → i < items w → lane_of w i ≡ q → q < w.lanes
-own-lane w i q wiring there own =
-    let within : lane_of w i < w.lanes = wiring.within i 0 (omega (arith, there, wiring.one_lane_each)) in
-    subst (λ (k : ℕ). k < w.lanes) own within
+own-lane w i q wiring there own = subst (λ (k : ℕ). k < w.lanes) own (lane_of-within w wiring i there)
 
 -- a context that runs something exists
 pub runs-context : (w : Wiring) (s : State) (q c : ℕ) (r : Running) → IsWiring w → IsSoundState w s → RunsIn (lane_at s q) c r → HasContext w q c
 runs-context w s q c r wiring sound runs =
     let own = sound.own_lane q r.entry (inr (c, r, runs, refl)) in
     (own-lane w r.entry.item q wiring own.0 own.1, sound.helpers q c r runs)
-
--- what runs waits for an item that exists
-pub waits-there : (w : Wiring) (s : State) (q c : ℕ) (r : Running) (f : Waiting) → IsWiring w → IsSoundState w s → RunsIn (lane_at s q) c r
-    → r.waiting ≡ Some f → f.target < items w
-waits-there w s q c r f wiring sound runs waits = declared-item w f.whole r.entry.item f.target wiring ((sound.running q c r runs).waits f waits).1
 
 -- what a context may do is about an item that exists, on a lane that exists
 pub deed-there : (w : Wiring) (s : State) (q c : ℕ) (deed : HelpStep) → IsWiring w → IsSoundState w s → MayDo w s q c deed
@@ -154,7 +145,7 @@ deed-there w s q c deed wiring sound may = by_deed deed may where
   lane r runs = (runs-context w s q c r wiring sound runs).0
 
   target : (r : Running) (f : Waiting) → RunsIn (lane_at s q) c r → r.waiting ≡ Some f → f.target < items w
-  target r f runs waits = waits-there w s q c r f wiring sound runs waits
+  target r f runs waits = waiting-target w s q c r f wiring sound runs waits
 
   by_deed : (d : HelpStep) → MayDo w s q c d → (deed_item d < items w) × (q < w.lanes)
   by_deed (DoStart i) may =

@@ -1,19 +1,19 @@
 -- What a book holds, and that it still holds this after one more row.
-use Rattle.std.proofs.Common.{◌≡◌, ℕ, zero, suc, ◌+◌, ◌-◌, ◌*◌, ◌<◌, ◌≤◌, ◌^◌, inr, cond, Bool, true, false, List, []}
-use Rattle.std.proofs.Common.{◌∷◌, ◌++◌, length, length-append, get_or, replicate, refl, sym, ap, subst, ◌∙◌, arith}
-use Rattle.std.proofs.Common.{Option, Some, None, IfSome, IsTrue, ◌↔◌, is_some, slice_get, sum_by, max, ◌&&◌, Contains}
+use Rattle.std.proofs.Common.{◌≡◌, ℕ, zero, suc, ◌+◌, ◌*◌, ◌<◌, ◌≤◌, ◌^◌, inr, cond, Bool, true, false, List, []}
+use Rattle.std.proofs.Common.{◌∷◌, ◌++◌, length, length-append, get_or, replicate, refl, sym, ap, ◌∙◌, arith, Option}
+use Rattle.std.proofs.Common.{Some, None, IfSome, IsTrue, ◌↔◌, is_some, slice_get, sum_by, max, ◌&&◌, Contains}
 use Rattle.std.proofs.Math.Nat.{le-max_left, le-max_right}
 use Rattle.std.proofs.lemmas.List.{length-replicate}
 use Rattle.std.proofs.lemmas.List.Folds.{sum_by-replicate}
 use Rattle.wq_items.proofs.Lists.{Contains-first}
 use Rattle.wq_history.proofs.Words.{Entry, Running, Step, Wiring, items, lane_of, HasContext, State, idle_lane, lane_at}
-use Rattle.wq_history.proofs.Words.{run_by, empty_state, Lawful, effect, lane_work, work_left, Machine, IsMachine}
+use Rattle.wq_history.proofs.Words.{run_by, empty_state, Lawful, lane_work, work_left, Machine, IsMachine}
 use Rattle.wq_history.proofs.Words.{machine_after, Row, max_rows, Subject, OfItem, OfLane, step_of, is_ask, is_told}
-use Rattle.wq_history.proofs.Words.{state_after, IsThere, MayFollow, reserved, free_rows, AskView, CountsAll}
-use Rattle.wq_history.proofs.Words.{CountsAsks, AreCounted, Replays, HoldsBook, ask_place, IsBook}
+use Rattle.wq_history.proofs.Words.{state_after, IsThere, reserved, free_rows, AskView, AreCounted, Replays, HoldsBook}
+use Rattle.wq_history.proofs.Words.{ask_place, IsBook}
 use Rattle.wq_core.proofs.RunLemmas.{next-effect}
 use Rattle.wq_core.proofs.Sound.{IsSoundState-effect}
-use Rattle.wq_history.proofs.Histories.{state_after-step, state_after-none, IsLegal-more, MayCome-lawful}
+use Rattle.wq_history.proofs.Histories.{state_after-none}
 use Rattle.wq_history.proofs.Counting.{count-more, all_asks_waiting-count}
 use Rattle.wq_history.proofs.Deeds.{runs-context}
 
@@ -52,7 +52,8 @@ free_rows-noted w room rows row none =
     omega (arith, work, asked, told, length-more rows row)
 
 -- after a lawful step there is a machine again
-IsMachine-after : (m : Machine) (step : Step) → IsMachine m → Lawful m.wiring m.state step → m.state.next + 1 < 2 ^ 32 → IsMachine (machine_after m step)
+pub IsMachine-after : (m : Machine) (step : Step) → IsMachine m → Lawful m.wiring m.state step
+    → m.state.next + 1 < 2 ^ 32 → IsMachine (machine_after m step)
 IsMachine-after m step machine lawful few = record {
   wiring = machine.wiring;
   state = IsSoundState-effect m.wiring m.state step machine.state lawful;
@@ -62,40 +63,6 @@ IsMachine-after m step machine lawful few = record {
   few_helpers = machine.few_helpers;
   numbers = omega (arith, few, next-effect m.wiring m.state step);
 }
-
--- a row without a step
-pub Replays-noted : (m : Machine) (rows : List Row) (asks now : AskView) (row : Row) → Replays m rows asks
-    → step_of row.event row.yes ≡ None → MayFollow m.wiring rows row → AreCounted m.wiring (rows ++ (row ∷ [])) now
-    → Replays m (rows ++ (row ∷ [])) now
-Replays-noted m rows asks now row replays none may asked = record {
-  machine_is = replays.machine_is;
-  replay = replays.replay ∙ sym (state_after-none m.wiring rows row none);
-  legal = IsLegal-more m.wiring rows row replays.legal may;
-  asked = asked;
-  numbers = omega (arith, length-more rows row, replays.numbers);
-}
-
--- the row of a step
-pub Replays-made : (m : Machine) (rows : List Row) (asks now : AskView) (row : Row) (step : Step) → Replays m rows asks
-    → step_of row.event row.yes ≡ Some step → MayFollow m.wiring rows row → AreCounted m.wiring (rows ++ (row ∷ [])) now
-    → length rows < max_rows → Replays (machine_after m step) (rows ++ (row ∷ [])) now
-Replays-made m rows asks now row step replays makes may asked few =
-    let lawful : Lawful m.wiring m.state step =
-    subst (λ (s : State). Lawful m.wiring s step) (sym replays.replay)
-    (MayCome-lawful m.wiring rows row.event row.yes row.number step may makes) in
-    record {
-      machine_is = IsMachine-after m step replays.machine_is lawful (omega (arith, replays.numbers, few));
-      replay = ap (λ (s : State). effect m.wiring s step) replays.replay ∙ sym (state_after-step m.wiring rows row step makes);
-      legal = IsLegal-more m.wiring rows row replays.legal may;
-      asked = asked;
-      numbers = omega (arith, length-more rows row, replays.numbers, next-effect m.wiring m.state step);
-    }
-
--- the same, for rows and room under other names
-pub HoldsBook-read : (m : Machine) (new : List Row) (room_new : ℕ) (asks : AskView) (work : ℕ) {rows : List Row} {room : ℕ} → new ≡ rows → room_new ≡ room
-    → HoldsBook m rows room asks work → HoldsBook m new room_new asks work
-HoldsBook-read m new room_new asks work {rows} {room} same_rows same_room holds =
-    subst (λ (n : ℕ). HoldsBook m new n asks work) (sym same_room) (subst (λ (rs : List Row). HoldsBook m rs room asks work) (sym same_rows) holds)
 
 -- ---- a book without rows
 
@@ -117,26 +84,14 @@ place-within : (w : Wiring) (x : Subject) → IsThere w x → ask_place x < 2 * 
 place-within w (OfItem i) there = let below : i < items w = there in omega (arith, below, le-max_left (items w) w.lanes)
 place-within w (OfLane q) there = let below : q < w.lanes = there in omega (arith, below, le-max_right (items w) w.lanes)
 
-each-first : (w : Wiring) (asks : AskView) (x : Subject) → AreFirst w asks → IsThere w x → ask_place x < length
-    asks.counts
-each-first w asks x first there =
-    subst (λ (n : ℕ). ask_place x < n) (sym (ap (λ (a : AskView). length a.counts) first ∙ length-replicate (2 * max (items w) w.lanes) 0)) (place-within w x there)
-
-asked-first : (w : Wiring) (asks : AskView) → AreFirst w asks → CountsAsks [] asks
-asked-first w asks first = record {
-  each = λ x.
-      let at : get_or asks.counts (ask_place x) 0 ≡ 0 =
-      ap (λ (a : AskView). get_or a.counts (ask_place x) 0) first ∙ zeros (2 * max (items w) w.lanes) (ask_place x) 0 in
-      omega (arith, at);
-  in_all = ap (λ (a : AskView). a.all + 0) first;
-}
-
 pub asks-first : (w : Wiring) (asks : AskView) → AreFirst w asks → AreCounted w [] asks
-asks-first w asks first = record {
-  each = λ x there. each-first w asks x first there;
-  sum_is = subst CountsAll (sym first) (omega (arith, sum_by-replicate (λ (n : ℕ). n) (2 * max (items w) w.lanes) 0));
-  counts = asked-first w asks first;
-}
+asks-first w asks first =
+    let places : ℕ = 2 * max (items w) w.lanes in
+    rw first (record {
+      each = λ x there. rw length-replicate (place-within w x there);
+      sum_is = omega (arith, sum_by-replicate (λ (n : ℕ). n) places 0);
+      counts = record { each = λ x. omega (arith, zeros places (ask_place x) 0); in_all = refl };
+    })
 
 pub Replays-first : (m : Machine) (asks : AskView) → IsMachine m → m.state ≡ empty_state m.wiring → AreFirst m.wiring asks → Replays m [] asks
 Replays-first m asks machine empty none = record {

@@ -1,5 +1,5 @@
 -- Judging: what one more row does to a replay, and why a row is at fault.
-use Rattle.std.proofs.Common.{◌≡◌, ℕ, ◌+◌, ◌-◌, ◌*◌, ◌<◌, ◌≤◌, ◌↔◌, true, false, eqb, List, append_assoc, length-append}
+use Rattle.std.proofs.Common.{◌≡◌, ℕ, ◌+◌, ◌*◌, ◌<◌, ◌≤◌, ◌↔◌, true, false, eqb, List, append_assoc, length-append}
 use Rattle.std.proofs.Common.{length-take, [], ◌∷◌, ◌++◌, length, get_or, take, refl, sym, ap, subst, ◌∙◌, arith}
 use Rattle.std.proofs.Common.{Option, Some, None, IfSome, IfNone, IsTrue, ◌&&◌}
 use Rattle.std.specs.Option.{option_eq}
@@ -10,8 +10,8 @@ use Rattle.std.proofs.lemmas.List.Sums.{count_by-le-length}
 use Rattle.std.specs.List.{IsSplitAt}
 use Rattle.wq_history.proofs.Words.{Step, QueueStep, Wiring, State, empty_state, Lawful, Gives, Machine, IsMachine}
 use Rattle.wq_history.proofs.Words.{machine_after, Event, Row, max_rows, Subject, step_of, subject_in, ask_event}
-use Rattle.wq_history.proofs.Words.{told_event, is_ask, state_after, asks_waiting, Makes, MayComeIn, MayCome, MayFollow}
-use Rattle.wq_history.proofs.Words.{IsLegal, AskView, AreCounted, Replays, ask_place, stepped, counted}
+use Rattle.wq_history.proofs.Words.{told_event, is_ask, state_after, Makes, MayComeIn, MayCome, MayFollow, IsLegal}
+use Rattle.wq_history.proofs.Words.{AskView, Replays, ask_place, stepped, counted}
 use Rattle.wq_core.specs.declared.step.StepError.{StepError}
 use Rattle.wq_core.specs.declared.step.StepError.TheVariants.{NotLawful, NumbersUsedUp}
 use Rattle.wq_core.specs.Held.{IsDone, IsRefusal, UsesUp}
@@ -21,9 +21,9 @@ use Rattle.wq_rows.specs.Stored.{IsStored}
 use Rattle.wq_rows.proofs.StoredLemmas.{IsStored-length, IsStored-push, IsSplitAt-parts, empty_list}
 use Rattle.wq_history.specs.Judging.{IsJudged, IsJudgedUpTo}
 use Rattle.wq_history.proofs.Counting.{asks_waiting-count}
-use Rattle.wq_history.proofs.Holding.{AreFirst, Replays-noted, Replays-made, Replays-first}
-use Rattle.wq_history.proofs.LegalRows.{AreCounted-more}
-use Rattle.wq_history.proofs.WaitEvents.{ask-there, told-some}
+use Rattle.wq_history.proofs.Holding.{AreFirst, Replays-first}
+use Rattle.wq_history.proofs.LegalRows.{Replays-follow}
+use Rattle.wq_history.proofs.WaitEvents.{ask-exactly, told-exactly}
 
 -- ---- the number of a step
 
@@ -51,17 +51,9 @@ peeked m step (Some k) n machine below some none = (
 pub MayFollow-here : (m : Machine) (rows : List Row) (asks : AskView) (row : Row) (waiting : ℕ) → Replays m rows asks
     → waiting ≡ get_or asks.counts (ask_place (subject_in row.event)) 0
     → MayComeIn m.wiring m.state waiting row.event row.yes row.number ↔ MayFollow m.wiring rows row
-MayFollow-here m rows asks row waiting replays is = (
-  (λ may.
-      subst (λ k. MayComeIn m.wiring (state_after m.wiring rows) k row.event row.yes row.number) same
-      (subst (λ (s : State). MayComeIn m.wiring s waiting row.event row.yes row.number) replays.replay may)),
-  (λ may.
-      subst (λ (s : State). MayComeIn m.wiring s waiting row.event row.yes row.number) (sym replays.replay)
-      (subst (λ k. MayComeIn m.wiring (state_after m.wiring rows) k row.event row.yes row.number) (sym same) may)),
-)
-  where
-    same : waiting ≡ asks_waiting (subject_in row.event) rows
-    same = is ∙ asks_waiting-count rows asks (subject_in row.event) replays.asked.counts
+MayFollow-here m rows asks row waiting replays is =
+    let same = is ∙ asks_waiting-count rows asks (subject_in row.event) replays.asked.counts in
+    rw (replays.replay, same) ((λ may. may), (λ may. may))
 
 -- no more asks wait than there are rows
 pub few_asks : (m : Machine) (rows : List Row) (asks : AskView) → Replays m rows asks → asks.all ≤ length rows
@@ -77,31 +69,15 @@ pub ask-counted : (m : Machine) (rows : List Row) (asks : AskView) (row : Row) (
     → MayFollow m.wiring rows row → row.event ≡ ask_event x → ask_place x < length asks.counts
 ask-counted m rows asks row x replays may is =
     let come = subst (λ (e : Event). MayCome m.wiring rows e row.yes row.number) is may in
-    let waiting : ℕ = asks_waiting (subject_in (ask_event x)) rows in
-    replays.asked.each x (ask-there m.wiring (state_after m.wiring rows) waiting x row.yes row.number come)
+    replays.asked.each x ((ask-exactly m.wiring rows x row.yes row.number).0 come).0
 
 -- and where a caller may be told, the count isn't 0
 pub told-counted : (m : Machine) (rows : List Row) (asks : AskView) (row : Row) (x : Subject) → Replays m rows asks
     → MayFollow m.wiring rows row → row.event ≡ told_event x → 0 < get_or asks.counts (ask_place x) 0
 told-counted m rows asks row x replays may is =
-    told-some m.wiring rows asks x row.yes row.number replays.asked.counts
-    (subst (λ (e : Event). MayCome m.wiring rows e row.yes row.number) is may)
-
--- ---- one more row
-
-pub Replays-follow : (m : Machine) (rows : List Row) (asks : AskView) (row : Row) → Replays m rows asks
-    → MayFollow m.wiring rows row → length rows < max_rows
-    → Replays (stepped m (step_of row.event row.yes)) (rows ++ (row ∷ [])) (counted asks row.event row.yes)
-Replays-follow m rows asks row replays may few = by_step (step_of row.event row.yes) refl where
-  now : AskView
-  now = counted asks row.event row.yes
-
-  asked : AreCounted m.wiring (rows ++ (row ∷ [])) now
-  asked = AreCounted-more m.wiring rows asks row replays.asked may
-
-  by_step : (o : Option Step) → step_of row.event row.yes ≡ o → Replays (stepped m o) (rows ++ (row ∷ [])) now
-  by_step None none = Replays-noted m rows asks now row replays none may asked
-  by_step (Some step) makes = Replays-made m rows asks now row step replays makes may asked few
+    let come = subst (λ (e : Event). MayCome m.wiring rows e row.yes row.number) is may in
+    let told = (told-exactly m.wiring rows x row.yes row.number).0 come in
+    omega (arith, told.1, asks_waiting-count rows asks x replays.asked.counts)
 
 -- ---- judged so far
 

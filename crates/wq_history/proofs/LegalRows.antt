@@ -1,24 +1,25 @@
 -- What holds for legal histories: prefixes, runs, and the asks that wait.
-use Rattle.std.proofs.Common.{◌≡◌, ℕ, zero, suc, ◌+◌, ◌-◌, ◌<◌, ◌≤◌, ◌↔◌, Bool, true, false, cond, eqb, List, [], ◌∷◌}
+use Rattle.std.proofs.Common.{◌≡◌, ℕ, zero, suc, ◌+◌, ◌<◌, ◌≤◌, ◌↔◌, Bool, true, false, cond, eqb, List, [], ◌∷◌}
 use Rattle.std.proofs.Common.{◌++◌, length, take, get_or, set, append_assoc, refl, sym, ap, subst, ◌∙◌, arith, Option}
-use Rattle.std.proofs.Common.{Some, None, slice_get, sum, ◌&&◌}
+use Rattle.std.proofs.Common.{Some, None, slice_get, ◌&&◌}
 use Rattle.std.proofs.lemmas.Bool.{eqb-true}
 use Rattle.std.specs.List.{count_by, cons_option}
 use Rattle.std.proofs.lemmas.List.{append-nil, length-set, take-append-le}
-use Rattle.std.proofs.lemmas.List.Sums.{sum_by-set, get_or-le-sum_by}
+use Rattle.std.proofs.lemmas.List.Sums.{sum_by-set}
 use Rattle.std.proofs.lemmas.Option.{slice_get_within}
 use Rattle.wq_history.proofs.Words.{Step, Wiring, items, empty_state, IsSoundState, Event, Row, Subject, OfItem, OfLane}
-use Rattle.wq_history.proofs.Words.{step_of, steps_of, ask_event, told_event, begins_to_wait, ends_a_wait, is_ask}
-use Rattle.wq_history.proofs.Words.{is_told, state_after, asks_waiting, all_asks_waiting, IsThere, MayCome, MayFollow}
-use Rattle.wq_history.proofs.Words.{IsLegal, AskView, AreCounted, ask_place, counted}
+use Rattle.wq_history.proofs.Words.{step_of, steps_of, begins_to_wait, ends_a_wait, is_ask, is_told, state_after}
+use Rattle.wq_history.proofs.Words.{asks_waiting, all_asks_waiting, IsThere, MayCome, MayFollow, IsLegal, AskView}
+use Rattle.wq_history.proofs.Words.{AreCounted, ask_place, counted, subject_in, Lawful, effect, State, Machine}
+use Rattle.wq_history.proofs.Words.{max_rows, Replays, stepped}
 use Rattle.wq_core.specs.Runs.{IsRun}
-use Rattle.wq_core.proofs.RunLemmas.{IsRunFrom-more}
+use Rattle.wq_core.proofs.RunLemmas.{IsRunFrom-more, next-effect}
 use Rattle.wq_core.proofs.Sound.{IsSoundState-end_of}
-use Rattle.wq_rows.specs.declared.event.Event.TheVariants.{Queue, Cancel, Ask, Told, AskLane, ToldLane}
-use Rattle.wq_history.specs.Judging.{with_ask, without_ask}
-use Rattle.wq_history.proofs.Histories.{steps_of-more, IsLegal-more, MayCome-lawful}
-use Rattle.wq_history.proofs.Counting.{IsNobodys, IsNobodys-nothing, IsNobodys-step, count-more, CountsAsks-same, CountsAsks-asked, CountsAsks-told, asks_waiting-count, all_asks_waiting-count, within-some}
-use Rattle.wq_history.proofs.Holding.{asks-first}
+use Rattle.wq_rows.specs.declared.event.Event.TheVariants.{Ask, Told, AskLane, ToldLane}
+use Rattle.wq_history.proofs.Histories.{steps_of-more, state_after-step, state_after-none, IsLegal-more, MayCome-lawful}
+use Rattle.wq_history.proofs.Counting.{count-more, CountsAsks-same, CountsAsks-at, asks_waiting-count}
+use Rattle.wq_history.proofs.Counting.{all_asks_waiting-count, within-some, count-at_most}
+use Rattle.wq_history.proofs.Holding.{IsMachine-after, length-more, asks-first}
 
 -- ---- prefixes
 
@@ -114,74 +115,90 @@ asked-there w rows x legal some =
 abbrev GivesCounts : Wiring → List Row → Type 0
 GivesCounts w rows = IsLegal w rows → (asks : AskView) × AreCounted w rows asks
 
--- the sum after one count is replaced
-sum-set : (xs : List ℕ) (i y : ℕ) → i < length xs → sum (set xs i y) + get_or xs i 0 ≡ sum xs + y
-sum-set xs i y within = sum_by-set (λ (n : ℕ). n) xs i y 0 within
-
 pub AreCounted-more : (w : Wiring) (rows : List Row) (asks : AskView) (row : Row) → AreCounted w rows asks
     → MayFollow w rows row → AreCounted w (rows ++ (row ∷ [])) (counted asks row.event row.yes)
 AreCounted-more w rows asks row old may = by_event row.event row.yes row.number may where
-  same : (event : Event) (said : Bool) (n : ℕ) → IsNobodys (record { event = event; yes = said; number = n })
-      → AreCounted w (rows ++ (record { event = event; yes = said; number = n } ∷ [])) asks
-  same event said n nobody = record {
+  -- the row changes nothing
+  same : (r : Row) → is_told r.event ≡ false → (is_ask r.event && r.yes) ≡ false → AreCounted w (rows ++ (r ∷ [])) asks
+  same r told asked = record {
     each = old.each;
     sum_is = old.sum_is;
-    counts = CountsAsks-same rows (record { event = event; yes = said; number = n }) asks nobody old.counts;
+    counts = CountsAsks-same rows r asks asks old.counts (rw (told, asked) refl) refl told asked;
   }
 
-  -- a count is replaced
-  each_still : (x y : Subject) (k : ℕ) → IsThere w y → ask_place y < length (set asks.counts (ask_place x) k)
-  each_still x y k there = subst (λ (n : ℕ). ask_place y < n) (sym (length-set asks.counts (ask_place x) k))
-      (old.each y there)
-
-  asked : (x : Subject) (n : ℕ) → IsThere w x → AreCounted w
-      (rows ++ (record { event = ask_event x; yes = true; number = n } ∷ [])) (with_ask x asks)
-  asked x n there =
-      let within = old.each x there in
+  -- the count of what the row is about is replaced by this one
+  replaced : (r : Row) (k all : ℕ) → ask_place (subject_in r.event) < length asks.counts
+      → k + cond (is_told r.event) 1 0
+      ≡ get_or asks.counts (ask_place (subject_in r.event)) 0 + cond (is_ask r.event && r.yes) 1 0
+      → all + cond (is_told r.event) 1 0 ≡ asks.all + cond (is_ask r.event && r.yes) 1 0
+      → AreCounted w (rows ++ (r ∷ []))
+      (record { counts = set asks.counts (ask_place (subject_in r.event)) k; all = all })
+  replaced r k all within k_is all_is =
+      let place : ℕ = ask_place (subject_in r.event) in
       record {
-        each = λ y is. each_still x y (get_or asks.counts (ask_place x) 0 + 1) is;
-        sum_is = omega (
-          arith,
-          sum-set asks.counts (ask_place x) (get_or asks.counts (ask_place x) 0 + 1) within,
-          old.sum_is,
-        );
-        counts = CountsAsks-asked rows asks (with_ask x asks) x n within old.counts refl refl;
+        each = λ y there. rw (length-set asks.counts place k) (old.each y there);
+        sum_is = omega (arith, sum_by-set (λ (n : ℕ). n) asks.counts place k 0 within, old.sum_is, k_is, all_is);
+        counts = CountsAsks-at rows r asks _ old.counts all_is k within refl k_is;
       }
 
-  told : (x : Subject) (n : ℕ) → 0 < asks_waiting x rows → AreCounted w
-      (rows ++ (record { event = told_event x; yes = true; number = n } ∷ [])) (without_ask x asks)
-  told x n waiting =
-      let some : 0 < get_or asks.counts (ask_place x) 0 = omega
-      (arith, waiting, asks_waiting-count rows asks x old.counts) in
-      let within : ask_place x < length asks.counts = within-some asks.counts (ask_place x) some in
-      let part : get_or asks.counts (ask_place x) 0 ≤ sum asks.counts = get_or-le-sum_by (λ (k : ℕ). k) asks.counts
-      (ask_place x) 0 within in
-      let all : 0 < asks.all = omega (arith, some, part, old.sum_is) in
-      record {
-        each = λ y is. each_still x y (get_or asks.counts (ask_place x) 0 - 1) is;
-        sum_is = omega (
-          arith,
-          sum-set asks.counts (ask_place x) (get_or asks.counts (ask_place x) 0 - 1) within,
-          old.sum_is,
-          some,
-          all,
-        );
-        counts = CountsAsks-told rows asks (without_ask x asks) x n within some all old.counts refl refl;
-      }
+  told : (x : Subject) → 0 < asks_waiting x rows
+      → (0 < get_or asks.counts (ask_place x) 0) × (ask_place x < length asks.counts) × (0 < asks.all)
+  told x waiting =
+      let some : 0 < get_or asks.counts (ask_place x) 0 =
+      omega (arith, waiting, asks_waiting-count rows asks x old.counts) in (
+        some,
+        within-some asks.counts (ask_place x) some,
+        omega (arith, some, count-at_most asks x old.sum_is),
+      )
 
   by_event : (event : Event) (said : Bool) (n : ℕ) → MayCome w rows event said n
       → AreCounted w (rows ++ (record { event = event; yes = said; number = n } ∷ [])) (counted asks event said)
-  by_event (Queue i) false n may = same (Queue i) false n (IsNobodys-nothing (Queue i) n refl)
-  by_event (Cancel i) false n may = same (Cancel i) false n (IsNobodys-nothing (Cancel i) n refl)
-  by_event (Ask i) false n may = same (Ask i) false n (IsNobodys-nothing (Ask i) n refl)
-  by_event (Ask i) true n may = asked (OfItem i) n may.0
-  by_event (Told i) false n may = let said : false ≡ true = may.0 in absurd cc
-  by_event (Told i) true n may = told (OfItem i) n may.1
-  by_event (AskLane q) false n may = same (AskLane q) false n (IsNobodys-nothing (AskLane q) n refl)
-  by_event (AskLane q) true n may = asked (OfLane q) n may.0
-  by_event (ToldLane q) false n may = let said : false ≡ true = may.0 in absurd cc
-  by_event (ToldLane q) true n may = told (OfLane q) n may.1
-  by_event event said n may = same event said n (IsNobodys-step event said n _ refl)
+  by_event (Ask i) true n may = replaced _ _ _ (old.each (OfItem i) may.0) (omega arith) (omega arith)
+  by_event (AskLane q) true n may = replaced _ _ _ (old.each (OfLane q) may.0) (omega arith) (omega arith)
+  by_event (Told i) said n may =
+      let some = told (OfItem i) may.1 in
+      replaced _ _ _ some.1 (omega (arith, some.0)) (omega (arith, some.2))
+  by_event (ToldLane q) said n may =
+      let some = told (OfLane q) may.1 in
+      replaced _ _ _ some.1 (omega (arith, some.0)) (omega (arith, some.2))
+  by_event event said n may = same _ refl refl
+
+-- a step is of nobody who asks or is told
+pub counted-step : (asks : AskView) (event : Event) (said : Bool) (step : Step) → step_of event said ≡ Some step
+    → counted asks event said ≡ asks
+counted-step asks (Ask i) said step makes = absurd cc
+counted-step asks (Told i) said step makes = absurd cc
+counted-step asks (AskLane q) said step makes = absurd cc
+counted-step asks (ToldLane q) said step makes = absurd cc
+counted-step asks _ said step makes = refl
+
+-- the replay of one more row
+pub Replays-follow : (m : Machine) (rows : List Row) (asks : AskView) (row : Row) → Replays m rows asks
+    → MayFollow m.wiring rows row → length rows < max_rows
+    → Replays (stepped m (step_of row.event row.yes)) (rows ++ (row ∷ [])) (counted asks row.event row.yes)
+Replays-follow m rows asks row replays may few = by_step (step_of row.event row.yes) refl where
+  by_step : (o : Option Step) → step_of row.event row.yes ≡ o
+      → Replays (stepped m o) (rows ++ (row ∷ [])) (counted asks row.event row.yes)
+  by_step None none = record {
+    machine_is = replays.machine_is;
+    replay = replays.replay ∙ sym (state_after-none m.wiring rows row none);
+    legal = IsLegal-more m.wiring rows row replays.legal may;
+    asked = AreCounted-more m.wiring rows asks row replays.asked may;
+    numbers = omega (arith, length-more rows row, replays.numbers);
+  }
+  by_step (Some step) makes =
+      let lawful : Lawful m.wiring m.state step =
+      subst (λ (s : State). Lawful m.wiring s step) (sym replays.replay)
+      (MayCome-lawful m.wiring rows row.event row.yes row.number step may makes) in
+      record {
+        machine_is = IsMachine-after m step replays.machine_is lawful (omega (arith, replays.numbers, few));
+        replay =
+            ap (λ (s : State). effect m.wiring s step) replays.replay
+            ∙ sym (state_after-step m.wiring rows row step makes);
+        legal = IsLegal-more m.wiring rows row replays.legal may;
+        asked = AreCounted-more m.wiring rows asks row replays.asked may;
+        numbers = omega (arith, length-more rows row, replays.numbers, next-effect m.wiring m.state step);
+      }
 
 one_more_count : (w : Wiring) (rows : List Row) (row : Row) → GivesCounts w rows → GivesCounts w (rows ++ (row ∷ []))
 one_more_count w rows row before legal =
@@ -197,11 +214,13 @@ AreCounted-legal w rows legal =
 pub some-wait : (w : Wiring) (rows : List Row) (x : Subject) → IsLegal w rows → 0 < asks_waiting x rows → 0 < all_asks_waiting rows
 some-wait w rows x legal some =
     let c = AreCounted-legal w rows legal in
-    let waits : 0 < get_or c.0.counts (ask_place x) 0 = omega (arith, some, asks_waiting-count rows c.0 x c.1.counts) in
-    let within : ask_place x < length c.0.counts = within-some c.0.counts (ask_place x) waits in
-    let part : get_or c.0.counts (ask_place x) 0 ≤ sum c.0.counts = get_or-le-sum_by (λ (n : ℕ). n) c.0.counts
-    (ask_place x) 0 within in
-    omega (arith, waits, part, c.1.sum_is, all_asks_waiting-count rows c.0 c.1.counts)
+    omega (
+      arith,
+      some,
+      asks_waiting-count rows c.0 x c.1.counts,
+      count-at_most c.0 x c.1.sum_is,
+      all_asks_waiting-count rows c.0 c.1.counts,
+    )
 
 pub told-asked : (w : Wiring) (rows : List Row) (x : Subject) → IsLegal w rows → count_by (ends_a_wait x) rows ≤ count_by (begins_to_wait x) rows
 told-asked w rows x legal = let c = AreCounted-legal w rows legal in omega (arith, c.1.counts.each x)

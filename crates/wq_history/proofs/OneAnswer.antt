@@ -1,37 +1,29 @@
 -- A book has one answer to a call.
-use Rattle.std.proofs.Common.{◌≡◌, ℕ, zero, suc, ◌<◌, ◌≤◌, ◌⊎◌, inl, inr, Bool, true, false, cond, ltb, [], ◌∷◌, ◌++◌}
-use Rattle.std.proofs.Common.{length, refl, sym, ap, subst, ◌∙◌, arith, Some, None, Result, Ok, Err}
+use Rattle.std.proofs.Common.{◌≡◌, ℕ, ◌<◌, ◌≤◌, ◌⊎◌, inl, inr, Bool, true, false, cond, ltb, [], ◌∷◌, ◌++◌, length}
+use Rattle.std.proofs.Common.{refl, sym, ap, subst, ◌∙◌, arith, Some, None, Result, Ok, Err}
 use Rattle.std.proofs.lemmas.Bool.{cond_below, cond_above}
 use Rattle.wq_items.specs.Table.{ItemWaitsBy}
-use Rattle.wq_history.proofs.Words.{Context, HelpStep, DoStart, DoWait, DoWaitAll, DoOver, DoOverAll, DoFinish, Running}
-use Rattle.wq_history.proofs.Words.{items, declared_by, lane_at, run_by, RunsIn, HasUnfinishedBelow, IsBusyBelow, MayDo}
-use Rattle.wq_history.proofs.Words.{MayWait, MayBeOver, IsHeldBack, Event, QueueEvent, CancelEvent, AskEvent}
-use Rattle.wq_history.proofs.Words.{AskLaneEvent, Row, Subject, OfItem, OfLane, event_in, is_told, told_event}
-use Rattle.wq_history.proofs.Words.{start_event, wait_event, over_event, finish_event, asks_waiting, MayCome, IsLegal}
-use Rattle.wq_history.proofs.Words.{rows_needed, BookView, state, free, IsBook, LacksRows, RunsItem, WaitsFor}
-use Rattle.wq_history.proofs.Words.{HasNothingToStart, IsWrongToStart, IsNotAwake, CallError, HistoryFull, Closed}
-use Rattle.wq_history.proofs.Words.{Undeclared, TooManyWaits, WrongLane, NotAsked, NoItem, Flush, Call, Queue, Cancel}
-use Rattle.wq_history.proofs.Words.{Ask, Told, CancelSync, Start, Wait, Over, Finish, Close, Drain, Reply, Wrote}
-use Rattle.wq_history.proofs.Words.{WroteTwo, Done, NotYet, IsUnfinishedBelow, RefusesToWait, RefusesIf, Refuses}
-use Rattle.wq_history.proofs.Words.{IsRowOf, Writes, WritesTwo, IsEarly, Answers}
+use Rattle.wq_history.proofs.Words.{Context, DoStart, DoWait, DoWaitAll, DoOver, DoOverAll, DoFinish, Running, items}
+use Rattle.wq_history.proofs.Words.{declared_by, lane_at, RunsIn, MayWait, MayBeOver, IsHeldBack, Event, QueueEvent}
+use Rattle.wq_history.proofs.Words.{CancelEvent, AskEvent, AskLaneEvent, Row, OfItem, OfLane, is_told, told_event}
+use Rattle.wq_history.proofs.Words.{start_event, wait_event, over_event, finish_event, MayCome, rows_needed, BookView}
+use Rattle.wq_history.proofs.Words.{state, free, IsBook, LacksRows, RunsItem, WaitsFor, HasNothingToStart}
+use Rattle.wq_history.proofs.Words.{IsWrongToStart, IsNotAwake, CallError, HistoryFull, Closed, Undeclared}
+use Rattle.wq_history.proofs.Words.{TooManyWaits, WrongLane, NotAsked, NoItem, Flush, Call, Queue, Cancel, Ask, Told}
+use Rattle.wq_history.proofs.Words.{CancelSync, Start, Wait, Over, Finish, Close, Drain, Reply, Wrote, WroteTwo, Done}
+use Rattle.wq_history.proofs.Words.{NotYet, IsUnfinishedBelow, RefusesToWait, RefusesIf, Refuses, IsRowOf, Writes}
+use Rattle.wq_history.proofs.Words.{WritesTwo, IsEarly, Answers}
 use Rattle.wq_core.specs.declared.entry.Waiting.{Waiting as WaitOf}
-use Rattle.wq_core.specs.Rules.{MayFinish}
-use Rattle.wq_core.proofs.Contexts.{MayStart-first}
-use Rattle.wq_history.proofs.Histories.{IsLegal-more}
+use Rattle.wq_core.proofs.LaneLemmas.{same_running, nothing_runs}
 use Rattle.wq_history.proofs.KeptRows.{one_answer}
 use Rattle.wq_history.specs.Calls.{IsDone}
-use Rattle.wq_history.proofs.CallRows.{appends-as, wrong-only, held-back, context-appended}
+use Rattle.wq_history.proofs.CallRows.{may-do, wrong-only, held-back, context-writes}
 use Rattle.wq_history.proofs.Sleeping.{one-wait}
-use Rattle.wq_history.proofs.Uniqueness.{same-row, comes, same-event, one-row}
+use Rattle.wq_history.proofs.WaitEvents.{told-exactly}
+use Rattle.wq_history.proofs.Uniqueness.{comes, same-event, one-row}
+use Rattle.wq_history.proofs.Upheld.{row-upheld}
 
 -- ---- what a row of a context shows
-
--- what a context does, it may do
-pub may-do : (b : BookView) (q c : ℕ) (deed : HelpStep) (said : Bool) (n : ℕ)
-    → MayCome b.wiring b.rows (event_in q c deed) said n → MayDo b.wiring (state b) q c deed
-may-do b q zero (DoStart i) said n may = MayStart-first (lane_at (state b) q) i may.1.0
-may-do b q zero _ said n may = may.1.0
-may-do b q (suc h) deed said n may = may.1.0.1
 
 pub wait-lawful : (b : BookView) (whole : Bool) (q c t : ℕ) (said : Bool) (n : ℕ)
     → MayCome b.wiring b.rows (wait_event whole q c t) said n
@@ -45,41 +37,16 @@ over-lawful : (b : BookView) (whole : Bool) (q c t : ℕ) (said : Bool) (n : ℕ
 over-lawful b false q c t said n may = may-do b q c (DoOver t) said n may
 over-lawful b true q c t said n may = may-do b q c (DoOverAll t) said n may
 
-pub finish-lawful : (b : BookView) (q c i : ℕ) (said : Bool) (n : ℕ)
-    → MayCome b.wiring b.rows (finish_event q c i) said n
-    → (r : Running) × RunsIn (lane_at (state b) q) c r × MayFinish i r
-finish-lawful b q c i said n may = may-do b q c (DoFinish i) said n may
-
--- a context runs one thing, or nothing
-same-run : (b : BookView) (q c : ℕ) (r s : Running) → RunsIn (lane_at (state b) q) c r
-    → RunsIn (lane_at (state b) q) c s → r ≡ s
-same-run b q c r s one other = let same : Some r ≡ Some s = sym one ∙ other in cc
-
-not-both : (b : BookView) (q c : ℕ) (r : Running) → run_by (lane_at (state b) q) c ≡ None
-    → RunsIn (lane_at (state b) q) c r → ⊥
-not-both b q c r idle runs = let bad : None ≡ Some r = sym idle ∙ runs in absurd cc
-
+-- a context that has nothing to start may start
 idle-wrong : (b : BookView) (c : Context) → HasNothingToStart b c.lane c.number → IsWrongToStart b c.lane c.number → ⊥
 idle-wrong b c nothing (inl missing) = missing nothing.0
-idle-wrong b c nothing (inr runs) = not-both b c.lane c.number runs.0 nothing.1 runs.1
+idle-wrong b c nothing (inr runs) = nothing_runs (lane_at (state b) c.lane) c.number nothing.1 runs.0 runs.1
 
 -- the cause of a refusal that has just one
 cause-of : (wrong : Type 0) (e : CallError) → RefusesIf wrong e → wrong
 cause-of wrong e why = ((wrong-only wrong e).1 why).1
 
 -- ---- a row excludes all else
-
-told-early : (b : BookView) (x : Subject) (said : Bool) (n mark : ℕ) → MayCome b.wiring b.rows (told_event x) said n
-    → n ≡ mark → IsUnfinishedBelow (state b) x mark → ⊥
-told-early b (OfItem i) said n mark may is unfinished =
-    may.2 (subst (λ (m : ℕ). HasUnfinishedBelow (state b) i m) (sym is) unfinished)
-told-early b (OfLane q) said n mark may is unfinished =
-    may.2 (subst (λ (m : ℕ). IsBusyBelow (lane_at (state b) q) m) (sym is) unfinished)
-
-told-asked : (b : BookView) (x : Subject) (said : Bool) (n : ℕ) → MayCome b.wiring b.rows (told_event x) said n
-    → asks_waiting x b.rows ≡ 0 → ⊥
-told-asked b (OfItem i) said n may none = absurd (omega (arith, may.1, none))
-told-asked b (OfLane q) said n may none = absurd (omega (arith, may.1, none))
 
 over-early : (b : BookView) (c : Context) (f : Flush) (said : Bool) (n : ℕ)
     → MayCome b.wiring b.rows (over_event f.whole c.lane c.number f.target) said n
@@ -100,7 +67,9 @@ module _ (b new : BookView) (row : Row) (writes : Writes b row new) where
   may event is = comes b new row event is writes
 
   row-early : (call : Call) → IsRowOf b call row → IsEarly b call → ⊥
-  row-early (Told x mark) is early = told-early b x row.yes row.number mark (may (told_event x) is.0) is.1 early.1
+  row-early (Told x mark) is early =
+      ((told-exactly b.wiring b.rows x row.yes row.number).0 (may (told_event x) is.0)).2
+      (subst (λ (m : ℕ). IsUnfinishedBelow (state b) x m) (sym is.1) early.1)
   row-early (Start c) is early = let bad : Some is.1.0 ≡ None = sym is.1.1 ∙ early.0.2 in absurd cc
   row-early (Over c f) is early =
       over-early b c f row.yes row.number (may (over_event f.whole c.lane c.number f.target) is) early
@@ -130,23 +99,21 @@ module _ (b new : BookView) (row : Row) (writes : Writes b row new) where
 
   row-start : (c : Context) → IsBook b → IsRowOf b (Start c) row → IsWrongToStart b c.lane c.number → ⊥
   row-start c book is (inl missing) =
-      missing (context-appended b.wiring b new c.lane c.number (DoStart is.0) row.yes row.number refl book
-      (appends-as b new row.event (start_event c.lane c.number is.0) row.yes row.yes row.number row.number is.2 refl
-      refl writes))
+      missing (context-writes b new c.lane c.number (DoStart is.0) row book is.2 writes).0
   row-start c book is (inr runs) =
       let start = may-do b c.lane c.number (DoStart is.0) row.yes row.number
       (may (start_event c.lane c.number is.0) is.2) in
-      not-both b c.lane c.number runs.0 start.idle runs.1
+      nothing_runs (lane_at (state b) c.lane) c.number start.idle runs.0 runs.1
 
   row-wait : (c : Context) (f : Flush) (e : CallError)
       → ((r : Running) × RunsIn (lane_at (state b) c.lane) c.number r × MayWait b.wiring f.whole f.target r)
       → RefusesToWait b c f e → ⊥
   row-wait c f WrongLane waits why = why waits.0 (waits.1, waits.2.awake)
   row-wait c f Undeclared waits why =
-      let same : waits.0 ≡ why.0 = same-run b c.lane c.number waits.0 why.0 waits.1 why.1.0 in
+      let same : waits.0 ≡ why.0 = same_running (lane_at (state b) c.lane) c.number waits.0 why.0 waits.1 why.1.0 in
       why.2 (subst (λ (r : Running). ItemWaitsBy b.wiring.waits f.whole r.entry.item f.target) same waits.2.declared)
   row-wait c f TooManyWaits waits why =
-      let same : waits.0 ≡ why.0 = same-run b c.lane c.number waits.0 why.0 waits.1 why.1.0 in
+      let same : waits.0 ≡ why.0 = same_running (lane_at (state b) c.lane) c.number waits.0 why.0 waits.1 why.1.0 in
       let fewer : why.0.made < length (declared_by b.wiring why.0.entry.item) =
       subst (λ (r : Running). r.made < length (declared_by b.wiring r.entry.item)) same waits.2.fewer in
       absurd (omega (arith, fewer, why.3))
@@ -155,7 +122,7 @@ module _ (b new : BookView) (row : Row) (writes : Writes b row new) where
   row-finish : (c : Context) (i : ℕ) → IsRowOf b (Finish c i) row
       → (¬ RunsItem b c.lane c.number i) ⊎ IsNotAwake b c.lane c.number → ⊥
   row-finish c i is why =
-      let end = finish-lawful b c.lane c.number i row.yes row.number (may (finish_event c.lane c.number i) is) in
+      let end = may-do b c.lane c.number (DoFinish i) row.yes row.number (may (finish_event c.lane c.number i) is) in
       elim why [
         | inl missing ↦ missing (end.0, end.1, end.2.entry)
         | inr asleep ↦ asleep end.0 (end.1, end.2.awake)
@@ -166,21 +133,18 @@ module _ (b new : BookView) (row : Row) (writes : Writes b row new) where
       let come = may (QueueEvent i) is.0 in absurd (omega (arith, come.0, why))
   row-refused (Queue i) Closed book is why = let bad : true ≡ false = sym why.1 ∙ is.1 in absurd cc
   row-refused (Queue i) HistoryFull book is why = lacking (QueueEvent i) book refl is.0 why.2
-  row-refused (Queue i) _ book is why = absurd why
   row-refused (Cancel i) NoItem book is why =
       let come = may (CancelEvent i) is in absurd (omega (arith, come.0, why))
   row-refused (Cancel i) HistoryFull book is why = lacking (CancelEvent i) book refl is why.1
-  row-refused (Cancel i) _ book is why = absurd why
   row-refused (Ask (OfItem i)) NoItem book is why =
       let come = may (AskEvent i) is in absurd (omega (arith, come.0, why))
   row-refused (Ask (OfItem i)) HistoryFull book is why = lacking (AskEvent i) book refl is why.1
-  row-refused (Ask (OfItem i)) _ book is why = absurd why
   row-refused (Ask (OfLane q)) WrongLane book is why =
       let come = may (AskLaneEvent q) is in absurd (omega (arith, come.0, why))
   row-refused (Ask (OfLane q)) HistoryFull book is why = lacking (AskLaneEvent q) book refl is why.1
-  row-refused (Ask (OfLane q)) _ book is why = absurd why
-  row-refused (Told x mark) NotAsked book is why = told-asked b x row.yes row.number (may (told_event x) is.0) why
-  row-refused (Told x mark) _ book is why = absurd why
+  row-refused (Told x mark) NotAsked book is why =
+      let told = (told-exactly b.wiring b.rows x row.yes row.number).0 (may (told_event x) is.0) in
+      absurd (omega (arith, told.1, why))
   row-refused (Start c) e book is why = row-start c book is (cause-of (IsWrongToStart b c.lane c.number) e why)
   row-refused (Wait c f) e book is why =
       row-wait c f e (wait-lawful b f.whole c.lane c.number f.target row.yes row.number
@@ -193,8 +157,7 @@ module _ (b new : BookView) (row : Row) (writes : Writes b row new) where
   row-refused (Finish c i) e book is why =
       row-finish c i is (cause-of ((¬ RunsItem b c.lane c.number i) ⊎ IsNotAwake b c.lane c.number) e why)
   row-refused (CancelSync i) e book is why = absurd is
-  row-refused Close e book is why = absurd is
-  row-refused Drain e book is why = absurd is
+  row-refused _ e book is why = absurd why
 
 -- ---- two rows exclude all else, and are two
 
@@ -219,7 +182,6 @@ module _ (b new : BookView) (ask taken : Row) where
 early-done : (b : BookView) (call : Call) → IsEarly b call → IsDone b call → ⊥
 early-done b (Start c) early done = early.1 done.1
 early-done b Drain early done = early done
-early-done b Close early done = absurd early
 early-done b (Told x mark) early done = absurd done
 early-done b (Over c f) early done = absurd done
 early-done b _ early done = absurd early
@@ -263,25 +225,19 @@ module _ (b : BookView) where
       ∙ cond_below i (items b.wiring) (cond b.closed Closed HistoryFull) NoItem why.0
   is-cause (Queue i) HistoryFull other why = ap (λ k. cond k Closed HistoryFull) (sym why.1)
       ∙ cond_below i (items b.wiring) (cond b.closed Closed HistoryFull) NoItem why.0
-  is-cause (Queue i) _ other why = absurd why
   is-cause (Cancel i) NoItem other why = cond_above i (items b.wiring) HistoryFull NoItem NoItem why refl
   is-cause (Cancel i) HistoryFull other why = cond_below i (items b.wiring) HistoryFull NoItem why.0
-  is-cause (Cancel i) _ other why = absurd why
   is-cause (Ask (OfItem i)) NoItem other why = cond_above i (items b.wiring) HistoryFull NoItem NoItem why refl
   is-cause (Ask (OfItem i)) HistoryFull other why = cond_below i (items b.wiring) HistoryFull NoItem why.0
-  is-cause (Ask (OfItem i)) _ other why = absurd why
   is-cause (Ask (OfLane q)) WrongLane other why = cond_above q b.wiring.lanes HistoryFull WrongLane WrongLane why refl
   is-cause (Ask (OfLane q)) HistoryFull other why = cond_below q b.wiring.lanes HistoryFull WrongLane why.0
-  is-cause (Ask (OfLane q)) _ other why = absurd why
   is-cause (Told x mark) NotAsked other why = refl
-  is-cause (Told x mark) _ other why = absurd why
   is-cause (CancelSync i) NoItem other why = cond_above i (items b.wiring) HistoryFull NoItem NoItem why refl
   is-cause (CancelSync i) HistoryFull other why = cond_below i (items b.wiring) HistoryFull NoItem why.0
-  is-cause (CancelSync i) _ other why = absurd why
   is-cause (Wait c f) e other why = absurd other
-  is-cause Close e other why = absurd why
-  is-cause Drain e other why = absurd why
-  is-cause _ WrongLane other why = refl
+  is-cause (Start c) WrongLane other why = refl
+  is-cause (Over c f) WrongLane other why = refl
+  is-cause (Finish c i) WrongLane other why = refl
   is-cause _ _ other why = absurd why
 
   wait-same : (c : Context) (f : Flush) (e other : CallError) → RefusesToWait b c f e → RefusesToWait b c f other
@@ -293,13 +249,13 @@ module _ (b : BookView) where
   wait-same c f Undeclared Undeclared why also = refl
   wait-same c f Undeclared WrongLane why also = absurd (also why.0 why.1)
   wait-same c f Undeclared TooManyWaits why also =
-      let same : also.0 ≡ why.0 = same-run b c.lane c.number also.0 why.0 also.1.0 why.1.0 in
+      let same : also.0 ≡ why.0 = same_running (lane_at (state b) c.lane) c.number also.0 why.0 also.1.0 why.1.0 in
       absurd (why.2 (subst (λ (r : Running). ItemWaitsBy b.wiring.waits f.whole r.entry.item f.target) same also.2))
   wait-same c f Undeclared _ why also = absurd also
   wait-same c f TooManyWaits TooManyWaits why also = refl
   wait-same c f TooManyWaits WrongLane why also = absurd (also why.0 why.1)
   wait-same c f TooManyWaits Undeclared why also =
-      let same : why.0 ≡ also.0 = same-run b c.lane c.number why.0 also.0 why.1.0 also.1.0 in
+      let same : why.0 ≡ also.0 = same_running (lane_at (state b) c.lane) c.number why.0 also.0 why.1.0 also.1.0 in
       absurd (also.2 (subst (λ (r : Running). ItemWaitsBy b.wiring.waits f.whole r.entry.item f.target) same why.2))
   wait-same c f TooManyWaits _ why also = absurd also
   wait-same c f _ other why also = absurd why
@@ -314,28 +270,18 @@ written-same : (b new next : BookView) (r s : Row) → r ≡ s → Writes b r ne
 written-same b new next r s same first second =
     first.is_new ∙ (ap (λ (row : Row). record b { rows = b.rows ++ (row ∷ []) }) same ∙ sym second.is_new)
 
--- the second row, after the same first one
-second-same : (b between new next : BookView) (i : ℕ) (ask taken other : Row) → IsBook b → Writes b ask between
-    → taken.event ≡ CancelEvent i → Writes between taken new → other.event ≡ CancelEvent i → Writes between other next
-    → taken ≡ other
-second-same b between new next i ask taken other book first one writes also second =
-    let legal = subst (λ (x : BookView). IsLegal x.wiring x.rows) (sym first.is_new)
-    (IsLegal-more b.wiring b.rows ask book.legal first.may) in
-    let same = one_answer between.wiring between.rows
-    (CancelEvent i) taken.yes other.yes taken.number other.number legal refl
-    (comes between new taken (CancelEvent i) one writes) (comes between next other (CancelEvent i) also second) in
-    same-row taken other (one ∙ sym also) same.0 same.1
-
 two-same : (b new next : BookView) (call : Call) (ask taken one other : Row) → IsBook b
     → WritesTwo b call ask taken new → WritesTwo b call one other next
     → (ask ≡ one) × (taken ≡ other) × (new ≡ next)
 two-same b new next (CancelSync i) ask taken one other book two also =
     let m = two.1 in
     let n = also.1 in
-    let asks : ask ≡ one = same-event b m.0 n.0 ask one (AskEvent i) book refl m.1 n.1 m.2 n.2 in
+    let asks : ask ≡ one = same-event b m.0 n.0 ask one book m.2 n.2 (AskEvent i) refl m.1 n.1 in
     let between : m.0 ≡ n.0 = written-same b m.0 n.0 ask one asks m.2 n.2 in
     let second : Writes m.0 other next = subst (λ (x : BookView). Writes x other next) (sym between) n.4 in
-    let takes : taken ≡ other = second-same b m.0 new next i ask taken other book m.2 m.3 m.4 n.3 second in
+    -- the book between the two rows is one, too
+    let upheld : IsBook m.0 = (row-upheld b m.0 ask book m.2).0 in
+    let takes : taken ≡ other = same-event m.0 new next taken other upheld m.4 second (CancelEvent i) refl m.3 n.3 in
     (asks, takes, written-same m.0 new next taken other takes m.4 second)
 two-same b new next _ ask taken one other book two also = absurd two
 
@@ -345,7 +291,7 @@ module _ (b new next : BookView) (call : Call) (book : IsBook b) where
   pub has-one : (one other : Result Reply CallError) → Answers b call one new → Answers b call other next
       → (one ≡ other) × (new ≡ next)
   has-one (Ok (Wrote r)) (Ok (Wrote s)) first second =
-      let same : r ≡ s = one-row b new next call r s book first.0 first.1 second.0 second.1 in
+      let same : r ≡ s = one-row b new next r s book first.1 second.1 call first.0 second.0 in
       (ap (λ (k : Row). Ok (Wrote k)) same, written-same b new next r s same first.1 second.1)
   has-one (Ok (Wrote r)) (Ok (WroteTwo ask taken)) first second =
       absurd (row-two b new r first.1 next call ask taken first.0 second)

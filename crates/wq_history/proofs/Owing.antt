@@ -24,13 +24,14 @@ use Rattle.wq_history.proofs.Words.{Refuses, Writes, after, Replies, Answers}
 use Rattle.wq_history.specs.Events.{is_subject}
 use Rattle.wq_history.specs.Owing.{owed_if, owed_by, EndsAWait, IsItsTurn, Made, Plays, owes_told, AreOwed}
 use Rattle.wq_history.proofs.Histories.{state_after-step, state_after-none}
-use Rattle.wq_history.proofs.Counting.{count-more, IsNobodys-step, IsNobodys-nothing}
+use Rattle.wq_history.proofs.Counting.{count-more}
 use Rattle.wq_history.proofs.LegalRows.{told-asked}
 use Rattle.wq_history.proofs.Deeds.{step_of-event_in}
 use Rattle.wq_history.proofs.Answered.{no_ask}
 use Rattle.wq_history.proofs.Upheld.{answer-upheld}
 use Rattle.wq_history.proofs.Uniqueness.{comes}
-use Rattle.wq_history.proofs.OneAnswer.{may-do, wait-lawful}
+use Rattle.wq_history.proofs.CallRows.{may-do}
+use Rattle.wq_history.proofs.OneAnswer.{wait-lawful}
 
 -- ---- lists
 
@@ -107,7 +108,8 @@ put_run s p d o lane same q c = elim (cases_with_lane s p (with_run_by lane d o)
 deed_elsewhere : (s : State) (p d : ℕ) (deed : HelpStep) (q c : ℕ)
     → ((q ≡ p) × (c ≡ d)) ⊎ (run_by (lane_at (done_by s p d deed) q) c ≡ run_by (lane_at s q) c)
 deed_elsewhere s p d (DoStart i) q c =
-    put_run s p d _ (with_cancelled i (lane_at s p)) (λ e. same_run (lane_at s p) (with_cancelled i (lane_at s p)).pending e) q c
+    put_run s p d _ (with_cancelled i (lane_at s p))
+    (λ e. same_run (lane_at s p) (with_cancelled i (lane_at s p)).pending e) q c
 deed_elsewhere s p d (DoWait b) q c = put_run s p d _ (lane_at s p) (λ e. refl) q c
 deed_elsewhere s p d (DoWaitAll b) q c = put_run s p d _ (lane_at s p) (λ e. refl) q c
 deed_elsewhere s p d (DoOver b) q c = put_run s p d _ (lane_at s p) (λ e. refl) q c
@@ -145,10 +147,18 @@ waits_only w s q c r g _ runs waits may = tt
 
 -- ---- a context that waits goes on waiting
 
+-- the context waits so
+abbrev WaitsSo : BookView → Context → Flush → Type 0
+WaitsSo b c f = WaitsFor b c.lane c.number f.whole f.target
+
+-- what the context runs
+abbrev run_in : Context → State → Option Running
+run_in c s = run_by (lane_at s c.lane) c.number
+
 -- it does so if it runs what it ran
 waits_same : (old new : BookView) (c : Context) (f : Flush)
-    → run_by (lane_at (state new) c.lane) c.number ≡ run_by (lane_at (state old) c.lane) c.number
-    → WaitsFor old c.lane c.number f.whole f.target → WaitsFor new c.lane c.number f.whole f.target
+    → run_in c (state new) ≡ run_in c (state old)
+    → WaitsSo old c f → WaitsSo new c f
 waits_same old new c f same w = (w.0, ((w.1.0.0, same ∙ w.1.0.1, w.1.0.2), w.1.1), w.2)
 
 -- the call is an end of a wait of this context
@@ -157,8 +167,8 @@ EndsWaitOf c (Over d g) = d ≡ c
 EndsWaitOf c _ = ⊥
 
 -- the state after a row
-state-after : (old new : BookView) (row : Row) (step : Step) → Writes old row new → step_of row.event row.yes ≡ Some step
-    → state new ≡ effect old.wiring (state old) step
+state-after : (old new : BookView) (row : Row) (step : Step) → Writes old row new
+    → step_of row.event row.yes ≡ Some step → state new ≡ effect old.wiring (state old) step
 state-after old new row step writes makes =
     ap state writes.is_new ∙ state_after-step old.wiring old.rows row step makes
 
@@ -168,8 +178,8 @@ state-same old new row writes makes = ap state writes.is_new ∙ state_after-non
 
 -- after a row of what a context does
 deed_keeps : (old new : BookView) (row : Row) (p d : ℕ) (deed : HelpStep) (c : Context) (f : Flush)
-    → row.event ≡ event_in p d deed → Writes old row new → WaitsFor old c.lane c.number f.whole f.target
-    → WaitsFor new c.lane c.number f.whole f.target ⊎ ((c.lane ≡ p) × (c.number ≡ d) × IsOver deed)
+    → row.event ≡ event_in p d deed → Writes old row new → WaitsSo old c f
+    → WaitsSo new c f ⊎ ((c.lane ≡ p) × (c.number ≡ d) × IsOver deed)
 deed_keeps old new row p d deed c f is writes w =
     let makes : step_of row.event row.yes ≡ Some (step_in p d deed) =
     ap (λ (e : Event). step_of e row.yes) is ∙ step_of-event_in p d deed row.yes in
@@ -178,7 +188,7 @@ deed_keeps old new row p d deed c f is writes w =
     let may : MayDo old.wiring (state old) p d deed =
     may-do old p d deed row.yes row.number (comes old new row (event_in p d deed) is writes) in
     elim (deed_elsewhere (state old) p d deed c.lane c.number) [
-      | inr same ↦ inl (waits_same old new c f (ap (λ (s : State). run_by (lane_at s c.lane) c.number) after ∙ same) w)
+      | inr same ↦ inl (waits_same old new c f (ap (run_in c) after ∙ same) w)
       | inl itself ↦ inr (
         itself.0,
         itself.1,
@@ -190,43 +200,43 @@ deed_keeps old new row p d deed c f is writes w =
 
 -- after a row that queues or cancels, or makes no step
 queue_keeps : (old new : BookView) (row : Row) (i : ℕ) (c : Context) (f : Flush) → row.event ≡ QueueEvent i
-    → Writes old row new → WaitsFor old c.lane c.number f.whole f.target → WaitsFor new c.lane c.number f.whole f.target
+    → Writes old row new → WaitsSo old c f → WaitsSo new c f
 queue_keeps old new row i c f is writes w = by_word row.yes refl where
-  by_word : (said : Bool) → row.yes ≡ said → WaitsFor new c.lane c.number f.whole f.target
+  by_word : (said : Bool) → row.yes ≡ said → WaitsSo new c f
   by_word false none_said =
       let none : step_of row.event row.yes ≡ None = ap (λ (e : Event). step_of e row.yes) is
       ∙ ap (λ (b : Bool). step_of (QueueEvent i) b) none_said in
-      waits_same old new c f (ap (λ (s : State). run_by (lane_at s c.lane) c.number) (state-same old new row writes none)) w
+      waits_same old new c f (ap (run_in c) (state-same old new row writes none)) w
   by_word true some_said =
       let makes : step_of row.event row.yes ≡ Some (QueueStep i) = ap (λ (e : Event). step_of e row.yes) is
       ∙ ap (λ (b : Bool). step_of (QueueEvent i) b) some_said in
       let lane : Lane = lane_at (state old) (lane_of old.wiring i) in
+      let later : Lane = with_queued (record { number = (state old).next; item = i }) lane in
       waits_same old new c f
-      (ap (λ (s : State). run_by (lane_at s c.lane) c.number) (state-after old new row (QueueStep i) writes makes)
-      ∙ put_pending (state old) (lane_of old.wiring i) (with_queued (record { number = (state old).next; item = i }) lane)
-      (λ e. same_run lane (with_queued (record { number = (state old).next; item = i }) lane).pending e) c.lane c.number) w
+      (ap (run_in c) (state-after old new row (QueueStep i) writes makes)
+      ∙ put_pending (state old) (lane_of old.wiring i) later (λ e. same_run lane later.pending e) c.lane c.number) w
 
 cancel_keeps : (old new : BookView) (row : Row) (i : ℕ) (c : Context) (f : Flush) → row.event ≡ CancelEvent i
-    → Writes old row new → WaitsFor old c.lane c.number f.whole f.target → WaitsFor new c.lane c.number f.whole f.target
+    → Writes old row new → WaitsSo old c f → WaitsSo new c f
 cancel_keeps old new row i c f is writes w = by_word row.yes refl where
-  by_word : (said : Bool) → row.yes ≡ said → WaitsFor new c.lane c.number f.whole f.target
+  by_word : (said : Bool) → row.yes ≡ said → WaitsSo new c f
   by_word false none_said =
       let none : step_of row.event row.yes ≡ None = ap (λ (e : Event). step_of e row.yes) is
       ∙ ap (λ (b : Bool). step_of (CancelEvent i) b) none_said in
-      waits_same old new c f (ap (λ (s : State). run_by (lane_at s c.lane) c.number) (state-same old new row writes none)) w
+      waits_same old new c f (ap (run_in c) (state-same old new row writes none)) w
   by_word true some_said =
       let makes : step_of row.event row.yes ≡ Some (CancelStep i) = ap (λ (e : Event). step_of e row.yes) is
       ∙ ap (λ (b : Bool). step_of (CancelEvent i) b) some_said in
       let lane : Lane = lane_at (state old) (lane_of old.wiring i) in
       waits_same old new c f
-      (ap (λ (s : State). run_by (lane_at s c.lane) c.number) (state-after old new row (CancelStep i) writes makes)
+      (ap (run_in c) (state-after old new row (CancelStep i) writes makes)
       ∙ put_pending (state old) (lane_of old.wiring i) (with_cancelled i lane)
       (λ e. same_run lane (with_cancelled i lane).pending e) c.lane c.number) w
 
 ask_keeps : (old new : BookView) (row : Row) (x : Subject) (c : Context) (f : Flush) → row.event ≡ ask_event x
-    → Writes old row new → WaitsFor old c.lane c.number f.whole f.target → WaitsFor new c.lane c.number f.whole f.target
+    → Writes old row new → WaitsSo old c f → WaitsSo new c f
 ask_keeps old new row x c f is writes w =
-    waits_same old new c f (ap (λ (s : State). run_by (lane_at s c.lane) c.number)
+    waits_same old new c f (ap (run_in c)
     (state-same old new row writes (ap (λ (e : Event). step_of e row.yes) is ∙ none x))) w
   where
     none : (y : Subject) → step_of (ask_event y) row.yes ≡ None
@@ -234,9 +244,9 @@ ask_keeps old new row x c f is writes w =
     none (OfLane q) = refl
 
 told_keeps : (old new : BookView) (row : Row) (x : Subject) (c : Context) (f : Flush) → row.event ≡ told_event x
-    → Writes old row new → WaitsFor old c.lane c.number f.whole f.target → WaitsFor new c.lane c.number f.whole f.target
+    → Writes old row new → WaitsSo old c f → WaitsSo new c f
 told_keeps old new row x c f is writes w =
-    waits_same old new c f (ap (λ (s : State). run_by (lane_at s c.lane) c.number)
+    waits_same old new c f (ap (run_in c)
     (state-same old new row writes (ap (λ (e : Event). step_of e row.yes) is ∙ none x))) w
   where
     none : (y : Subject) → step_of (told_event y) row.yes ≡ None
@@ -250,17 +260,17 @@ not_over true b is = is
 
 -- a context that waits goes on waiting, whatever is called but the end of its wait
 goes_on : (old new : BookView) (call : Call) (answer : Result Reply CallError) (c : Context) (f : Flush)
-    → Answers old call answer new → WaitsFor old c.lane c.number f.whole f.target
-    → WaitsFor new c.lane c.number f.whole f.target ⊎ EndsWaitOf c call
+    → Answers old call answer new → WaitsSo old c f
+    → WaitsSo new c f ⊎ EndsWaitOf c call
 goes_on old new call (Err e) c f answers w =
-    inl (subst (λ (b : BookView). WaitsFor b c.lane c.number f.whole f.target) (sym answers.1) w)
+    inl (subst (λ (b : BookView). WaitsSo b c f) (sym answers.1) w)
 goes_on old new call (Ok NotYet) c f answers w =
-    inl (subst (λ (b : BookView). WaitsFor b c.lane c.number f.whole f.target) (sym answers.1) w)
+    inl (subst (λ (b : BookView). WaitsSo b c f) (sym answers.1) w)
 goes_on old new call (Ok Done) c f answers w = inl (after_done call answers.1) where
-  after_done : (k : Call) → new ≡ after old k → WaitsFor new c.lane c.number f.whole f.target
-  after_done Close is = waits_same old new c f (ap (λ (b : BookView). run_by (lane_at (state b) c.lane) c.number) is) w
-  after_done (Start d) is = waits_same old new c f (ap (λ (b : BookView). run_by (lane_at (state b) c.lane) c.number) is) w
-  after_done _ is = waits_same old new c f (ap (λ (b : BookView). run_by (lane_at (state b) c.lane) c.number) is) w
+  after_done : (k : Call) → new ≡ after old k → WaitsSo new c f
+  after_done Close is = waits_same old new c f (ap (λ (b : BookView). run_in c (state b)) is) w
+  after_done (Start d) is = waits_same old new c f (ap (λ (b : BookView). run_in c (state b)) is) w
+  after_done _ is = waits_same old new c f (ap (λ (b : BookView). run_in c (state b)) is) w
 goes_on old new (CancelSync i) (Ok (WroteTwo ask taken)) c f answers w =
     let both = answers.1 in
     inl (cancel_keeps both.0 new taken i c f both.3 both.4 (ask_keeps old both.0 ask (OfItem i) c f both.1 both.2 w))
@@ -308,7 +318,7 @@ deed_begins s q c true b r runs = wait_begins s q c true b r runs
 
 -- a context whose wait has begun waits so
 has_begun : (old new : BookView) (c : Context) (f : Flush) (row : Row) → Replies old (Wait c f) (Wrote row) new
-    → WaitsFor new c.lane c.number f.whole f.target
+    → WaitsSo new c f
 has_begun old new c f row replies =
     let q : ℕ = c.lane in
     let n : ℕ = c.number in
@@ -322,12 +332,13 @@ has_begun old new c f row replies =
     let runs = deed_begins (state old) q n f.whole f.target may.0 may.1 in
     let g : Waiting = record { target = f.target; whole = f.whole; mark = (state old).next } in
     (g, ((waiting_for f.whole f.target (state old).next may.0,
-      subst (λ (s : State). RunsIn (lane_at s q) n (waiting_for f.whole f.target (state old).next may.0)) (sym after) runs,
+      subst (λ (s : State). RunsIn (lane_at s q) n (waiting_for f.whole f.target (state old).next may.0)) (sym after)
+      runs,
       refl), refl), refl)
 
 -- and before that it didn't wait
 not_before : (old new : BookView) (c : Context) (f g : Flush) (row : Row) → Replies old (Wait c f) (Wrote row) new
-    → ¬ WaitsFor old c.lane c.number g.whole g.target
+    → ¬ WaitsSo old c g
 not_before old new c f g row replies w =
     let may = wait-lawful old f.whole c.lane c.number f.target row.yes row.number
     (comes old new row (wait_event f.whole c.lane c.number f.target) replies.0 replies.1) in
@@ -355,12 +366,17 @@ book_row old new row x book is_book writes =
     let rows : new.rows ≡ old.rows ++ (row ∷ []) = ap (λ (b : BookView). b.rows) writes.is_new in
     let wiring : new.wiring ≡ old.wiring = ap (λ (b : BookView). b.wiring) writes.is_new in
     let legal : IsLegal old.wiring (old.rows ++ (row ∷ [])) =
-    subst (λ (rs : List Row). IsLegal old.wiring rs) rows (subst (λ (w : Wiring). IsLegal w new.rows) wiring is_book.legal) in
+    subst (λ (rs : List Row). IsLegal old.wiring rs) rows
+    (subst (λ (w : Wiring). IsLegal w new.rows) wiring is_book.legal) in
     subst (λ (rs : List Row). asks_waiting x rs + cond (ends_a_wait x row) 1 0
       ≡ asks_waiting x old.rows + cond (begins_to_wait x row) 1 0) (sym rows)
     (one_row old.wiring old.rows row x book.legal legal)
 
 -- ---- what callers are to be told
+
+-- the row, of this event
+abbrev row_of : Row → Event → Row
+row_of row event = record { event = event; yes = row.yes; number = row.number }
 
 is_same : (x : Subject) → is_subject x x ≡ true
 is_same (OfItem i) = eq-eqb i i refl
@@ -390,20 +406,22 @@ owes_none x _ other = refl
 
 -- more asks wait by as many as are to be told more
 abbrev Keeps : Subject → BookView → Option Call → BookView → Option Call → Type 0
-Keeps x old o new n = cond (owes_told x n) 1 0 + asks_waiting x old.rows ≤ asks_waiting x new.rows + cond (owes_told x o) 1 0
+Keeps x old o new n =
+    cond (owes_told x n) 1 0 + asks_waiting x old.rows ≤ asks_waiting x new.rows + cond (owes_told x o) 1 0
 
 -- after a row of an ask
-ask_row : (old new : BookView) (row : Row) (x y : Subject) → IsBook old → IsBook new → row.event ≡ ask_event y → Writes old row new
+ask_row : (old new : BookView) (row : Row) (x y : Subject) → IsBook old → IsBook new → row.event ≡ ask_event y
+    → Writes old row new
     → asks_waiting x new.rows ≡ asks_waiting x old.rows + cond (is_subject x y && row.yes) 1 0
 ask_row old new row x y book is_book is writes =
     let one = book_row old new row x book is_book writes in
     let begins : begins_to_wait x row ≡ (is_subject x y && row.yes) =
-    ap (λ (e : Event). begins_to_wait x (record { event = e; yes = row.yes; number = row.number })) is
+    ap (λ (e : Event). begins_to_wait x (row_of row e)) is
     ∙ begins-ask x y row.yes row.number in
-    let ends : ends_a_wait x row ≡ false = ap (λ (e : Event). ends_a_wait x (record { event = e; yes = row.yes; number = row.number })) is ∙ none y in
+    let ends : ends_a_wait x row ≡ false = ap (λ (e : Event). ends_a_wait x (row_of row e)) is ∙ none y in
     omega (arith, one, ap one_if begins, ap one_if ends)
   where
-    none : (z : Subject) → ends_a_wait x (record { event = ask_event z; yes = row.yes; number = row.number }) ≡ false
+    none : (z : Subject) → ends_a_wait x (row_of row (ask_event z)) ≡ false
     none (OfItem i) = refl
     none (OfLane q) = refl
 
@@ -413,40 +431,45 @@ told_row_of : (old new : BookView) (row : Row) (x y : Subject) → IsBook old �
 told_row_of old new row x y book is_book is writes =
     let one = book_row old new row x book is_book writes in
     let ends : ends_a_wait x row ≡ is_subject x y =
-    ap (λ (e : Event). ends_a_wait x (record { event = e; yes = row.yes; number = row.number })) is ∙ ends_told y in
+    ap (λ (e : Event). ends_a_wait x (row_of row e)) is ∙ ends_told y in
     let begins : begins_to_wait x row ≡ false =
-    ap (λ (e : Event). begins_to_wait x (record { event = e; yes = row.yes; number = row.number })) is ∙ none y in
+    ap (λ (e : Event). begins_to_wait x (row_of row e)) is ∙ none y in
     omega (arith, one, ap one_if begins, ap one_if ends)
   where
-    ends_told : (z : Subject) → ends_a_wait x (record { event = told_event z; yes = row.yes; number = row.number }) ≡ is_subject x z
+    ends_told : (z : Subject) → ends_a_wait x (row_of row (told_event z)) ≡ is_subject x z
     ends_told (OfItem i) = refl
     ends_told (OfLane q) = refl
 
-    none : (z : Subject) → begins_to_wait x (record { event = told_event z; yes = row.yes; number = row.number }) ≡ false
+    none : (z : Subject) → begins_to_wait x (row_of row (told_event z)) ≡ false
     none (OfItem i) = refl
     none (OfLane q) = refl
 
 -- after a row of a step, or of a queueing or a cancellation that came to nothing
-other_row : (old new : BookView) (row : Row) (x : Subject) (event : Event) → IsBook old → IsBook new → row.event ≡ event → Writes old row new
-    → begins_to_wait x (record { event = event; yes = row.yes; number = row.number }) ≡ false
-    → ends_a_wait x (record { event = event; yes = row.yes; number = row.number }) ≡ false
+other_row : (old new : BookView) (row : Row) (x : Subject) (event : Event) → IsBook old → IsBook new
+    → row.event ≡ event → Writes old row new
+    → begins_to_wait x (row_of row event) ≡ false
+    → ends_a_wait x (row_of row event) ≡ false
     → asks_waiting x new.rows ≡ asks_waiting x old.rows
 other_row old new row x event book is_book is writes begins ends =
     let one = book_row old new row x book is_book writes in
     let begin : begins_to_wait x row ≡ false =
-    ap (λ (e : Event). begins_to_wait x (record { event = e; yes = row.yes; number = row.number })) is ∙ begins in
+    ap (λ (e : Event). begins_to_wait x (row_of row e)) is ∙ begins in
     let end : ends_a_wait x row ≡ false =
-    ap (λ (e : Event). ends_a_wait x (record { event = e; yes = row.yes; number = row.number })) is ∙ ends in
+    ap (λ (e : Event). ends_a_wait x (row_of row e)) is ∙ ends in
     omega (arith, one, ap one_if begin, ap one_if end)
 
 -- of what a context does nobody is told
 begins-deed : (x : Subject) (q c : ℕ) (deed : HelpStep) (said : Bool) (n : ℕ)
     → begins_to_wait x (record { event = event_in q c deed; yes = said; number = n }) ≡ false
-begins-deed x q c deed said n = (IsNobodys-step (event_in q c deed) said n (step_in q c deed) (step_of-event_in q c deed said)).begins x
+begins-deed x q zero (DoStart i) said n = refl
+begins-deed x q zero _ said n = refl
+begins-deed x q (suc h) deed said n = refl
 
 ends-deed : (x : Subject) (q c : ℕ) (deed : HelpStep) (said : Bool) (n : ℕ)
     → ends_a_wait x (record { event = event_in q c deed; yes = said; number = n }) ≡ false
-ends-deed x q c deed said n = (IsNobodys-step (event_in q c deed) said n (step_in q c deed) (step_of-event_in q c deed said)).ends x
+ends-deed x q zero (DoStart i) said n = refl
+ends-deed x q zero _ said n = refl
+ends-deed x q (suc h) deed said n = refl
 
 deed_row : (old new : BookView) (row : Row) (x : Subject) (q c : ℕ) (deed : HelpStep) → IsBook old → IsBook new
     → row.event ≡ event_in q c deed → Writes old row new → asks_waiting x new.rows ≡ asks_waiting x old.rows
@@ -463,13 +486,15 @@ whose_turn : (x : Subject) (o : Option Call) (call : Call) → IsItsTurn o call
 whose_turn x None call turn = omega (arith, ap one_if (owes_none x call turn))
 whose_turn x (Some owed) call turn = omega (arith, ap (λ (k : Call). one_if (owes_told x (Some k))) turn)
 
-keeps_asks : (old new : BookView) (o : Option Call) (call : Call) (answer : Result Reply CallError) (x : Subject) → IsBook old → IsBook new
+keeps_asks : (old new : BookView) (o : Option Call) (call : Call) (answer : Result Reply CallError) (x : Subject)
+    → IsBook old → IsBook new
     → IsItsTurn o call → Answers old call answer new → Keeps x old o new (owed_by answer call)
 keeps_asks old new o call (Err e) x book is_book turn answers =
     omega (arith, same_asks old new x (ap (λ (b : BookView). b.rows) answers.1))
 keeps_asks old new o call (Ok NotYet) x book is_book turn answers =
     omega (arith, same_asks old new x (ap (λ (b : BookView). b.rows) answers.1), whose_turn x o call turn)
-keeps_asks old new o call (Ok Done) x book is_book turn answers = omega (arith, same_asks old new x (after_done call answers.1)) where
+keeps_asks old new o call (Ok Done) x book is_book turn answers =
+    omega (arith, same_asks old new x (after_done call answers.1)) where
   after_done : (k : Call) → new ≡ after old k → new.rows ≡ old.rows
   after_done Close is = ap (λ (b : BookView). b.rows) is
   after_done (Start d) is = ap (λ (b : BookView). b.rows) is
@@ -503,7 +528,8 @@ keeps_asks old new o _ (Ok (Wrote row)) x book is_book turn answers = absurd ans
 -- ---- what a turn leaves
 
 -- who is to end a wait after a call was to do so before, or has begun it
-new_over : (old new : BookView) (o : Option Call) (call : Call) (answer : Result Reply CallError) (c : Context) (f : Flush)
+new_over : (old new : BookView) (o : Option Call) (call : Call) (answer : Result Reply CallError) (c : Context)
+    (f : Flush)
     → IsItsTurn o call → Answers old call answer new → owed_by answer call ≡ Some (Over c f)
     → ((o ≡ Some (Over c f)) × (new ≡ old)) ⊎ ((row : Row) × Replies old (Wait c f) (Wrote row) new)
 new_over old new o call (Err e) c f turn answers is = absurd cc
@@ -557,13 +583,14 @@ turn_keeps old new owed k o call answer book are at turn answers = record {
 }
   where
     -- whoever has the turn is to end no wait of a context for which another is to end one
-    not_mine : (j : ℕ) (c : Context) (f g : Flush) → j ≢ k → slice_get owed j ≡ Some (Some (Over c f)) → o ≡ Some (Over c g) → ⊥
+    not_mine : (j : ℕ) (c : Context) (f g : Flush) → j ≢ k → slice_get owed j ≡ Some (Some (Over c f))
+        → o ≡ Some (Over c g) → ⊥
     not_mine j c f g other there mine =
         other (are.one j k c f g there (at ∙ ap (λ (p : Option Call). Some p) mine))
 
     over_of : (j : ℕ) (c : Context) (f : Flush)
         → ((j ≢ k) × (slice_get owed j ≡ Some (Some (Over c f)))) ⊎ ((j ≡ k) × (owed_by answer call ≡ Some (Over c f)))
-        → WaitsFor new c.lane c.number f.whole f.target
+        → WaitsSo new c f
     over_of j c f (inl other) = elim (goes_on old new call answer c f answers (are.over j c f other.1)) [
       | inl kept ↦ kept
       | inr ends ↦
@@ -571,7 +598,7 @@ turn_keeps old new owed k o call answer book are at turn answers = record {
           absurd (not_mine j c f mine.0 other.0 other.1 mine.1)
     ]
     over_of j c f (inr mine) = elim (new_over old new o call answer c f turn answers mine.1) [
-      | inl was ↦ subst (λ (b : BookView). WaitsFor b c.lane c.number f.whole f.target) (sym was.1)
+      | inl was ↦ subst (λ (b : BookView). WaitsSo b c f) (sym was.1)
           (are.over k c f (at ∙ ap (λ (p : Option Call). Some p) was.0))
       | inr begun ↦ has_begun old new c f begun.0 begun.1
     ]
@@ -615,13 +642,13 @@ not_refused b new owed k (Some own) (Told x mark) (Err e) are at turn ends answe
     absurd (omega (arith, some, are.told x, no_ask b x mark e answers.0))
 not_refused b new owed k (Some own) (Over c f) (Err e) are at turn ends answers =
     absurd (missing e answers.0 (are.over k c f (at ∙ ap (λ (z : Call). Some (Some z)) (sym turn)))) where
-  missing : (x : CallError) → Refuses b (Over c f) x → ¬ WaitsFor b c.lane c.number f.whole f.target
+  missing : (x : CallError) → Refuses b (Over c f) x → ¬ WaitsSo b c f
   missing WrongLane why = why
   missing _ why = absurd why
 not_refused b new owed k (Some own) _ (Err e) are at turn ends answers = absurd ends
 
-from_owed : (b : BookView) (owed : List (Option Call)) (made : List Made) → IsBook b → AreOwed b owed → Plays b owed made
-    → (n : ℕ) (m : Made) → slice_get made n ≡ Some m → EndsAWait m.call → IfErr m.answer (λ e. ⊥)
+from_owed : (b : BookView) (owed : List (Option Call)) (made : List Made) → IsBook b → AreOwed b owed
+    → Plays b owed made → (n : ℕ) (m : Made) → slice_get made n ≡ Some m → EndsAWait m.call → IfErr m.answer (λ e. ⊥)
 from_owed b owed [] book are plays zero m at ends = absurd cc
 from_owed b owed [] book are plays (suc n) m at ends = absurd cc
 from_owed b owed (first ∷ more) book are (o, next, has, turn, answers, rest) zero m at ends =

@@ -1,9 +1,8 @@
 -- A sleeper sleeps for something that isn't so yet, in a group that is woken once it is.
 use Rattle.std.proofs.Common.{◌≡◌, ℕ, inl, inr, refl, sym, ap, subst, ◌∙◌, Some, None}
 use Rattle.wq_history.proofs.Words.{Running, Context, lane_at, next_of, Subject, OfItem, OfLane, BookView, state}
-use Rattle.wq_history.proofs.Words.{IsWaiting, Condition, WorkOn, EndOf, AllDone, sleepers_for, Flush, Call, Told}
-use Rattle.wq_history.proofs.Words.{Start, Over, Drain, subject_of, IsUnfinishedBelow, IsEarly, waiters_for}
-use Rattle.wq_history.proofs.Words.{sleepers_of}
+use Rattle.wq_history.proofs.Words.{IsWaiting, Condition, WorkOn, sleepers_for, Flush, Call, Told, Start, Over, Drain}
+use Rattle.wq_history.proofs.Words.{subject_of, IsUnfinishedBelow, IsEarly, waiters_for, sleepers_of}
 use Rattle.wq_core.specs.declared.entry.Waiting.{Waiting as WaitOf}
 use Rattle.wq_history.specs.Waits.{IsMet}
 use Rattle.wq_history.specs.Calls.{WaitsWith, Awaits, done_below}
@@ -17,13 +16,6 @@ not-done b (OfLane q) mark unfinished = λ met. met unfinished
 among-waiters : (x : Subject) (mark : ℕ) → sleepers_for (done_below x mark) ≡ waiters_for x
 among-waiters (OfItem i) mark = refl
 among-waiters (OfLane q) mark = refl
-
--- what holds for a condition holds for the same condition
-same-condition : (b : BookView) (call : Call) (one condition : Condition) → condition ≡ one → (¬ IsMet b one)
-    × (sleepers_for one ≡ sleepers_of b.wiring call)
-    → (¬ IsMet b condition) × (sleepers_for condition ≡ sleepers_of b.wiring call)
-same-condition b call one condition same holds =
-    subst (λ (k : Condition). (¬ IsMet b k) × (sleepers_for k ≡ sleepers_of b.wiring call)) (sym same) holds
 
 -- a context waits with one mark
 pub one-wait : (b : BookView) (q c : ℕ) (g h : WaitOf) → IsWaiting b q c g → IsWaiting b q c h → g ≡ h
@@ -43,17 +35,13 @@ no-work b q none = λ met. let bad : Some met.0 ≡ None = sym met.1 ∙ none in
 
 pub early-sleeps : (b : BookView) (call : Call) (condition : Condition) → IsEarly b call → Awaits b call condition
     → (¬ IsMet b condition) × (sleepers_for condition ≡ sleepers_of b.wiring call)
-early-sleeps b (Told x mark) condition early awaits =
-    same-condition b (Told x mark) (done_below x mark) condition awaits
-    (not-done b x mark early.1, among-waiters x mark)
-early-sleeps b (Start c) condition early (inl work) = same-condition b (Start c) (WorkOn c.lane) condition work
-    (no-work b c.lane early.0.2, refl)
-early-sleeps b (Start c) condition early (inr end) = same-condition b (Start c) (EndOf c.lane) condition end
-    (early.1, refl)
-early-sleeps b (Over c f) condition early awaits =
+early-sleeps b (Told x mark) condition early awaits = rw awaits (not-done b x mark early.1, among-waiters x mark)
+early-sleeps b (Start c) condition early (inl work) = rw work (no-work b c.lane early.0.2, refl)
+early-sleeps b (Start c) condition early (inr end) = rw end (early.1, refl)
+early-sleeps b (Over c f) condition early (mark, waits, is) =
     let x : Subject = subject_of b.wiring f.whole f.target in
-    let same : early.0 ≡ awaits.0 = one-mark b c f early.0 awaits.0 early.1 awaits.1 in
-    same-condition b (Over c f) (done_below x awaits.0) condition awaits.2
-    (not-done b x awaits.0 (subst (λ (m : ℕ). IsUnfinishedBelow (state b) x m) same early.2), among-waiters x awaits.0)
-early-sleeps b Drain condition early awaits = same-condition b Drain AllDone condition awaits (early, refl)
+    let same : early.0 ≡ mark = one-mark b c f early.0 mark early.1 waits in
+    let unfinished = subst (λ (m : ℕ). IsUnfinishedBelow (state b) x m) same early.2 in
+    rw is (not-done b x mark unfinished, among-waiters x mark)
+early-sleeps b Drain condition early awaits = rw awaits (early, refl)
 early-sleeps b _ condition early awaits = absurd early

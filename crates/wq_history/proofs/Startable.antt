@@ -120,8 +120,9 @@ runs-going_on lane c f j keeps is =
       | inr there ↦ some-is_running new j k (f r) (there.1 ∙ ap (option_map f) (ap (λ x. run_by lane x) (sym there.0) ∙ runs)) (ap (λ (e : Entry). e.item) (keeps r) ∙ of_item)
     ]
 
-runs-finished : (lane : Lane) (c : ℕ) (r : Running) (j : ℕ) → RunsIn lane c r → j ≢ r.entry.item → is_running lane j ≡ true → is_running (with_finished c lane) j ≡ true
-runs-finished lane c r j runs other is =
+runs-finished : (lane : Lane) (c : ℕ) (r : Running) → RunsIn lane c r → (j : ℕ) → j ≢ r.entry.item
+    → is_running lane j ≡ true → is_running (with_finished c lane) j ≡ true
+runs-finished lane c r runs j other is =
     let (k, x, runs', of_item) = is_running-some lane j is in
     elim (cases_run_by lane c None k) [
       | inl as_before ↦ some-is_running (with_finished c lane) j k x (as_before ∙ runs') of_item
@@ -158,15 +159,17 @@ pub startable-going_on : (c : ℕ) (f : Running → Running) (lane : Lane) → (
 startable-going_on c f lane keeps = startable-still lane c (option_map f (run_by lane c)) (is_running lane) (λ j is. runs-going_on lane c f j keeps is)
 
 module _ (c : ℕ) (r : Running) (lane : Lane) (runs : RunsIn lane c r) where
-  still-but : (j : ℕ) → j ≢ r.entry.item → is_running lane j ≡ true → is_running (with_finished c lane) j ≡ true
-  still-but j other is = runs-finished lane c r j runs other is
-
   same_pending : free (is_running (with_finished c lane)) (with_finished c lane).pending ≡ free (is_running (with_finished c lane)) lane.pending
   same_pending = ap (free (is_running (with_finished c lane))) (pending_kept lane c None)
 
   pub startable-finished : AllPairs Differ lane.pending → startable (with_finished c lane) ≤ startable lane + 1
-  startable-finished once = omega (arith, same_pending, free-one (is_running lane) (is_running (with_finished c lane)) r.entry.item still-but lane.pending once)
+  startable-finished once =
+      let one = free-one (is_running lane) (is_running (with_finished c lane)) r.entry.item
+      (runs-finished lane c r runs) lane.pending once in
+      omega (arith, same_pending, one)
 
   pub startable-finished_none : ((e : Entry) → Contains lane.pending e → e.item ≢ r.entry.item) → startable (with_finished c lane) ≤ startable lane
   startable-finished_none none =
-      omega (arith, same_pending, free-none (is_running lane) (is_running (with_finished c lane)) r.entry.item still-but lane.pending none)
+      let fewer = free-none (is_running lane) (is_running (with_finished c lane)) r.entry.item
+      (runs-finished lane c r runs) lane.pending none in
+      omega (arith, same_pending, fewer)

@@ -1,25 +1,21 @@
 -- What holds of a book after an answer, and what an answer is about.
-use Rattle.std.proofs.Common.{◌≡◌, ℕ, zero, suc, ◌+◌, ◌<◌, ◌≤◌, inl, inr, Bool, true, false, cond, [], ◌∷◌, ◌++◌}
-use Rattle.std.proofs.Common.{length-append, refl, sym, ap, subst, ◌∙◌, arith, Result, Ok, Err, ◌&&◌}
-use Rattle.wq_history.proofs.Words.{Context, HelpStep, DoStart, DoFinish, Wiring, items, lane_of, HasContext, lane_at}
-use Rattle.wq_history.proofs.Words.{is_running, wait_deed, over_deed, Event, Row, item_in, Subject, Flush, Call}
-use Rattle.wq_history.proofs.Words.{CancelSync, Close, Reply, Wrote, WroteTwo, Done, NotYet, CallError, subject_in}
-use Rattle.wq_history.proofs.Words.{event_in, is_ask, ask_event, start_event, wait_event, over_event, finish_event}
-use Rattle.wq_history.proofs.Words.{IsThere, MayCome, rows_needed, BookView, state, free, IsBook, Appends, IsNext}
-use Rattle.wq_history.proofs.Words.{Writes, WritesTwo, after, Replies, Answers}
+use Rattle.std.proofs.Common.{◌≡◌, ℕ, ◌+◌, ◌<◌, ◌≤◌, inl, inr, Bool, true, false, cond, [], ◌∷◌, ◌++◌, length-append}
+use Rattle.std.proofs.Common.{refl, sym, ap, subst, ◌∙◌, arith, Result, Ok, Err, ◌&&◌}
+use Rattle.wq_history.proofs.Words.{Context, DoStart, DoFinish, items, lane_of, HasContext, lane_at, is_running}
+use Rattle.wq_history.proofs.Words.{wait_deed, over_deed, Event, Row, item_in, Subject, Flush, Call, CancelSync, Close}
+use Rattle.wq_history.proofs.Words.{Reply, Wrote, WroteTwo, Done, NotYet, CallError, is_ask, ask_event, finish_event}
+use Rattle.wq_history.proofs.Words.{MayCome, rows_needed, BookView, state, free, IsBook, Appends, IsNext, Writes}
+use Rattle.wq_history.proofs.Words.{WritesTwo, after, Replies, Answers, deed_item}
 use Rattle.wq_core.proofs.Contexts.{next-may}
-use Rattle.wq_history.specs.declared.call.Call.TheVariants.{Queue as QueueCall, Ask as AskCall}
-use Rattle.wq_history.specs.declared.call.Call.TheVariants.{Start as StartCall, Wait as WaitCall, Over as OverCall}
-use Rattle.wq_history.specs.declared.call.Call.TheVariants.{Finish as FinishCall}
+use Rattle.wq_history.specs.declared.call.Call.TheVariants.{Queue as QueueCall, Ask as AskCall, Start as StartCall}
+use Rattle.wq_history.specs.declared.call.Call.TheVariants.{Wait as WaitCall, Over as OverCall, Finish as FinishCall}
 use Rattle.wq_history.proofs.Histories.{IsLegal-more}
 use Rattle.wq_history.proofs.Holding.{free_rows-noted}
 use Rattle.wq_history.proofs.LegalRows.{IsSoundState-legal}
-use Rattle.wq_history.proofs.KeptRows.{exist}
-use Rattle.wq_history.proofs.Written.{paid_row}
+use Rattle.wq_history.proofs.KeptRows.{paid_row}
 use Rattle.wq_history.proofs.WaitEvents.{step_of-ask_event}
-use Rattle.wq_history.proofs.CallRows.{appends-as, start-item, context-appended}
+use Rattle.wq_history.proofs.CallRows.{appends-as, start-item, may-do, context-writes}
 use Rattle.wq_history.proofs.Uniqueness.{comes}
-use Rattle.wq_history.proofs.OneAnswer.{finish-lawful}
 
 -- ---- a book stays one
 
@@ -42,11 +38,11 @@ appended-upheld old event said n book may room =
         length-append old.rows (row ∷ []),
         book.enough,
         room,
-        paid_row old.wiring old.rows row book.wiring book.legal may,
+        paid_row old.wiring old.rows row (inl book.wiring) book.legal may,
       );
     }
 
-row-upheld : (old new : BookView) (row : Row) → IsBook old → Writes old row new → IsUpheld old new
+pub row-upheld : (old new : BookView) (row : Row) → IsBook old → Writes old row new → IsUpheld old new
 row-upheld old new row book writes =
     subst (λ (b : BookView). IsUpheld old b) (sym writes.is_new)
     (appended-upheld old row.event row.yes row.number book writes.may writes.room, refl, refl)
@@ -116,68 +112,39 @@ start_there old new c row book replies =
     let i : ℕ = replies.0.0 in
     let item : item_in row.event ≡ i = ap item_in replies.0.2 ∙ start-item c.lane c.number i in
     let there = subst (λ (k : ℕ). (k < items old.wiring) × (lane_of old.wiring k ≡ c.lane)) (sym item)
-    (next-there old c.lane i book replies.0.1) in (
-      context-appended old.wiring old new c.lane c.number (DoStart i) row.yes row.number refl book
-          (appends-as old new row.event
-          (start_event c.lane c.number i) row.yes row.yes row.number row.number replies.0.2 refl refl replies.1),
-      there.0,
-      there.1,
-    )
+    (next-there old c.lane i book replies.0.1) in
+    ((context-writes old new c.lane c.number (DoStart i) row book replies.0.2 replies.1).0, there.0, there.1)
 
--- what a context waits for is named by the events of this wait
-wait-item : (w : Wiring) (whole : Bool) (q c b : ℕ) → IsThere w (subject_in (wait_event whole q c b)) → b < items w
-wait-item w false q zero b there = there
-wait-item w false q (suc h) b there = there
-wait-item w true q zero b there = there
-wait-item w true q (suc h) b there = there
+-- what a wait is for
+wait-item : (whole : Bool) (b : ℕ) → deed_item (wait_deed whole b) ≡ b
+wait-item false b = refl
+wait-item true b = refl
 
-over-item : (w : Wiring) (whole : Bool) (q c b : ℕ) → IsThere w (subject_in (over_event whole q c b)) → b < items w
-over-item w false q zero b there = there
-over-item w false q (suc h) b there = there
-over-item w true q zero b there = there
-over-item w true q (suc h) b there = there
-
--- what a context does: it exists, and so does what the event is about
-deed-exists : (old new : BookView) (c : Context) (deed : HelpStep) (row : Row) → IsBook old
-    → row.event ≡ event_in c.lane c.number deed → Writes old row new
-    → HasContext old.wiring c.lane c.number × IsThere old.wiring (subject_in (event_in c.lane c.number deed))
-deed-exists old new c deed row book is writes =
-    let event : Event = event_in c.lane c.number deed in
-    let appends = appends-as old new row.event event row.yes row.yes row.number row.number is refl refl writes in (
-      context-appended old.wiring old new c.lane c.number deed row.yes row.number refl book appends,
-      (exist old.wiring old.rows event row.yes row.number book.wiring book.legal appends.may).0,
-    )
+over-item : (whole : Bool) (b : ℕ) → deed_item (over_deed whole b) ≡ b
+over-item false b = refl
+over-item true b = refl
 
 -- what waits, and what it waits for
 pub wait-there : (old new : BookView) (c : Context) (f : Flush) (row : Row) → IsBook old
     → Replies old (WaitCall c f) (Wrote row) new → HasContext old.wiring c.lane c.number × (f.target < items old.wiring)
 wait-there old new c f row book replies =
-    let there = deed-exists old new c (wait_deed f.whole f.target) row book replies.0 replies.1 in
-    (there.0, wait-item old.wiring f.whole c.lane c.number f.target there.1)
+    let there = context-writes old new c.lane c.number (wait_deed f.whole f.target) row book replies.0 replies.1 in
+    (there.0, omega (arith, there.1, wait-item f.whole f.target))
 
 pub over-there : (old new : BookView) (c : Context) (f : Flush) (row : Row) → IsBook old
     → Replies old (OverCall c f) (Wrote row) new → HasContext old.wiring c.lane c.number × (f.target < items old.wiring)
 over-there old new c f row book replies =
-    let there = deed-exists old new c (over_deed f.whole f.target) row book replies.0 replies.1 in
-    (there.0, over-item old.wiring f.whole c.lane c.number f.target there.1)
+    let there = context-writes old new c.lane c.number (over_deed f.whole f.target) row book replies.0 replies.1 in
+    (there.0, omega (arith, there.1, over-item f.whole f.target))
 
 -- what is finished: its context exists, and its item is one of the lane
 pub finish-there : (old new : BookView) (c : Context) (i : ℕ) (row : Row) → IsBook old
     → Replies old (FinishCall c i) (Wrote row) new
     → HasContext old.wiring c.lane c.number × (i < items old.wiring) × (lane_of old.wiring i ≡ c.lane)
 finish-there old new c i row book replies =
-    let there = deed-exists old new c (DoFinish i) row book replies.0 replies.1 in
-    let sound = IsSoundState-legal old.wiring old.rows book.legal in
-    let done = finish-lawful old c.lane c.number i row.yes row.number
+    let there = context-writes old new c.lane c.number (DoFinish i) row book replies.0 replies.1 in
+    let (r, runs, done) = may-do old c.lane c.number (DoFinish i) row.yes row.number
     (comes old new row (finish_event c.lane c.number i) replies.0 replies.1) in
-    let own = sound.own_lane c.lane done.0.entry (inr (c.number, done.0, done.1, refl)) in
-    let item = subst (λ (k : ℕ). (k < items old.wiring) × (lane_of old.wiring k ≡ c.lane)) done.2.entry own in
-    (there.0, item.0, item.1)
-
--- the same of a start by name
-pub started_there : (old new : BookView) (q h item : ℕ) (row : Row) → IsBook old → item ≡ item_in row.event
-    → Replies old (StartCall (record { lane = q; number = h })) (Wrote row) new
-    → (item < items old.wiring) × (lane_of old.wiring item ≡ q)
-started_there old new q h item row book is replies =
-    let there = start_there old new (record { lane = q; number = h }) row book replies in
-    subst (λ (k : ℕ). (k < items old.wiring) × (lane_of old.wiring k ≡ q)) (sym is) (there.1, there.2)
+    let sound = IsSoundState-legal old.wiring old.rows book.legal in
+    let own = sound.own_lane c.lane r.entry (inr (c.number, r, runs, refl)) in
+    (there.0, there.1, ap (λ (k : ℕ). lane_of old.wiring k) (sym done.entry) ∙ own.1)

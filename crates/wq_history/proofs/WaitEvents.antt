@@ -1,12 +1,11 @@
 -- What is waited for, and events of asks, whatever they are about.
-use Rattle.std.proofs.Common.{◌≡◌, ℕ, Bool, ◌<◌, ◌↔◌, List, get_or, None, refl, arith, IsTrue}
+use Rattle.std.proofs.Common.{◌≡◌, ℕ, Bool, ◌<◌, ◌↔◌, List, None, refl, IsTrue, true}
 use Rattle.wq_items.specs.Table.{ItemWaitsBy}
 use Rattle.wq_items.proofs.Tables.{ItemWaits-below}
-use Rattle.wq_history.proofs.Words.{Wiring, IsWiring, items, State, lane_at, IsBusy, IsBusyBelow, IsSoundState, Row}
-use Rattle.wq_history.proofs.Words.{Subject, OfItem, OfLane, step_of, ask_event, told_event, IsThere, MayComeIn}
-use Rattle.wq_history.proofs.Words.{MayCome, AskView, CountsAsks, ask_place}
+use Rattle.wq_history.proofs.Words.{SaysUnfinishedOf, state_after, asks_waiting, IsUnfinishedBelow, Wiring, IsWiring}
+use Rattle.wq_history.proofs.Words.{items, State, lane_at, IsBusy, IsBusyBelow, IsSoundState, Row, Subject, OfItem}
+use Rattle.wq_history.proofs.Words.{OfLane, step_of, ask_event, told_event, IsThere, MayCome}
 use Rattle.wq_core.proofs.LaneLemmas.{ItemWaits-by}
-use Rattle.wq_history.proofs.Counting.{asks_waiting-count}
 
 -- ---- waits
 
@@ -28,16 +27,16 @@ pub step_of-ask_event : (x : Subject) (said : Bool) → step_of (ask_event x) sa
 step_of-ask_event (OfItem i) said = refl
 step_of-ask_event (OfLane q) said = refl
 
--- what a caller asks about exists
-pub ask-there : (w : Wiring) (s : State) (waiting : ℕ) (x : Subject) (said : Bool) (n : ℕ) → MayComeIn w s waiting (ask_event x) said n → IsThere w x
-ask-there w s waiting (OfItem i) said n may = may.0
-ask-there w s waiting (OfLane q) said n may = may.0
+-- when an ask may come
+pub ask-exactly : (w : Wiring) (rows : List Row) (x : Subject) (said : Bool) (n : ℕ)
+    → MayCome w rows (ask_event x) said n
+    ↔ (IsThere w x × SaysUnfinishedOf (state_after w rows) x said × (n ≡ (state_after w rows).next))
+ask-exactly w rows (OfItem i) said n = ((λ may. may), (λ may. may))
+ask-exactly w rows (OfLane q) said n = ((λ may. may), (λ may. may))
 
--- a caller is told only where an ask waits, so the count of such asks isn't 0
-pub told-some : (w : Wiring) (rows : List Row) (asks : AskView) (x : Subject) (said : Bool) (n : ℕ) → CountsAsks
-    rows asks → MayCome w rows (told_event x) said n
-    → 0 < get_or asks.counts (ask_place x) 0
-told-some w rows asks (OfItem i) said n counts may = omega
-    (arith, may.1, asks_waiting-count rows asks (OfItem i) counts)
-told-some w rows asks (OfLane q) said n counts may = omega
-    (arith, may.1, asks_waiting-count rows asks (OfLane q) counts)
+-- when a caller may be told
+pub told-exactly : (w : Wiring) (rows : List Row) (x : Subject) (said : Bool) (n : ℕ)
+    → MayCome w rows (told_event x) said n
+    ↔ ((said ≡ true) × (0 < asks_waiting x rows) × (¬ IsUnfinishedBelow (state_after w rows) x n))
+told-exactly w rows (OfItem i) said n = ((λ may. may), (λ may. may))
+told-exactly w rows (OfLane q) said n = ((λ may. may), (λ may. may))

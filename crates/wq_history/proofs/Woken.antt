@@ -47,14 +47,12 @@ two-enough old new (CancelSync i) ask taken wake book writes wakes =
 
     by_said : (said : Bool) → taken.yes ≡ said → WakesEnough old later wake
     by_said true says =
-        by_cancel old later.rows sound wake i
+        by_cancel old later refl sound wake i
         (state_after-step old.wiring asked taken (CancelStep i) (event true says)
         ∙ ap (λ (s : State). effect old.wiring s (CancelStep i)) same)
-        (subst (λ (b : BookView). WakesBy b (CancelEvent i) true wake) is
-        (subst (λ (k : Bool). WakesBy new (CancelEvent i) k wake) says
-        (subst (λ (e : Event). WakesBy new e taken.yes wake) writes.1.3 wakes)))
+        (subst (λ (b : BookView). WakesBy b (CancelEvent i) true wake) is (rw (writes.1.3, says) at wakes))
     by_said false says =
-        by_none old later.rows sound wake (state_after-none old.wiring asked taken (event false says) ∙ same)
+        by_none old later wake refl (state_after-none old.wiring asked taken (event false says) ∙ same)
 two-enough old new _ ask taken wake book writes wakes = absurd writes
 
 -- each answer wakes enough

@@ -3,7 +3,7 @@ pub use Rattle.wq_core.specs.Deadlock.{IsSafe}
 pub use Rattle.wq_core.specs.Held.{IsMachine, IsSoundState, Machine, machine_after}
 pub use Rattle.wq_core.specs.Rules.{Gives, IsHeldBack, Lawful, MayBeOver, MayDo, MayWait, deed_item, effect, over_deed}
 pub use Rattle.wq_core.specs.Rules.{step_in, wait_deed, with_cancelled, with_finished, with_queued, with_started}
-pub use Rattle.wq_core.specs.State.{HasUnfinished, HasUnfinishedBelow, HasUnfinishedOf, IsBusy, IsBusyBelow}
+pub use Rattle.wq_core.specs.State.{HasUnfinished, HasUnfinishedBelow, IsBusy, IsBusyBelow}
 pub use Rattle.wq_core.specs.State.{IsUnfinishedOn, Lane, RunsIn, State, empty_state, idle_lane, is_running, lane_at}
 pub use Rattle.wq_core.specs.State.{next_of, run_by, with_run_by}
 pub use Rattle.wq_core.specs.Wiring.{HasContext, HasHelper, IsWiring, Wiring, declared_by, helpers_of, items, lane_of}
@@ -29,7 +29,7 @@ pub use Rattle.wq_history.specs.Calls.{waiters_for}
 pub use Rattle.wq_history.specs.Counts.{AreCounted, AskView, CountsAll, CountsAsks, HoldsBook, Replays, ask_place}
 pub use Rattle.wq_history.specs.Events.{ask_event, begins_to_wait, ends_a_wait, event_in, finish_event, is_ask, is_told}
 pub use Rattle.wq_history.specs.Events.{over_event, start_event, step_of, steps_of, subject_in, told_event, wait_event}
-pub use Rattle.wq_history.specs.History.{IsLegal, IsThere, Makes, MayCome, MayComeIn, MayFollow, Says, SaysBusy}
+pub use Rattle.wq_history.specs.History.{IsLegal, IsThere, Makes, MayCome, MayComeIn, MayFollow, Says}
 pub use Rattle.wq_history.specs.History.{SaysUnfinishedOf, all_asks_waiting, asks_waiting, state_after}
 pub use Rattle.wq_history.specs.Judging.{counted, stepped}
 pub use Rattle.wq_history.specs.Reserve.{free_rows, reserved, rows_needed}
@@ -43,7 +43,6 @@ pub use Rattle.wq_history.specs.declared.call.Flush.{Flush}
 pub use Rattle.wq_history.specs.declared.call.Reply.{Reply}
 pub use Rattle.wq_history.specs.declared.call.Reply.TheVariants.{Done, NotYet, Wrote, WroteTwo}
 pub use Rattle.wq_history.specs.declared.fault.BookError.{BookError}
-pub use Rattle.wq_history.specs.declared.fault.BookError.TheVariants.{OutOfMemory, TooManyRows}
 pub use Rattle.wq_history.specs.declared.fault.CallError.{CallError}
 pub use Rattle.wq_history.specs.declared.fault.CallError.TheVariants.{Closed, HistoryFull, NoItem, NotAsked}
 pub use Rattle.wq_history.specs.declared.fault.CallError.TheVariants.{TooManyWaits, Undeclared, WrongLane}

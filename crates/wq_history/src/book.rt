@@ -398,6 +398,18 @@ impl<A: Allocator> Book<A> {
         }
     }
 
+    /// Makes what a context runs begin to wait, for an item or its whole lane: true if that has an unfinished entry.
+    #[tactic(auto, using(crate::proofs::Answered::wait_row))]
+    fn wait_in(&mut self, context: Context, whole: bool, target: ItemId) -> Result<bool, BookError>
+        ensures row { IfOk result (λ unfinished. AppendsOne self.old self.new
+            (wait_event whole context.lane context.number target) unfinished) }
+        ensures refused { IfErr result (λ e. RefusesWait self.old context.lane context.number whole target e
+            × (self.new ≡ self.old)) }
+    {
+        let row = self.row(Call::Wait(context, Flush { target, whole }))?;
+        Ok(row.yes)
+    }
+
     /// Lets what a context runs go on, if its wait is over, for an item or for a whole lane. It gives false if
     /// the wait isn't over; then nothing is changed.
     ///
@@ -444,17 +456,11 @@ impl<A: Allocator> Book<A> {
     /// The error is the first of these that holds: `WrongLane` (64), if there is no such lane, its rescuer runs
     /// nothing, or what it runs waits; `Undeclared` (62), if what runs declares no flush of the item alone;
     /// `TooManyWaits` (63). After an error nothing is changed.
-    #[tactic(auto, using(crate::proofs::Answered::wait_row))]
     pub fn wait(&mut self, q: LaneId, target: ItemId) -> Result<bool, BookError>
         ensures row { IfOk result (λ unfinished. AppendsOne self.old self.new (Wait q target) unfinished) }
         ensures refused { IfErr result (λ e. RefusesWait self.old q 0 false target e × (self.new ≡ self.old)) }
     {
-        let flush = Flush {
-            target,
-            whole: false,
-        };
-        let row = self.row(Call::Wait(Context { lane: q, number: 0 }, flush))?;
-        Ok(row.yes)
+        self.wait_in(Context { lane: q, number: 0 }, false, target)
     }
 
     /// Makes what a lane's rescuer runs begin to wait for the whole lane of an item:
@@ -463,17 +469,11 @@ impl<A: Allocator> Book<A> {
     /// The error is the first of these that holds: `WrongLane` (64), if there is no such lane, its rescuer runs
     /// nothing, or what it runs waits; `Undeclared` (62), if what runs declares no flush of the whole lane of the
     /// item; `TooManyWaits` (63). After an error nothing is changed.
-    #[tactic(auto, using(crate::proofs::Answered::wait_row))]
     pub fn wait_all(&mut self, q: LaneId, target: ItemId) -> Result<bool, BookError>
         ensures row { IfOk result (λ unfinished. AppendsOne self.old self.new (WaitAll q target) unfinished) }
         ensures refused { IfErr result (λ e. RefusesWait self.old q 0 true target e × (self.new ≡ self.old)) }
     {
-        let flush = Flush {
-            target,
-            whole: true,
-        };
-        let row = self.row(Call::Wait(Context { lane: q, number: 0 }, flush))?;
-        Ok(row.yes)
+        self.wait_in(Context { lane: q, number: 0 }, true, target)
     }
 
     /// Lets what a lane's rescuer runs go on, if its wait is over, for an item or for a whole lane. It gives false
@@ -529,7 +529,6 @@ impl<A: Allocator> Book<A> {
     /// The error is the first of these that holds: `WrongLane` (64), if there is no such lane, it has no such
     /// helper, the helper runs nothing, or what it runs waits; `Undeclared` (62), if what runs declares no flush of
     /// the item alone; `TooManyWaits` (63). After an error nothing is changed.
-    #[tactic(auto, using(crate::proofs::Answered::wait_row))]
     pub fn help_wait(&mut self, q: LaneId, h: u8, target: ItemId) -> Result<bool, BookError>
         ensures row { IfOk result (λ unfinished. (0 < h)
             × AppendsOne self.old self.new (wait_event false q h target) unfinished) }
@@ -539,12 +538,7 @@ impl<A: Allocator> Book<A> {
         if h == 0 {
             return Err(BookError::WrongLane);
         }
-        let flush = Flush {
-            target,
-            whole: false,
-        };
-        let row = self.row(Call::Wait(Context { lane: q, number: h }, flush))?;
-        Ok(row.yes)
+        self.wait_in(Context { lane: q, number: h }, false, target)
     }
 
     /// Makes what a helper runs begin to wait for the whole lane of an item: true
@@ -553,7 +547,6 @@ impl<A: Allocator> Book<A> {
     /// The error is the first of these that holds: `WrongLane` (64), if there is no such lane, it has no such
     /// helper, the helper runs nothing, or what it runs waits; `Undeclared` (62), if what runs declares no flush of
     /// the whole lane of the item; `TooManyWaits` (63). After an error nothing is changed.
-    #[tactic(auto, using(crate::proofs::Answered::wait_row))]
     pub fn help_wait_all(&mut self, q: LaneId, h: u8, target: ItemId) -> Result<bool, BookError>
         ensures row { IfOk result (λ unfinished. (0 < h)
             × AppendsOne self.old self.new (wait_event true q h target) unfinished) }
@@ -563,12 +556,7 @@ impl<A: Allocator> Book<A> {
         if h == 0 {
             return Err(BookError::WrongLane);
         }
-        let flush = Flush {
-            target,
-            whole: true,
-        };
-        let row = self.row(Call::Wait(Context { lane: q, number: h }, flush))?;
-        Ok(row.yes)
+        self.wait_in(Context { lane: q, number: h }, true, target)
     }
 
     /// Lets what a helper runs go on, if its wait is over, for an item or for a whole lane. It gives false if the

@@ -4,6 +4,9 @@
 //! be refused, the answer, what is counted, and who is woken. So no answer is handed on in memory, and a round of a
 //! runtime takes less than half of the instructions. Nothing else is computed here.
 
+ghost use Rattle.wq_history.specs.declared.call.Call.TheVariants.{Queue, Cancel, Ask, Told, CancelSync, Start, Wait};
+ghost use Rattle.wq_history.specs.declared.call.Call.TheVariants.{Over, Finish, Close, Drain};
+
 use crate::asking::Subject;
 use crate::book::Book;
 use crate::call::{Call, Flush, Reply};
@@ -38,8 +41,6 @@ pub struct QueueCall {
 }
 
 impl<A: Allocator> AsCall<A> for QueueCall {
-    ghost use Rattle.wq_history.specs.declared.call.Call.TheVariants.{Queue};
-
     ghost meant = { λ c. Queue c.item };
 
     fn call(&self) -> Call {
@@ -59,8 +60,6 @@ pub struct CancelCall {
 }
 
 impl<A: Allocator> AsCall<A> for CancelCall {
-    ghost use Rattle.wq_history.specs.declared.call.Call.TheVariants.{Cancel};
-
     ghost meant = { λ c. Cancel c.item };
 
     fn call(&self) -> Call {
@@ -80,8 +79,6 @@ pub struct AskCall {
 }
 
 impl<A: Allocator> AsCall<A> for AskCall {
-    ghost use Rattle.wq_history.specs.declared.call.Call.TheVariants.{Ask};
-
     ghost meant = { λ c. Ask c.subject };
 
     fn call(&self) -> Call {
@@ -103,8 +100,6 @@ pub struct ToldCall {
 }
 
 impl<A: Allocator> AsCall<A> for ToldCall {
-    ghost use Rattle.wq_history.specs.declared.call.Call.TheVariants.{Told};
-
     ghost meant = { λ c. Told c.subject c.mark };
 
     fn call(&self) -> Call {
@@ -124,8 +119,6 @@ pub struct CancelSyncCall {
 }
 
 impl<A: Allocator> AsCall<A> for CancelSyncCall {
-    ghost use Rattle.wq_history.specs.declared.call.Call.TheVariants.{CancelSync};
-
     ghost meant = { λ c. CancelSync c.item };
 
     fn call(&self) -> Call {
@@ -145,8 +138,6 @@ pub struct StartCall {
 }
 
 impl<A: Allocator> AsCall<A> for StartCall {
-    ghost use Rattle.wq_history.specs.declared.call.Call.TheVariants.{Start};
-
     ghost meant = { λ c. Start c.context };
 
     fn call(&self) -> Call {
@@ -168,8 +159,6 @@ pub struct WaitCall {
 }
 
 impl<A: Allocator> AsCall<A> for WaitCall {
-    ghost use Rattle.wq_history.specs.declared.call.Call.TheVariants.{Wait};
-
     ghost meant = { λ c. Wait c.context c.flush };
 
     fn call(&self) -> Call {
@@ -191,8 +180,6 @@ pub struct OverCall {
 }
 
 impl<A: Allocator> AsCall<A> for OverCall {
-    ghost use Rattle.wq_history.specs.declared.call.Call.TheVariants.{Over};
-
     ghost meant = { λ c. Over c.context c.flush };
 
     fn call(&self) -> Call {
@@ -214,8 +201,6 @@ pub struct FinishCall {
 }
 
 impl<A: Allocator> AsCall<A> for FinishCall {
-    ghost use Rattle.wq_history.specs.declared.call.Call.TheVariants.{Finish};
-
     ghost meant = { λ c. Finish c.context c.item };
 
     fn call(&self) -> Call {
@@ -232,8 +217,6 @@ impl<A: Allocator> AsCall<A> for FinishCall {
 pub struct CloseCall;
 
 impl<A: Allocator> AsCall<A> for CloseCall {
-    ghost use Rattle.wq_history.specs.declared.call.Call.TheVariants.{Close};
-
     ghost meant = { λ c. Close };
 
     fn call(&self) -> Call {
@@ -250,8 +233,6 @@ impl<A: Allocator> AsCall<A> for CloseCall {
 pub struct DrainCall;
 
 impl<A: Allocator> AsCall<A> for DrainCall {
-    ghost use Rattle.wq_history.specs.declared.call.Call.TheVariants.{Drain};
-
     ghost meant = { λ c. Drain };
 
     fn call(&self) -> Call {

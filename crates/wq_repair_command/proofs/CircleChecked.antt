@@ -94,8 +94,9 @@ ChecksYesCircle-printed s sound old out prints =
     let round = LeadsRound-walked (without prints.needed.out (group_graph d)) circle prints.needed.walked in
     let some : 0 < length circle = filled circle round.some in
     let own = own_lanes s.partition.groups in
-    let named = IsStepOf-deadlock s sound own (IsAssignmentOf-own_lanes s sound) prints.steps prints.run.deadlocks in
-    let few_steps : length prints.steps ≤ 65536 = omega (arith, length-deadlock s sound own (IsAssignmentOf-own_lanes s sound) prints.steps prints.run.deadlocks) in
+    let named = IsStepOf-deadlock s sound own (IsAssignmentOf-own_lanes s sound) prints.steps prints.deadlocks in
+    let few_steps : length prints.steps ≤ 65536 =
+    omega (arith, length-deadlock s sound own (IsAssignmentOf-own_lanes s sound) prints.steps prints.deadlocks) in
     let printable = ArePrintable-needed s sound old circle prints.needed arcs refl in
     let said : CircleCertificate = record { arcs = arcs; steps = Some prints.steps } in
     let short = length-circle_text s.table.names sound.table.named arcs (Some prints.steps) printable.few named few_steps in
@@ -107,7 +108,11 @@ ChecksYesCircle-printed s sound old out prints =
       circle = said;
       read = read;
       checked = MatchResult-ok (answer_of s.table.names s.partition out) (OfCircle said) _ _ read
-          (Ok (yes.Circle (length arcs)), (record { joined = joined; deadlocks = prints.run.deadlocks }, refl), (refl, refl));
+          (
+            Ok (yes.Circle (length arcs)),
+            (record { joined = joined; deadlocks = prints.deadlocks }, refl),
+            (refl, refl),
+          );
     }
   where
     filled : (xs : List WaitArc) → ¬ (xs ≡ []) → 0 < length xs

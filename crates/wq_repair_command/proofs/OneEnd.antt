@@ -3,9 +3,6 @@ use Rattle.std.proofs.Common.{◌≡◌, ℕ, inl, inr, List, Result, Ok, Err, O
 use Rattle.std.specs.Prelude.{◌⊎◌, MatchResult}
 use Rattle.wq_text.specs.Refusal.{Refusal}
 use Rattle.wq_graph.specs.declared.arc.WaitArc.{WaitArc}
-use Rattle.wq_graph.specs.Graph.{lane_graph}
-use Rattle.wq_graph.proofs.Graphs.{IsGraph-lane_graph}
-use Rattle.wq_levels.proofs.OneCircle.{IsWalkedCircle-unique}
 use Rattle.wq_core.specs.Wiring.{wiring, own_lanes}
 use Rattle.wq_core.specs.Workqueues.{Workqueues}
 use Rattle.wq_deadlock.specs.CircleRun.{IsCircleRun}
@@ -19,7 +16,6 @@ use Rattle.wq_groups.specs.DeclaredGroups.{declared_waits, Declared}
 use Rattle.wq_commands.specs.Answer.{text_of_circle, PrintsRefusal}
 use Rattle.wq_commands.specs.Declaration.{declaration}
 use Rattle.wq_commands.proofs.AnswerLemmas.{IsSound, IsDeclaration-sound}
-use Rattle.wq_commands.proofs.CircleRuns.{IsAssignmentOf-own_lanes}
 use Rattle.wq_repair.proofs.Ends.{enough-safe, no_circle-safe, enough-repaired, no_circle-repaired, IsNeededCircle-unique}
 use Rattle.wq_repair_command.specs.Movers.{movers}
 use Rattle.wq_repair_command.specs.Repairing.{PrintsWorkqueues, PrintsNeededCircle, PrintsTooFew, RepairsMoving, RepairsIf, RepairsAssigned, RepairsDeclared, Repairs}
@@ -72,12 +68,9 @@ PrintsNeededCircle-unique s sound old out printed one two =
     let declaration = IsDeclaration-sound s sound in
     let own = own_lanes s.partition.groups in
     let w = wiring d own in
-    let sane = IsAssignmentOf-own_lanes s sound in
     let circle : one.circle ≡ two.circle = IsNeededCircle-unique d old declaration one.circle two.circle one.needed two.needed in
-    let round : one.run.circle ≡ two.run.circle =
-    IsWalkedCircle-unique (lane_graph d own) (IsGraph-lane_graph d own declaration sane.assignment sane.few) one.run.circle two.run.circle one.run.walked two.run.walked in
-    let run : IsCircleRun w two.run.circle one.steps = subst (λ (arcs : List WaitArc). IsCircleRun w arcs one.steps) round one.run.is_run in
+    let run : IsCircleRun w two.circle one.steps = subst (λ (arcs : List WaitArc). IsCircleRun w arcs one.steps) circle one.is_run in
     one.text
     ∙ ap (λ (arcs : List WaitArc). text_of_circle s arcs one.steps) circle
-    ∙ ap (text_of_circle s two.circle) (same_circle_run w two.run.circle one.steps two.steps run two.run.is_run)
+    ∙ ap (text_of_circle s two.circle) (same_circle_run w two.circle one.steps two.steps run two.is_run)
     ∙ sym two.text

@@ -3,10 +3,11 @@
 use Rattle.std.specs.Prelude.{◌≡◌, ◌⊎◌, ℕ, List, Option, Some, None, MatchResult}
 use Rattle.wq_graph.specs.declared.arc.WaitArc.{WaitArc}
 use Rattle.wq_core.specs.declared.step.Step.{Step}
-use Rattle.wq_core.specs.Wiring.{own_lanes}
+use Rattle.wq_core.specs.Deadlock.{DeadlocksBy}
+use Rattle.wq_core.specs.Wiring.{wiring, own_lanes}
 use Rattle.wq_core.specs.Workqueues.{Workqueues}
+use Rattle.wq_deadlock.specs.CircleRun.{IsCircleRun}
 use Rattle.wq_deadlock.specs.Judging.{AreSafe}
-use Rattle.wq_deadlock.specs.Verdict.{IsDeadlock}
 use Rattle.wq_repair.specs.declared.answer.Answer.{Answer}
 use Rattle.wq_repair.specs.declared.answer.Answer.TheVariants as answer
 use Rattle.wq_repair.specs.Repair.{IsAnswer, IsRepair, AreNamesTooFew, IsNeededCircle}
@@ -43,13 +44,14 @@ pub record PrintsTooFew (s : Declared) (old : Workqueues) (moving : List ℕ) (o
   pub few : AreNamesTooFew (declared_waits s) old moving start steps
   pub text : out ≡ run_text s.table.names steps
 
--- a circle is printed in which groups that need a rescuer wait, with the run by which all items hang if each group has
--- its own workqueue
+-- a circle is printed in which groups that need a rescuer wait, with its run if each group has its own workqueue, by
+-- which all items hang
 pub record PrintsNeededCircle (s : Declared) (old : Workqueues) (out : List ℕ) : Type 0 where
   pub circle : List WaitArc
   pub needed : IsNeededCircle (declared_waits s) old circle
   pub steps : List Step
-  pub run : IsDeadlock (declared_waits s) (own_lanes s.partition.groups) steps
+  pub is_run : IsCircleRun (wiring (declared_waits s) (own_lanes s.partition.groups)) circle steps
+  pub deadlocks : DeadlocksBy (wiring (declared_waits s) (own_lanes s.partition.groups)) steps
   pub text : out ≡ text_of_circle s circle steps
 
 -- ---- the answer
@@ -83,10 +85,11 @@ Repairs names declared text end out =
 
 -- ---- what is found, of which the answer is printed
 
--- this circle is printed, with the run by which all items hang if each group has its own workqueue
+-- this circle is printed, with its run if each group has its own workqueue, by which all items hang
 abbrev pub PrintsWithRun : Declared → List WaitArc → List ℕ → Type 0
 PrintsWithRun s circle out =
-    (steps : List Step) × IsDeadlock (declared_waits s) (own_lanes s.partition.groups) steps
+    (steps : List Step) × IsCircleRun (wiring (declared_waits s) (own_lanes s.partition.groups)) circle steps
+    × DeadlocksBy (wiring (declared_waits s) (own_lanes s.partition.groups)) steps
     × (out ≡ text_of_circle s circle steps)
 
 -- what is printed of this answer: the workqueues that were given, or the repaired ones, with these names; or the run or

@@ -1,22 +1,22 @@
 //! The text of a circle of groups that need a rescuer and wait for each other.
 //!
-//! Its form is that of "Circle texts" in docs/FORMAT.md. A call takes the time and the memory of the run behind the
+//! Its form is that of "Circle texts" in docs/FORMAT.md. A call takes the time and the memory of the run of this
 //! circle, in which each group has a workqueue of its own.
 
 ghost use Rattle.std.specs.Prelude.{◌≡◌, IfOk, map};
 ghost use Rattle.wq_groups.specs.DeclaredGroups.{declared_waits};
 ghost use Rattle.wq_commands.specs.Answer.{ends_of};
-ghost use Rattle.wq_core.specs.Deadlock.{Deadlocks};
+ghost use Rattle.wq_core.specs.Deadlock.{DeadlocksBy};
 ghost use Rattle.wq_core.specs.Wiring.{wiring, own_lanes};
 ghost use Rattle.wq_core.specs.Workqueues.{Workqueues};
-ghost use Rattle.wq_deadlock.specs.Verdict.{IsDeadlock};
+ghost use Rattle.wq_deadlock.specs.CircleRun.{IsCircleRun};
 ghost use Rattle.wq_repair.specs.Repair.{IsNeededCircle};
 ghost use Rattle.wq_repair_command.specs.Repairing.{PrintsWithRun};
 
 use std::alloc::{AllocError, Allocator};
 use wq_cert::circle_text;
 use wq_core::Step;
-use wq_deadlock::circle_run;
+use wq_deadlock::run_round;
 use wq_graph::WaitArc;
 use wq_groups::Declaration;
 use wq_items::ItemId;
@@ -35,21 +35,22 @@ fn ends_of<A: Allocator + Copy>(
     Ok(ends)
 }
 
-/// The run by which the declared items hang although each group has a workqueue of its own.
-fn run_of_groups<A: Allocator + Copy>(
+/// The run of this circle if each group has a workqueue of its own. By it all items hang.
+fn run_of_circle<A: Allocator + Copy>(
     alloc: A,
     declared: &Declaration<'_, A>,
+    arcs: &[WaitArc],
 ) -> Result<Vec<Step, A>, AllocError>
-    requires { Deadlocks (wiring (declared_waits declared.now) (own_lanes declared.now.partition.groups)) }
-    ensures { IfOk result (λ steps.
-        IsDeadlock (declared_waits declared.now) (own_lanes declared.now.partition.groups) steps.items) }
+    requires needed { (old : Workqueues) × IsNeededCircle (declared_waits declared.now) old arcs.now }
+    ensures run { IfOk result (λ steps. IsCircleRun
+        (wiring (declared_waits declared.now) (own_lanes declared.now.partition.groups)) arcs.now steps.items) }
+    ensures deadlocks { IfOk result (λ steps. DeadlocksBy
+        (wiring (declared_waits declared.now) (own_lanes declared.now.partition.groups)) steps.items) }
 {
-    let run = circle_run(alloc, &declared.table, &declared.groups)?;
-    // `None` would mean that these workqueues are safe, and they aren't.
-    Ok(run.unwrap())
+    run_round(alloc, &declared.table, &declared.groups, arcs)
 }
 
-/// The text of the circle in which groups wait that need a rescuer, with the run of all groups on workqueues of their
+/// The text of the circle in which groups wait that need a rescuer, with its run if each group has a workqueue of its
 /// own.
 pub(crate) fn text_of_circle<A: Allocator + Copy>(
     alloc: A,
@@ -61,6 +62,6 @@ pub(crate) fn text_of_circle<A: Allocator + Copy>(
 {
     let table = &declared.table;
     let ends = ends_of(alloc, arcs)?;
-    let steps = run_of_groups(alloc, declared)?;
+    let steps = run_of_circle(alloc, declared, arcs)?;
     circle_text(alloc, table, &ends, Some(steps.as_slice()))
 }

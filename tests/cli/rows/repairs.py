@@ -84,9 +84,9 @@ REPAIRS = [
         ("wq 0 c / norescuer 1 a b", "c", "circle 2 / arc a b / arc b a / run 9 / queue a / queue b / queue c / start 0 c / wait 0 a"
          " / start 1 a / wait 1 b / start 2 b / wait 2 a"),
     ]),
-    # p needs none, so its circle isn't printed; but it is first in the run, which is that of `plan`.
+    # p needs none, so its circle isn't printed, and what is queued first is that of the printed one. `plan` prints the circle of p.
     ("item p / item a / flush p p / flush a a", [
-        ("norescuer 0 p / wq 1 a", "", "circle 1 / arc a a / run 6 / queue p / queue a / start 0 p / wait 0 p / start 1 a / wait 1 a"),
+        ("norescuer 0 p / wq 1 a", "", "circle 1 / arc a a / run 6 / queue a / queue p / start 0 p / wait 0 p / start 1 a / wait 1 a"),
         ("norescuer 0 p / norescuer 1 a", "", "norescuer 0 p / norescuer 1 a"),
     ]),
     # Those with the fewest conflicts are tried first, and h, with two, last.

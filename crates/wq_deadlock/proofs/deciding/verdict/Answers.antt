@@ -5,6 +5,7 @@ use Rattle.wq_groups.proofs.Declarations.{IsDeclaration-of}
 use Rattle.wq_groups.specs.Assignment.{item_lanes}
 use Rattle.wq_graph.specs.Graph.{arcs_from, lane_graph}
 use Rattle.wq_levels.specs.Walks.{IsWalkedCircle}
+use Rattle.wq_levels.proofs.Walks.{LeadsRound-walked}
 use Rattle.wq_core.proofs.Results.{OnErr-holds}
 use Rattle.wq_deadlock.proofs.Verdicts.{IsSafeByRanks-ranks, IsDeadlock-walked}
 use Rattle.wq_deadlock.proofs.deciding.verdict.Goals as goal
@@ -17,6 +18,13 @@ returns-in-Ranks-clause-verdict g c =
     let is = IsDeclaration-of t p c.len-2.ensures.table c.len.ensures.partition c.requires.grouped in
     let ranking = rw (c.in-Ranks.is, c.in_ok-graph.ensures.graph) at c.in_ok-ranks.ensures.ranking in
     IsSafeByRanks-ranks (declaration_of t p) a is (record { one_each = c.requires.assigned; within = c.lanes.ensures.within }) (omega (arith, c.lanes.ensures.lanes, c.lanes.ensures.few)) c.in-Ranks.ranks.items ranking.0
+
+pub run_of_circle-requires-clause-round : goal.run_of_circle-requires-clause-round
+run_of_circle-requires-clause-round g c =
+    let graph = lane_graph (declaration_of c.args.table.now c.args.groups.now) c.args.assignment.now in
+    let walked : IsWalkedCircle graph c.in-Circle.circle.items =
+    rw (c.in-Circle.is, c.in_ok-graph.ensures.graph) at c.in_ok-ranks.ensures.ranking in
+    rw c.as_slice.ensures.value (LeadsRound-walked graph c.in-Circle.circle.items walked)
 
 pub returns-clause-verdict : goal.returns-clause-verdict
 returns-clause-verdict g c =

@@ -1,23 +1,14 @@
-use Rattle.std.proofs.Common.{◌≡◌, ◌≢◌, ℕ, ◌+◌, ◌*◌, true, false, Option, length, get_or, replicate, sym, ap, subst}
-use Rattle.std.proofs.Common.{◌∙◌, arith, IfSome, max}
+use Rattle.std.proofs.Common.{◌≡◌, ◌≢◌, true, false, length, sym, ◌∙◌, arith}
 use Rattle.std.proofs.lemmas.Bool.{eqb-true, eqb-false}
-use Rattle.wq_history.proofs.Words.{Step, items, Lawful, Machine, Subject, step_of, AskView, ask_place, stepped}
 use Rattle.wq_history.proofs.Histories.{step-lawful}
-use Rattle.wq_history.proofs.Judged.{JudgedSoFar, judged-length, judged-first, judged-next, judged-all, bad-row}
-use Rattle.wq_history.proofs.Judged.{cut-off, not-legal, few_asks, ask-counted, told-counted, follows}
+use Rattle.wq_history.proofs.Judged.{judged-length, judged-first, judged-next, judged-all, bad-row, cut-off, not-legal}
+use Rattle.wq_history.proofs.Judged.{few_asks, ask-counted, told-counted, follows}
 use Rattle.wq_history.proofs.judging.check_rows.Goals as goal
-
--- how many asks about the subject of a row are counted
-waits : (asks : AskView) (x y : Subject) (n : ℕ) → n ≡ get_or asks.counts (ask_place x) 0 → x ≡ y
-    → n ≡ get_or asks.counts (ask_place y) 0
-waits asks x y n is same = is ∙ ap (λ (z : Subject). get_or asks.counts (ask_place z) 0) same
 
 pub loop-bytes-init : goal.loop-bytes-init
 loop-bytes-init g c =
-    let first : ℕ → ℕ → AskView = λ n m. record { counts = replicate (2 * max n m) 0; all = 0 } in
     judged-first c.args.core.now c.args.packed.now c.in-Ok.asks c.items.ensures.machine c.requires.new
-    (c.in-Ok.ensures.counts ∙ ap (λ (n : ℕ). first n c.lanes.result) c.items.ensures.items
-    ∙ ap (λ (n : ℕ). first (items c.args.core.now.wiring) n) c.lanes.ensures.lanes)
+    (rw (c.items.ensures.items, c.lanes.ensures.lanes) at c.in-Ok.ensures.counts)
 
 pub overflow_add-at : goal.overflow_add-at
 overflow_add-at g c = omega (arith, judged-length c.loop-bytes.invariant, c.requires.few)
@@ -35,7 +26,7 @@ may_come-requires g c =
 pub returns-then-not-may_come-clause-refused : goal.returns-then-not-may_come-clause-refused
 returns-then-not-may_come-clause-refused g c =
     not-legal c.loop-bytes.invariant c.in-Some-unpack.row c.of-waiting.result
-    (waits c.loop-bytes.asks _ _ _ c.of-waiting.ensures c.of-subject.ensures) c.in-Some.bytes.now c.in-Some.after.now
+    (rw c.of-subject.ensures at c.of-waiting.ensures) c.in-Some.bytes.now c.in-Some.after.now
     c.in-Some.ensures.cases c.in-Some-unpack.ensures.some
     (λ may. let both : true ≡ false = sym (c.may_come.ensures.1 may) ∙ c.if-not-may_come.true in absurd cc)
 
@@ -43,7 +34,7 @@ pub make-requires-clause-lawful : goal.make-requires-clause-lawful
 make-requires-clause-lawful g c =
     let m = c.loop-bytes.core in
     let row = c.in-Some-unpack.row in
-    subst (λ (o : Option Step). IfSome o (λ (s : Step). Lawful m.wiring m.state s)) (sym c.step_of.ensures)
+    rw c.step_of.ensures
     (step-lawful m.wiring m.state c.of-waiting.result row.event row.yes row.number
     (c.may_come.ensures.0 c.if-not-may_come.false))
 
@@ -57,14 +48,14 @@ count-requires-clause-place g c x =
     let l = c.loop-bytes in
     ask-counted l.core l.invariant.rows l.asks c.in-Some-unpack.row x l.invariant.replays
     (follows l.invariant c.in-Some-unpack.row c.of-waiting.result
-    (waits l.asks _ _ _ c.of-waiting.ensures c.of-subject.ensures) (c.may_come.ensures.0 c.if-not-may_come.false))
+    (rw c.of-subject.ensures at c.of-waiting.ensures) (c.may_come.ensures.0 c.if-not-may_come.false))
 
 pub count-requires-clause-some : goal.count-requires-clause-some
 count-requires-clause-some g c x =
     let l = c.loop-bytes in
     told-counted l.core l.invariant.rows l.asks c.in-Some-unpack.row x l.invariant.replays
     (follows l.invariant c.in-Some-unpack.row c.of-waiting.result
-    (waits l.asks _ _ _ c.of-waiting.ensures c.of-subject.ensures) (c.may_come.ensures.0 c.if-not-may_come.false))
+    (rw c.of-subject.ensures at c.of-waiting.ensures) (c.may_come.ensures.0 c.if-not-may_come.false))
 
 pub count-requires-clause-few : goal.count-requires-clause-few
 count-requires-clause-few g c =
@@ -79,17 +70,10 @@ count-requires-clause-few g c =
 
 pub loop-bytes-preserved : goal.loop-bytes-preserved
 loop-bytes-preserved g c =
-    let l = c.loop-bytes in
-    let row = c.in-Some-unpack.row in
-    let after = c.in-Some.after.now in
-    let core = c.make.ensures ∙ ap (λ (o : Option Step). stepped l.core o) c.step_of.ensures in
-    let old = c.args.core.now in
-    subst (λ (m : Machine). JudgedSoFar old c.args.packed.now after m c.count.new.self (l.rows + 1)) (sym core)
-    (subst (λ (a : AskView). JudgedSoFar old c.args.packed.now after
-    (stepped l.core (step_of row.event row.yes)) a (l.rows + 1)) (sym c.count.ensures)
-    (judged-next l.invariant row c.of-waiting.result
-    (waits l.asks _ _ _ c.of-waiting.ensures c.of-subject.ensures) (c.may_come.ensures.0 c.if-not-may_come.false)
-    c.in-Some.bytes.now after c.in-Some.ensures.cases c.in-Some-unpack.ensures.some c.requires.few))
+    rw (c.make.ensures, c.step_of.ensures, c.count.ensures)
+    (judged-next c.loop-bytes.invariant c.in-Some-unpack.row c.of-waiting.result
+    (rw c.of-subject.ensures at c.of-waiting.ensures) (c.may_come.ensures.0 c.if-not-may_come.false)
+    c.in-Some.bytes.now c.in-Some.after.now c.in-Some.ensures.cases c.in-Some-unpack.ensures.some c.requires.few)
 
 pub returns-then-is_empty-clause-legal : goal.returns-then-is_empty-clause-legal
 returns-then-is_empty-clause-legal g c =

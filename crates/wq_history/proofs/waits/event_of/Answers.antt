@@ -1,12 +1,9 @@
-use Rattle.std.proofs.Common.{ℕ, sym, ap, ◌∙◌}
-use Rattle.wq_history.proofs.Words.{event_in}
 use Rattle.wq_history.proofs.Deeds.{helper-event}
 use Rattle.wq_history.proofs.waits.event_of.Goals as goal
 
 pub returns-then-context-eq0 : goal.returns-then-context-eq0
-returns-then-context-eq0 c = c.rescuer_event.ensures ∙ ap
-    (λ (h : ℕ). event_in c.args.context.now.lane h c.args.deed.now) (sym c.if-context-eq0.true)
+returns-then-context-eq0 c = rw c.if-context-eq0.true c.rescuer_event.ensures
 
 pub returns-else-context-eq0 : goal.returns-else-context-eq0
-returns-else-context-eq0 c = helper-event c.args.context.now.lane c.args.context.now.number c.args.deed.now
-    c.if-context-eq0.false
+returns-else-context-eq0 c =
+    helper-event c.args.context.now.lane c.args.context.now.number c.args.deed.now c.if-context-eq0.false

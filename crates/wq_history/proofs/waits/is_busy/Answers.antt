@@ -1,5 +1,3 @@
-use Rattle.std.proofs.Common.{ℕ, ◌↔◌, subst, IsTrue}
-use Rattle.wq_history.proofs.Words.{lane_at, IsBusyBelow}
 use Rattle.wq_history.proofs.WaitEvents.{busy_below-next}
 use Rattle.wq_history.proofs.waits.is_busy.Goals as goal
 
@@ -7,4 +5,4 @@ pub returns : goal.returns
 returns g c =
     let m = c.args.core.now in
     busy_below-next m.wiring m.state c.args.q c.lane_unfinished_below.result c.next_number.ensures.machine.state
-    (subst (λ (n : ℕ). IsTrue c.lane_unfinished_below.result ↔ IsBusyBelow (lane_at m.state c.args.q) n) c.next_number.ensures.number c.lane_unfinished_below.ensures)
+    (rw (← c.next_number.ensures.number) c.lane_unfinished_below.ensures)

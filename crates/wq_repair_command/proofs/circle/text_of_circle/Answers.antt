@@ -12,13 +12,8 @@ use Rattle.wq_groups.specs.DeclaredGroups.{Declared, IsSound}
 use Rattle.wq_commands.proofs.AnswerLemmas.{ArePrintable}
 use Rattle.wq_commands.proofs.CircleRuns.{IsAssignmentOf-own_lanes}
 use Rattle.wq_commands.proofs.NamedSteps.{step_item-deadlock, length-deadlock}
-use Rattle.wq_repair_command.proofs.Circles.{Deadlocks-needed, ArePrintable-needed}
+use Rattle.wq_repair_command.proofs.Circles.{ArePrintable-needed}
 use Rattle.wq_repair_command.proofs.circle.text_of_circle.Goals as goal
-
-pub run_of_groups-requires : goal.run_of_groups-requires
-run_of_groups-requires g c =
-    let sound : IsSound c.args.declared.now = subst IsSound c.declared.view_is c.declared.invariant in
-    Deadlocks-needed c.args.declared.now sound c.requires.needed.0 c.args.arcs.now c.requires.needed.1
 
 pub circle_text-requires-clause-few : goal.circle_text-requires-clause-few
 circle_text-requires-clause-few g c =
@@ -71,7 +66,8 @@ returns g c =
     let same : c.declared.inside.table ≡ s.table = ap (λ (d : Declared). d.table) c.declared.view_is in
     IfOk-weaker c.circle_text.result _ _ (λ text printed. (
       steps,
-      c.in_ok-steps.ensures,
+      c.in_ok-steps.ensures.run,
+      c.in_ok-steps.ensures.deadlocks,
       printed
           ∙ ap (λ (t : Table). circle_text t.names c.deref.result.now (Some c.as_slice.result.now)) same
           ∙ ap (λ (arcs : List (ℕ × ℕ)). circle_text s.table.names arcs (Some c.as_slice.result.now)) ends

@@ -1,9 +1,8 @@
-use Rattle.std.proofs.Common.{subst}
-use Rattle.wq_history.proofs.Words.{BookView, IsBook}
 use Rattle.wq_history.proofs.Holding.{IsBook-held}
 use Rattle.wq_history.proofs.book.Book.legal.Goals as goal
 
 pub returns : goal.returns
 returns g c =
     let b = c.self.inside in
-    subst (λ (b : BookView). IsBook b) c.self.view_is (IsBook-held b.core b.history.rows b.history.room b.asks b.work b.closed c.self.invariant)
+    rw (← c.self.view_is)
+    (IsBook-held b.core b.history.rows b.history.room b.asks b.work b.closed c.self.invariant)
