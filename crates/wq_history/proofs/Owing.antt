@@ -1,5 +1,5 @@
 -- What callers that wait owe is there until they make that call, so that it isn't refused.
-use Rattle.std.proofs.Common.{◌≡◌, ◌≢◌, ℕ, zero, suc, ◌+◌, ◌<◌, ◌≤◌, ◌⊎◌, inl, inr, Bool, true, false, cond, ◌&&◌}
+use Rattle.std.proofs.Common.{◌≡◌, ◌≢◌, ℕ, zero, suc, ◌+◌, ◌≤◌, ◌⊎◌, inl, inr, Bool, true, false, cond, ◌&&◌}
 use Rattle.std.proofs.Common.{List, [], ◌∷◌, ◌++◌, set, replicate, slice_get, refl, sym, ap, subst, ◌∙◌, arith}
 use Rattle.std.proofs.Common.{Option, Some, None, Result, Ok, Err}
 use Rattle.std.specs.Prelude.{IfErr, option_map}
@@ -7,7 +7,7 @@ use Rattle.std.specs.List.{count_by}
 use Rattle.std.proofs.lemmas.Bool.{eq-eqb}
 use Rattle.std.proofs.lemmas.List.Sums.{sum_by-cons}
 use Rattle.wq_core.proofs.LaneLemmas.{cases_with_lane, lane_at-with_lane_same, same_running, nothing_runs, runs_within}
-use Rattle.wq_core.proofs.Contexts.{cases_run_by, run_by_same, same_run, runs_place, MayStart-first}
+use Rattle.wq_core.proofs.Contexts.{cases_run_by, run_by_same, same_run, runs_place}
 use Rattle.wq_core.proofs.WaitSteps.{step_in-effect}
 use Rattle.wq_core.specs.State.{with_lane}
 use Rattle.wq_core.specs.Rules.{done_by, with_wait, waiting_for}
@@ -17,9 +17,9 @@ use Rattle.wq_history.proofs.Words.{run_by}
 use Rattle.wq_history.proofs.Words.{with_run_by, with_cancelled, with_queued, RunsIn, MayDo, effect, step_in, wait_deed}
 use Rattle.wq_history.proofs.Words.{over_deed, Event, QueueEvent, CancelEvent, Row, step_of, event_in, ask_event}
 use Rattle.wq_history.proofs.Words.{told_event, wait_event, begins_to_wait, ends_a_wait, Subject, OfItem, OfLane}
-use Rattle.wq_history.proofs.Words.{asks_waiting, state_after, IsLegal, MayCome, BookView, state, IsBook, IsWaiting}
+use Rattle.wq_history.proofs.Words.{asks_waiting, IsLegal, BookView, state, IsBook}
 use Rattle.wq_history.proofs.Words.{WaitsFor, Flush, Call, Queue, Cancel, Ask, Told, CancelSync, Start, Wait, Over}
-use Rattle.wq_history.proofs.Words.{Finish, Close, Drain, Reply, Wrote, WroteTwo, Done, NotYet, CallError, WrongLane}
+use Rattle.wq_history.proofs.Words.{Finish, Close, Reply, Wrote, WroteTwo, Done, NotYet, CallError, WrongLane}
 use Rattle.wq_history.proofs.Words.{Refuses, Writes, after, Replies, Answers}
 use Rattle.wq_history.specs.Events.{is_subject}
 use Rattle.wq_history.specs.Owing.{owed_if, owed_by, EndsAWait, IsItsTurn, Made, Plays, owes_told, AreOwed}
