@@ -106,20 +106,31 @@ impl<N: Naming> Next<N> {
     }
 
     /// That there is none.
-    pub fn end(&self) -> Ended
+    pub fn end(&self) -> Ended<N>
         requires { self.now.item ≡ None }
-        ensures { result.context ≡ self.now.context }
+        ensures { result ≡ self.now.context }
     {
         Ended {
             context: self.context,
+            of: PhantomData,
         }
     }
 }
 
-/// That a context was given nothing to start, since its workqueue had ended. Only `Next::end` makes one.
-#[derive(Clone, Copy, Debug, PartialEq, Eq)]
-pub struct Ended {
+/// That a context was given nothing to start, since its workqueue had ended. Only `Next::end` makes one. Contracts see
+/// the context.
+#[derive(Drop)]
+pub struct Ended<N: Naming> {
     context: Context,
+    of: PhantomData<N>,
+}
+
+impl<N: Naming> Model for Ended<N> {
+    ghost use Rattle.wq_core.specs.declared.step.Context.{Context as Seen};
+
+    ghost Value = { Seen };
+
+    ghost view = { λ e. e.context };
 }
 
 /// That no seat was made. Contracts see why.

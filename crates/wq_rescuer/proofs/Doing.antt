@@ -3,7 +3,7 @@ use Rattle.std.proofs.Common.{◌≡◌, ℕ, zero, suc, List, [], ◌∷◌, �
 use Rattle.std.specs.Prelude.{Some, Result, slice_get}
 use Rattle.std.proofs.lemmas.List.{append-nil, append_assoc, length-map, map-append, reverse-append, reverse-reverse}
 use Rattle.wq_history.specs.declared.fault.CallError.{CallError}
-use Rattle.wq_rescuer.specs.declared.rescuing.Rescued.{Rescued}
+use Rattle.wq_rescuer.specs.Rescued.{Rescued}
 use Rattle.wq_rescuer.specs.Serving.{AreDone, HaveCalled, HaveServed}
 use Rattle.wq_rescuer.proofs.Handovers.{some_same}
 

@@ -11,13 +11,12 @@ use Rattle.wq_history.specs.declared.call.Reply.TheVariants.{Done}
 use Rattle.wq_history.specs.declared.fault.CallError.{CallError}
 use Rattle.wq_history.specs.declared.fault.CallError.TheVariants.{HistoryFull, Closed, WrongLane, NoItem}
 use Rattle.wq_history.specs.Errors.{call_code}
-use Rattle.wq_held.specs.declared.receipts.Ended.{Ended}
 use Rattle.wq_held.specs.Locked.{IsOnLane, SeatHasRoom, seat_rows, slots}
 use Rattle.wq_api.specs.WaitingCalls.{IsHelper}
 use Rattle.wq_api.specs.Locking.{WasWrongToStartIn}
 use Rattle.wq_api.specs.Taking.{context_of, IsAnswered}
 use Rattle.wq_rescuer.specs.declared.body.BodyFault.{BodyFault}
-use Rattle.wq_rescuer.specs.declared.rescuing.Rescued.{Rescued}
+use Rattle.wq_rescuer.specs.Rescued.{Rescued}
 
 -- ---- what a body runs: how often each item ran
 
@@ -119,9 +118,9 @@ Executes may old new (Ok rescued) = HasExecuted may old new rescued.finished res
 Executes may old new (Err e) = HasStopped may old new
 
 -- context c of lane q was given nothing to start, as this shows: its lane had ended
-abbrev pub HasEnded : Wiring → ℕ → ℕ → ℕ → Ended → Type 0
+abbrev pub HasEnded : Wiring → ℕ → ℕ → ℕ → Context → Type 0
 HasEnded w rows q c ended =
-    (ended.context ≡ context_of q c) × IsAnswered w rows (Start (context_of q c)) (Ok Done)
+    (ended ≡ context_of q c) × IsAnswered w rows (Start (context_of q c)) (Ok Done)
 
 -- ---- refusals
 

@@ -1,3 +1,4 @@
+pub mod Rescued
 pub mod Executing
 pub mod Contexts
 pub mod Serving

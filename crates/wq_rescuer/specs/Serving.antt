@@ -9,7 +9,7 @@ use Rattle.wq_counts.specs.Counting.{counts_each}
 use Rattle.wq_history.specs.declared.fault.CallError.{CallError}
 use Rattle.wq_held.specs.declared.fault.SeatError.TheVariants.{TooManySeats as NoSeatLeft}
 use Rattle.wq_api.specs.Taking.{IsSeated}
-use Rattle.wq_rescuer.specs.declared.rescuing.Rescued.{Rescued}
+use Rattle.wq_rescuer.specs.Rescued.{Rescued}
 use Rattle.wq_rescuer.specs.declared.running.RunWhy.{RunWhy}
 use Rattle.wq_rescuer.specs.declared.running.RunWhy.TheVariants.{BodiesDiffer, TooManySeats, OutOfMemory, NoThread}
 use Rattle.wq_rescuer.specs.Executing.{RanOnly, RefusesServe, finished_of, finished_in_all}

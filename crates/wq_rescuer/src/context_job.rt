@@ -34,7 +34,7 @@ pub(crate) struct ContextEnd<N: Naming, A: Allocator, B: Body + Drop> {
     pub(crate) context: Context,
     pub(crate) seat: Seat<N, A>,
     pub(crate) body: B,
-    pub(crate) rescued: Result<Rescued, CallError>,
+    pub(crate) rescued: Result<Rescued<N>, CallError>,
     ghost served: { IsServed N.wiring context seat (B.runs body) rescued },
 }
 

@@ -27,12 +27,12 @@ pub(crate) struct Back<N: Naming, A: Allocator, B: Body + Drop, C: Caller + Drop
     pub(crate) seats: Vec<Seat<N, A>, A>,
     pub(crate) bodies: Vec<B, A>,
     pub(crate) callers: Vec<C, A>,
-    pub(crate) rescued: Vec<Result<Rescued, CallError>, A>,
+    pub(crate) rescued: Vec<Result<Rescued<N>, CallError>, A>,
     pub(crate) results: Vec<Result<(), CallError>, A>,
 }
 
 /// How many executions a context finished, counted as 0 if it was refused.
-fn count_finished(answer: &Result<Rescued, CallError>) -> u64
+fn count_finished<N: Naming>(answer: &Result<Rescued<N>, CallError>) -> u64
     ensures count { result ≡ finished_by answer.now }
     ensures few { result < 4294967296 }
 {
@@ -43,7 +43,7 @@ fn count_finished(answer: &Result<Rescued, CallError>) -> u64
 }
 
 /// How many of these executions ended with a fault, counted as 0 if the context was refused.
-fn count_faults(answer: &Result<Rescued, CallError>) -> u64
+fn count_faults<N: Naming>(answer: &Result<Rescued<N>, CallError>) -> u64
     ensures count { result ≡ faults_by answer.now }
     ensures few { result < 4294967296 }
 {
@@ -58,7 +58,7 @@ fn count_faults(answer: &Result<Rescued, CallError>) -> u64
 struct Served<N: Naming, A: Allocator, B: Body + Drop> {
     seats: Vec<Seat<N, A>, A>,
     bodies: Vec<B, A>,
-    rescued: Vec<Result<Rescued, CallError>, A>,
+    rescued: Vec<Result<Rescued<N>, CallError>, A>,
     finished: u64,
     faults: u64,
 }
@@ -69,7 +69,7 @@ fn gather_contexts<N: Naming, A: Allocator, B: Body + Drop>(
     mut ends: Vec<ContextEnd<N, A, B>, A>,
     mut seats: Vec<Seat<N, A>, A>,
     mut bodies: Vec<B, A>,
-    mut rescued: Vec<Result<Rescued, CallError>, A>,
+    mut rescued: Vec<Result<Rescued<N>, CallError>, A>,
 ) -> Served<N, A, B>
     requires few { vec_len ends ≤ 65536 }
     requires in_order { map (λ end. end.context) ends.items ≡ reverse (contexts_of N.wiring) }

@@ -19,20 +19,29 @@ ghost use Rattle.wq_rescuer.specs.Executing.{RefusesRescue, RefusesServe, Refuse
 use crate::body::{Body, BodyFault};
 use crate::work::Work;
 use std::alloc::Allocator;
+use std::marker::Model;
 use std::sync::Wait;
 use wq_api::{CallError, Context, Ended, Naming, Next, Seat, WqRuntime};
 use wq_groups::LaneId;
 use wq_items::ItemId;
 
 /// What a rescuer or a helper did, until its workqueue had ended.
-#[derive(Clone, Copy, Debug, PartialEq, Eq)]
-pub struct Rescued {
+#[derive(Drop)]
+pub struct Rescued<N: Naming> {
     /// How many executions it finished.
     pub finished: u32,
     /// How many of them ended with a fault of the body.
     pub faults: u32,
     /// That it was given nothing more to start.
-    pub ended: Ended,
+    pub ended: Ended<N>,
+}
+
+impl<N: Naming> Model for Rescued<N> {
+    ghost use Rattle.wq_rescuer.specs.Rescued.{Rescued};
+
+    ghost Value = { Rescued };
+
+    ghost view = { λ r. record { finished = r.finished; faults = r.faults; ended = r.ended } };
 }
 
 /// What it did so far.
@@ -107,7 +116,7 @@ pub fn serve<N: Naming, A: Allocator, R: Wait, B: Body>(
     helper: u8,
     seat: &mut Seat<N, A>,
     body: &mut B,
-) -> Result<Rescued, CallError>
+) -> Result<Rescued<N>, CallError>
     requires width { items N.wiring ≤ B.width body.old }
     requires never_ran { NeverRan (B.runs body.old) }
     ensures ran { OnOk result (CountsRuns seat.old seat.new (B.runs body.new)) }
@@ -173,7 +182,7 @@ pub fn rescue<N: Naming, A: Allocator, R: Wait, B: Body>(
     q: LaneId,
     seat: &mut Seat<N, A>,
     body: &mut B,
-) -> Result<Rescued, CallError>
+) -> Result<Rescued<N>, CallError>
     requires width { items N.wiring ≤ B.width body.old }
     requires never_ran { NeverRan (B.runs body.old) }
     ensures ran { OnOk result (CountsRuns seat.old seat.new (B.runs body.new)) }
@@ -207,7 +216,7 @@ pub fn help<N: Naming, A: Allocator, R: Wait, B: Body>(
     h: u8,
     seat: &mut Seat<N, A>,
     body: &mut B,
-) -> Result<Rescued, CallError>
+) -> Result<Rescued<N>, CallError>
     requires width { items N.wiring ≤ B.width body.old }
     requires never_ran { NeverRan (B.runs body.old) }
     ensures ran { OnOk result (CountsRuns seat.old seat.new (B.runs body.new)) }

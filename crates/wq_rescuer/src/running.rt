@@ -72,7 +72,7 @@ pub struct Ran<N: Naming, A: Allocator, B: Body + Drop, C: Caller + Drop> {
     /// What the callers answered, in order.
     pub results: Vec<Result<(), CallError>, A>,
     /// What the contexts answered, in the same order.
-    pub rescued: Vec<Result<Rescued, CallError>, A>,
+    pub rescued: Vec<Result<Rescued<N>, CallError>, A>,
     /// How many executions were finished, by the contexts that weren't refused.
     pub finished: u64,
     /// How many of these executions ended with a fault.

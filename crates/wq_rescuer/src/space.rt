@@ -32,7 +32,7 @@ pub(crate) struct Space<N: Naming, A: Allocator, B: Body + Drop, C: Caller + Dro
     pub(crate) contexts: Vec<Context, A>,
     pub(crate) board: Board<N, A, B, C>,
     pub(crate) seats: Vec<Seat<N, A>, A>,
-    pub(crate) rescued: Vec<Result<Rescued, CallError>, A>,
+    pub(crate) rescued: Vec<Result<Rescued<N>, CallError>, A>,
     pub(crate) results: Vec<Result<(), CallError>, A>,
 }
 

@@ -23,7 +23,7 @@ use Rattle.wq_held.specs.Locked.{slots}
 use Rattle.wq_held.proofs.Locking.{items_within_slots}
 use Rattle.wq_api.specs.WaitingCalls.{flushed}
 use Rattle.wq_rescuer.specs.declared.body.BodyFault.{BodyFault}
-use Rattle.wq_rescuer.specs.declared.rescuing.Rescued.{Rescued}
+use Rattle.wq_rescuer.specs.Rescued.{Rescued}
 use Rattle.wq_rescuer.specs.Executing.{Execution, AreExecuted, Executes, no_counts}
 use Rattle.wq_rescuer.specs.Serving.{HaveServed}
 use Rattle.wq_script.specs.declared.acting.Act.TheVariants.{Queue, Flush}

@@ -18,7 +18,7 @@ use Rattle.wq_held.specs.Locked.{max_runtime_lanes}
 use Rattle.wq_held.specs.Errors.{new_code}
 use Rattle.wq_held.specs.Making.{RefusesRuntime}
 use Rattle.wq_held.specs.Closing.{IsClosed, Agrees}
-use Rattle.wq_rescuer.specs.declared.rescuing.Rescued.{Rescued}
+use Rattle.wq_rescuer.specs.Rescued.{Rescued}
 use Rattle.wq_rescuer.specs.Contexts.{contexts_of}
 use Rattle.wq_rescuer.specs.Serving.{IsRan}
 use Rattle.wq_script.specs.Crews.{shared_by_two}

@@ -12,7 +12,7 @@ use Rattle.wq_history.specs.Book.{BookView}
 use Rattle.wq_history.specs.declared.fault.CallError.{CallError}
 use Rattle.wq_held.specs.Locked.{max_runtime_lanes}
 use Rattle.wq_held.specs.Closing.{IsClosed}
-use Rattle.wq_rescuer.specs.declared.rescuing.Rescued.{Rescued}
+use Rattle.wq_rescuer.specs.Rescued.{Rescued}
 use Rattle.wq_rescuer.specs.Executing.{no_counts}
 use Rattle.wq_rescuer.specs.Contexts.{contexts_of}
 use Rattle.wq_rescuer.specs.Serving.{IsRan}

@@ -40,10 +40,10 @@ impl Shown for ScriptCaller<Global> {
 }
 
 /// Adds what a context answered.
-fn put_rescued(
+fn put_rescued<N: Naming>(
     out: &mut String,
     context: &Context,
-    rescued: &Result<Rescued, CallError>,
+    rescued: &Result<Rescued<N>, CallError>,
 ) -> Result<(), AllocError> {
     put_context(out, context)?;
     match rescued {
@@ -57,10 +57,10 @@ fn put_rescued(
 }
 
 /// Adds what the contexts answered, lane by lane: the rescuer, then its helpers.
-pub fn put_contexts(
+pub fn put_contexts<N: Naming>(
     out: &mut String,
     contexts: &[Context],
-    rescued: &[Result<Rescued, CallError>],
+    rescued: &[Result<Rescued<N>, CallError>],
 ) -> Result<(), AllocError> {
     for (context, rescued) in contexts.iter().zip(rescued.iter()) {
         put_rescued(out, context, rescued)?;
