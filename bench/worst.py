@@ -438,6 +438,34 @@ def repairs():
     yield "one waits for 1,023, and as many for it, one workqueue", declaration(ITEMS, one_between(1_023)), one(), []
 
 
+def torus():
+    """Items on a torus of 64 times 64, each of which flushes four of those around it."""
+    return [(i, (i + step) % ITEMS) for i in range(ITEMS) for step in (1, 63, 64, 65)]
+
+
+def behind_pairs():
+    """Of two items on each of 2,048 workqueues the first flushes the second one of each of the next eight."""
+    return [(2 * q, 2 * ((q + step) % HALF) + 1) for q in range(HALF) for step in range(1, 9)]
+
+
+def pairs_of_items():
+    return "".join(f"wq {q} {short(2 * q)} {short(2 * q + 1)}\n" for q in range(HALF))
+
+
+def held():
+    """Of each a name, the declaration, the assignment, and the items that must go on."""
+    yield "a torus, own workqueues", declaration(ITEMS, torus()), own(), ["0"]
+    yield "a torus, own workqueues, all unsure", made_unsure(declaration(ITEMS, torus()), UNSURE["all unsure"]), own(), ["0"]
+    yield "four flushes on, around", declaration(ITEMS, around()), own(), ["0"]
+    yield "random flushes on, around", declaration(ITEMS, across(), words=["flush", "flushwq"]), own(), ["0"]
+    yield "flushes of the next 512, 2,048 workqueues", declaration(ITEMS, near(512)), in_turn(2_048), ["0"]
+    yield "one is behind another on each of 2,048 workqueues", declaration(ITEMS, behind_pairs()), pairs_of_items(), ["0"]
+    yield "one is behind another on each of 2,048 workqueues, and such a one NAMEd", declaration(ITEMS, behind_pairs()), pairs_of_items(), ["1"]
+    yield "layers, 64 workqueues, every other without a rescuer", declaration(ITEMS, layers()), in_turn_with_bare(64, 2), ["0"]
+    yield "a chain, one workqueue", declaration(ITEMS, chain()), one(), [short(LAST)]
+    yield "a chain, own workqueues, all of them", declaration(ITEMS, chain()), own(), [short(i) for i in range(ITEMS)]
+
+
 COLLIDING = "names that collide for the seed 0"
 
 
@@ -521,6 +549,13 @@ def cases(program, folder, write, most_run=MOST_CERTIFICATE):
             yield "replay", name, [path, queues, write(run)]
     for name, text, assignment, names in repairs():
         yield "repair", name, [write(text), write(assignment), *names]
+    for name, text, assignment, names in held():
+        path, queues = write(text), write(assignment)
+        for command in "hang", "circles":
+            yield command, f"{name}, with NAMEs", [path, queues, *names]
+        run = program.answer("hang", folder, path, queues, *names)
+        if run.startswith(("run", "unsure")):
+            yield "replay", f"{name}, with NAMEs", [path, queues, write(run), *names]
     for name, text in texts():
         path = write(text)
         yield "plan", name, [path]

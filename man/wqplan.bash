@@ -80,8 +80,8 @@ _wqplan() {
             codes+=' TooManyItems TooManyFlushes GroupedTwice ExtraWord BadCertLine NotAllItems GroupSplit'
             codes+=' NumberOutOfRange NotFalling ChainBroken LengthDiffers CircleBroken RunBroken TooManyLanes read'
             codes+=" memory thread tally write plan wq chain arc circle run unsure yes no 'not lawful' deadlock stuck"
-            codes+=' open safe components arc? norescuer workqueues refused fault item flush flushwq flush? flushwq?'
-            codes+=' ordered'
+            codes+=' open safe components arc? norescuer ways workqueues refused fault item flush flushwq flush?'
+            codes+=' flushwq? ordered'
             mapfile -t COMPREPLY < <(compgen -W "$codes" -- "$word")
             # The blank of `not lawful` belongs to the word.
             COMPREPLY=("${COMPREPLY[@]// /\\ }")
@@ -98,7 +98,7 @@ _wqplan() {
             files=2
             ;;
         plan) files=1 ;;
-        check | deadlock | hang | circles | dot) files=2 ;;
+        check | deadlock | hang | repair | circles | dot) files=2 ;;
         replay) files=3 ;;
         *) return ;;
     esac

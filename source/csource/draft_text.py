@@ -136,6 +136,7 @@ class Printer:
         self.print_lines()
         self.print_open()
         self.print_without_rescuer()
+        self.print_named()
         self.print_unknown()
         self.print_beside()
         self.print_cancels()
@@ -351,6 +352,27 @@ class Printer:
     def is_without_rescuer(self, item: Item) -> bool:
         has_rescuer = self.program.workqueues.has_rescuer
         return bool(item.workqueues) and all(has_rescuer(workqueue) is False for workqueue in item.workqueues)
+
+    def print_named(self) -> None:
+        """The items to NAME behind `wqplan hang`: those on a workqueue with a rescuer, if an item there may wait."""
+        open_sites = self.draft.open.values()
+        waiting = {line.item for line in self.draft.lines} | {function for one in open_sites for function in one.ways}
+        has_rescuer = self.program.workqueues.has_rescuer
+        with_waits = {
+            workqueue
+            for function in waiting
+            for workqueue in self.program.item(function).workqueues
+            if has_rescuer(workqueue)
+        }
+        names = [item.name for item in self.draft.all_items() if with_waits & set(item.workqueues)]
+        if names:
+            self.write()
+            says.note(
+                self.to,
+                "If memory reclaim waits until one of these has run, NAME it behind `wqplan hang`: they are on workqueues "
+                f"with a rescuer where an item may wait: {', '.join(names)}. Better still, declare the thread that waits "
+                "there, as `item writeback  # thread: ..` with its flushes, and NAME that.",
+            )
 
     # What isn't known
 

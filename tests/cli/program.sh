@@ -622,9 +622,9 @@ while read -r form; do
     done
 done < <(python3 -B "$root/tests/lib/commands.py" forms)
 for command in "${!longest[@]}"; do
-    # Each file is an argument of its own. Behind those of `repair` a word is a NAME, here of no item.
+    # Each file is an argument of its own. Behind those of some commands a word is a NAME, here of no item.
     answer=
-    [ "$command" != repair ] || answer='refused 8 line 0\n'
+    grep -qF "$command " <<<'hang repair replay circles ' && answer='refused 8 line 0\n'
     run "$command" ${longest[$command]} more </dev/null
     check "$command ${longest[$command]}: one file more" 2 "$answer" some
 done

@@ -15,6 +15,7 @@ import re
 
 import drawings
 import hangs
+import named
 import prefixes
 import programs
 import pytest
@@ -61,6 +62,14 @@ def rows_by_hand():
         yield row("unsure lines: repair", "repair", [text, assignment], answer, behind=words.split())
     for *texts, answers in drawings.SEVERAL:
         yield row("drawings of which several are right", "dot", texts, *answers)
+    for *texts, asked in named.HELD:
+        yield from (row("NAMEs of hang", "hang", texts, *answers, behind=words.split()) for words, answers in asked)
+    for text, assignment, words, answer in named.LONG:
+        yield row("NAMEs of hang, the longest", "hang", [text, assignment], answer, behind=words.split(), is_long=True)
+    for *texts, asked in named.REPLAYS:
+        yield from (row("NAMEs of replay", "replay", texts, answer, behind=words.split()) for words, answer in asked)
+    for *texts, asked in named.CIRCLES:
+        yield from (row("NAMEs of circles", "circles", texts, answer, behind=words.split()) for words, answer in asked)
     for text, assignment, words, answer in repairs.ROWS:
         yield row("repairs", "repair", [text, assignment], answer, behind=words)
     for text, answer in runs.LIMITS:
@@ -79,6 +88,10 @@ def rows_made():
                 yield row("hangs that are replayed", "replay", [text, assignment, run], end)
                 shorter = run_of(run.split(" / ")[1:-1])
                 yield row("hangs without their last step", "replay", [text, assignment, shorter], "open")
+    for *texts, asked in named.HELD:
+        for words, answers in asked:
+            for answer in answers:
+                yield from replays_for_names(texts, words.split(), answer)
     for *texts, answers in unsure.HANGS:
         for answer in answers:
             if answer != "safe":
@@ -88,6 +101,14 @@ def rows_made():
             yield row("plans that are run with helpers", "run", [text], answer, behind=[helpers])
     for command, texts, fronts in prefixes.PREFIXES:
         yield from front_rows(command, [text_of(text) for text in texts], fronts)
+
+
+def replays_for_names(texts, names, answer):
+    """The rows of a run of `hang` with NAMEs, given back: it ends stuck for these, and not without its last step."""
+    if answer != "safe" and not answer.startswith("refused"):
+        yield row("runs for NAMEs that are replayed", "replay", [*texts, answer], "deadlock", "stuck", behind=names)
+        before, run = answer.rsplit("run ", 1)
+        yield row("runs for NAMEs without their last step", "replay", [*texts, before + run_of(run.split(" / ")[1:-1])], "open", behind=names)
 
 
 def step_rows(texts, answer, steps):
@@ -129,6 +150,11 @@ def own_workqueues(declaration):
     return b"".join(b"wq %d %s\n" % (q, b" ".join(groups[item])) for q, item in enumerate(first))
 
 
+def names_of(given):
+    """The NAMEs behind the files of a row."""
+    return [word for word in given.words[1:] if isinstance(word, str) and given.words[0] != "run"]
+
+
 def rows_that_follow(rows):
     """What must be said of the plans, the circles and the runs that are printed."""
     for given in rows:
@@ -145,7 +171,7 @@ def rows_that_follow(rows):
         elif word in (b"wq", b"norescuer"):
             yield row("repairs that are safe", "deadlock", [texts[0], answer], "safe")
             yield row("repairs that need no repair", "repair", [texts[0], answer], answer)
-        elif word == b"run" and given.words[0] != "repair" or word == b"unsure" and given.words[0] == "deadlock":
+        elif word == b"run" and given.words[0] != "repair" and not names_of(given) or word == b"unsure" and given.words[0] == "deadlock":
             yield row("runs that are printed", "replay", texts + [answer], "deadlock")
 
 
@@ -193,5 +219,6 @@ def test_row(program, tmp_path_factory, same, given):
     printed = found.printed.partition(b"\n")[0] + b"\n" if given.is_long else found.printed
     wanted = printed if printed in given.answers else given.answers[0]
     same(asked, b"%swith status %d" % (wanted, given.status), b"%swith status %s" % (printed, str(found.status).encode()))
-    belongs = bool(found.errors) if given.complains else fits(found.printed, found.errors, places, given.words[0])
+    names = names_of(given)
+    belongs = bool(found.errors) if given.complains else fits(found.printed, found.errors, places, given.words[0], names)
     assert belongs, f"{asked}\n{found.printed.decode()}this doesn't belong on standard error:\n{found.errors.decode()}"

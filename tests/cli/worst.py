@@ -66,6 +66,9 @@ CASES = {
     ("hang", "random flushes with circles, own workqueues, every second unsure"),
     ("hang", "16,384 flushes lead to no rescuer, 2,048 workqueues without a rescuer, all unsure"),
     ("hang", "a chain, one workqueue, one unsure"),
+    ("hang", "one is behind another on each of 2,048 workqueues, and such a one NAMEd, with NAMEs"),
+    ("hang", "flushes of the next 512, 2,048 workqueues, with NAMEs"),
+    ("circles", "layers, 64 workqueues, every other without a rescuer, with NAMEs"),
 } | REFUSED
 
 

@@ -433,8 +433,8 @@ def completion(numbers, faults, words, directives, commands):
     counts = {}
     for row in commands:
         needed, others = arguments_of(row)
-        # (what has another argument, too, is written by hand)
-        if len(needed + others) == len(row["arguments"].split()):
+        # (a NAME is no file; what has yet another argument is written by hand)
+        if len(needed + others) == len(row["arguments"].replace("[NAME..]", "").split()):
             counts.setdefault(len(needed + others), []).append(row["command"])
     made = "".join(f"        {' | '.join(counts[count])}) files={count} ;;\n" for count in sorted(counts))
     parts.replace(r"^(?:        [a-z |]+\) files=\d ;;\n)+", made)
@@ -526,6 +526,8 @@ def commands_source(commands):
         method("about", "What help says of it.", "&'a str", "", [(verb(row), f'"{row["help"]}"') for row in commands], "<'a>"),
         method("assignment", "What help says of its assignment.", "&'a str", "",
                [(verb(row), f'"{row["assign"]}"' if "assign" in row else "help::ASSIGN") for row in commands], "<'a>"),
+        method("items", "What help says of its names.", "&'a str", "",
+               [(verb(row), f'"{row["names"]}"' if "names" in row else "help::NAME") for row in commands], "<'a>"),
         method("statuses", "What long help says of its exit statuses.", "&'a str", "",
                [(verb(row), f"statuses::{row['command'].upper()}") for row in commands], "<'a>"),
     ]
@@ -725,6 +727,8 @@ def messages_specs():
 # Where pages and tests show messages.
 SHOW_MESSAGES = ["README.md", "docs/*.md", "examples/*.md", "crates/test_cases/src", "tests/cli", "tests/DIAGNOSES.md",
                  "man/wqplan.1"]
+# What has messages by hand, to tell if they change, and so isn't changed with them.
+BY_HAND = [":!tests/cli/test_messages.py"]
 
 
 def reworded(made):
@@ -738,7 +742,7 @@ def reworded(made):
     if all(old.get(name, words) == words for name, words in new.items()):
         return []
     there = {parts.path: parts for parts in made}
-    listed = subprocess.run(["git", "ls-files", "--", *SHOW_MESSAGES], cwd=ROOT, stdout=subprocess.PIPE, text=True, check=True, timeout=60).stdout
+    listed = subprocess.run(["git", "ls-files", "--", *SHOW_MESSAGES, *BY_HAND], cwd=ROOT, stdout=subprocess.PIPE, text=True, check=True, timeout=60).stdout
     found = [there.get(ROOT / path) or Parts(path) for path in listed.splitlines()]
     return [parts for parts in found if parts.say_anew(lambda text: messages.reworded(text, old, new)) and parts.path not in there]
 

@@ -219,7 +219,21 @@ def is_of(file, form, errors):
     return errors.startswith(front) and form.fullmatch(errors, len(front)) is not None
 
 
-def belongs(printed, errors, files, command=None):
+def beside_names(printed, files, command):
+    """The form of what is said beside an answer that isn't a refusal, where items are NAMEd that must go on: by blocks who is held up, or
+    the notes beside `safe`. tests/model/reasons_for.py has the words.
+    """
+    files = [re.escape(shown(file)) for file in files]
+    note = b"(?:%s|%s): note: [ -~]+\n" % (files[0], files[1])
+    if printed == b"safe\n":
+        return b"(?:%s)*" % note
+    if printed.split(None, 1)[0] in (b"run", b"unsure", b"components", b"deadlock", b"stuck"):
+        head = b"(?:%s|%s):%s:%s: [ -~]+\n" % (files[0], files[1], NUMBER, NUMBER)
+        return b"(?:%s%s)+(?:%s)*" % (head, NO_HINT, note)
+    return b""
+
+
+def belongs(printed, errors, files, command=None, names=()):
     """Whether this belongs on standard error beside the answer: the diagnosis of one of these files, a note on the first, reasons of
     hangs, or nothing.
     """
@@ -233,14 +247,16 @@ def belongs(printed, errors, files, command=None):
         return any(is_of(file, diagnosis(*found), errors) for file in files)
     if MAY_BE_NO_ITEM.fullmatch(printed) and errors == note(files[0]):
         return True
+    if names and command != "repair":
+        return re.fullmatch(beside_names(printed, files, command), errors) is not None
     return re.fullmatch(said_beside(printed, files, command), errors) is not None
 
 
-def fits(printed, errors, places, command):
+def fits(printed, errors, places, command, names=()):
     """Whether this belongs on standard error beside the answer of a command to the files at these places, or without one to standard
     input.
     """
-    return belongs(printed, errors, meant(printed, [os.fsencode(place) for place in places] or [STDIN]), command)
+    return belongs(printed, errors, meant(printed, [os.fsencode(place) for place in places] or [STDIN]), command, names)
 
 
 def main(arguments):

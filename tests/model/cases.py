@@ -4,6 +4,7 @@ A command has cases at the limits of docs/FORMAT.md and at each place of small t
 same. Of two random ones the second has unsure lines, mostly (make_unsure.py).
 """
 
+import random
 import re
 
 import make_assignments
@@ -14,6 +15,7 @@ import make_hangs
 import make_repairs
 import make_unsure
 from commands import TEXTS_OF
+from declaration import is_name
 from models import ANSWERS
 from records import records
 
@@ -80,6 +82,7 @@ def hanging_in_part(leading, work):
 # Of a command, where `like_others` isn't enough: the cases at the limits, the random ones by a seed and their number, and the kinds
 # of answer, each with its exit status and its form. In a form N is a number, Z one or more names, A is an `arc` line, U a line of an
 # unsure part, and S is a step of a run that is printed, and Y one of those that `hang` prints.
+NO_ITEM = ("names of no item", 2, r"refused 8 line 0\n")
 COMMANDS = {
     "plan": (
         lambda: [(what, [text]) for what, text in make_declarations.limit_cases()],
@@ -100,7 +103,7 @@ COMMANDS = {
         make_certificates.limit_replay_cases,
         make_certificates.random_replay_case,
         [("open", 0, r"open\n"), ("stuck", 1, r"stuck\n"), ("deadlock", 1, r"deadlock\n"),
-         ("not lawful", 1, r"not lawful N\n")]
+         ("not lawful", 1, r"not lawful N\n"), NO_ITEM]
         + CERTIFICATE_REFUSALS,
     ),
     "deadlock": (
@@ -112,7 +115,7 @@ COMMANDS = {
     "hang": (
         make_hangs.limit_hang_cases,
         make_hangs.random_hang_case,
-        [("safe", 0, r"safe\n")] + [(f"runs of {steps}", 1, rf"run {steps}\nY+") for steps in (3, 4, 6)]
+        [("safe", 0, r"safe\n"), NO_ITEM] + [(f"runs of {steps}", 1, rf"run {steps}\nY+") for steps in (1, 3, 4, 5, 6)]
         + [("longer runs", 1, r"run N\nY+")]
         + [(f"unsure {count}", 1, rf"unsure ({count})\nU*run N\nY+") for count in ("0", "1", "[2-9]|[1-9][0-9]+")] + CERTIFICATE_REFUSALS,
     ),
@@ -120,7 +123,7 @@ COMMANDS = {
         make_repairs.limit_repair_cases,
         make_repairs.random_repair_case,
         [("all with a rescuer", 0, rf"(wq N( Z)?{CALLED}\n)*"), ("some without", 0, rf"((wq|norescuer) N( Z)?{CALLED}\n)+"),
-         ("circles", 1, r"circle N\nA+run N\nS+"), ("runs", 1, r"run N\nS+"), ("names of no item", 2, r"refused 8 line 0\n")]
+         ("circles", 1, r"circle N\nA+run N\nS+"), ("runs", 1, r"run N\nS+"), NO_ITEM]
         + CERTIFICATE_REFUSALS,
     ),
     "circles": (
@@ -130,7 +133,9 @@ COMMANDS = {
          ("components", 1, r"components N\n(component N\nA+)+"),
          ("no rescuer", 1, r"components 0\nnorescuer N\nA+"),
          ("components and no rescuer", 1, r"components N\n(component N\nA+)+norescuer N\nA+"),
-         ("unsure arcs", 1, r"components N\n(component N\nO+)*(norescuer N\nO+)?")]
+         ("NAMEs without a rescuer", 1, r"components 0\n"), NO_ITEM,
+         ("unsure arcs", 1, r"components N\n(component N\nO+)*(norescuer N\nO+)?"),
+         ("ways", 1, r"components N\n(component N\nO+)*(norescuer N\nO+)?ways N\nO+")]
         + DECLARATION_REFUSALS + CERTIFICATE_REFUSALS[1:],
     ),
     "dot": (
@@ -195,9 +200,9 @@ def kind_of(command, answer):
     return None
 
 
-def cases(command, seed, count, most=None, sure=False):
+def cases(command, seed, count, most=None, sure=False, names=False):
     """The cases of a command: those at the limits, if their texts have fewer bytes than `most`, and so many random ones. None has an unsure
-    line if `sure`.
+    line if `sure`; if `names`, every third of a command whose NAMEs must go on has some.
     """
     limit_cases, random_case, _ = COMMANDS[command]
     at_limits = [texts for _, texts in limit_cases()]
@@ -206,4 +211,21 @@ def cases(command, seed, count, most=None, sure=False):
     yield from (texts for texts in at_limits if most is None or sum(map(len, texts)) < most)
     for number in range(count):
         texts = random_case(seed, number)
-        yield texts if sure or number % 2 == 0 else make_unsure.unsure_case(command, seed, number, texts)
+        texts = texts if sure or number % 2 == 0 else make_unsure.unsure_case(command, seed, number, texts)
+        yield with_names(command, seed, number, texts) if names and command in MUST_GO_ON and number % 3 == 0 else texts
+
+
+# The commands whose NAMEs are items that must go on.
+MUST_GO_ON = ("hang", "replay", "circles")
+
+
+def with_names(command, seed, number, texts):
+    """A case of such a command, with NAMEs behind its texts: mostly one or two."""
+    choose = random.Random(f"{seed} names {command} {number}")
+    if len(texts) < len(TEXTS_OF[command]):
+        return texts
+    words = texts[0].replace(b"#", b" ").split()
+    names = list(dict.fromkeys(name for word, name in zip(words, words[1:]) if word == b"item" and is_name(name)))
+    if not names or choose.random() < 0.03:
+        return [*texts, choose.choice(make_repairs.UNKNOWN)]
+    return [*texts, *choose.choices(names, k=choose.choice([1, 1, 1, 2, 2, 3, len(names)]))]

@@ -1,4 +1,4 @@
-"""A model of `wqplan circles DECL [ASSIGN]`.
+"""A model of `wqplan circles DECL [ASSIGN] [NAME..]`.
 
 It prints all flushes that lie on a circle or lead to no rescuer, as docs/FORMAT.md asks for in "The command `circles`".
 It looks, workqueue by workqueue, which others it leads to and which lead to it. See plan.py for what the model is.
@@ -71,18 +71,43 @@ def arcs_on_circles(declared, assignment):
     return arcs
 
 
-def circles_text(declared, arcs, to_none):
-    """The lines that are printed, of the places of the arcs of each component, and of those that lead to no rescuer."""
+def circles_text(declared, arcs, to_none, ways=()):
+    """The lines that are printed, of the places of the arcs of each component, of those that lead to no rescuer, and of ways."""
     if not arcs and not to_none:
         return [b"safe"]
     parts = [(b"component", places) for places in arcs]
-    if to_none:
-        parts.append((b"norescuer", to_none))
+    parts += [(word, places) for word, places in ((b"norescuer", to_none), (b"ways", ways)) if places]
     lines = [b"components %d" % len(arcs)]
     for word, places in parts:
         lines.append(b"%s %d" % (word, len(places)))
         lines += [b"%s %s %s" % (b"arc?" if declared.is_unsure(place) else b"arc", *declared.flushes[place]) for place in places]
     return lines
+
+
+def held_up(declared, assignment, names):
+    """Circles that hold up NAMEs: the places of the arcs of each component that is printed, of the flushes that lead to no rescuer, and of
+    the ways.
+    """
+    waits_for, _ = waiting(declared, assignment)
+    all_led = [led_to(workqueue, waits_for) | {workqueue} for workqueue in range(assignment.count)]
+    named = {assignment.workqueue_of[name] for name in names} - assignment.bare
+    led = set().union(*(all_led[workqueue] for workqueue in named))
+    ends = [(assignment.workqueue_of[item], assignment.workqueue_of[target]) for item, target in declared.flushes]
+    arcs = [places for places in arcs_on_circles(declared, assignment) if ends[places[0]][0] in led]
+    to_none = [place for place in led_to_no_rescuer(declared, assignment) if ends[place][0] in led]
+    hold = {ends[place][0] for places in [*arcs_on_circles(declared, assignment), led_to_no_rescuer(declared, assignment)] for place in places}
+    printed = set(to_none).union(*arcs)
+    ways = [place for place, (here, there) in enumerate(ends)
+            if place not in printed and here in led and there not in assignment.bare and all_led[there] & hold]
+    return arcs, to_none, ways
+
+
+def lines_for(declared, assignment, names):
+    """The lines that are printed with NAMEs."""
+    arcs, to_none, ways = held_up(declared, assignment, names)
+    if not arcs and not to_none and any(assignment.workqueue_of[name] in assignment.bare for name in names):
+        return [b"components 0"]
+    return circles_text(declared, arcs, to_none, ways)
 
 
 def read_texts(declaration_text, assignment_text):
@@ -93,13 +118,17 @@ def read_texts(declaration_text, assignment_text):
     return declared, certificate.read_assignment(assignment_text, declared)
 
 
-def answer(declaration_text, assignment_text=None):
+def answer(declaration_text, assignment_text=None, *names):
     """The bytes of the answer, and the exit status (Faults and exit statuses)."""
     try:
         declared, assignment = read_texts(declaration_text, assignment_text)
+        declaration.look_up(declared, names)
     except Refused as refused:
         return refused.answer()
     assignment = assignment or own_workqueues(declared)
+    if names:
+        lines = lines_for(declared, assignment, names)
+        return b"".join(line + b"\n" for line in lines), 0 if lines == [b"safe"] else 1
     lines = circles_text(declared, arcs_on_circles(declared, assignment), led_to_no_rescuer(declared, assignment))
     return b"".join(line + b"\n" for line in lines), 0 if lines == [b"safe"] else 1
 

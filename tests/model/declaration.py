@@ -191,6 +191,12 @@ class Declaration:
         return [place for place in range(len(self.flushes)) if self.is_unsure(place)]
 
 
+def look_up(declared, names):
+    """Refusals: NAMEs of a command line, each of which must be an item."""
+    if not all(name in declared.group_of for name in names):
+        raise Refused(8, 0)
+
+
 @functools.lru_cache(maxsize=64)
 def read_declaration(text):
     """The declaration that the text holds. Raises Refused where it holds none.

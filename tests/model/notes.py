@@ -38,13 +38,16 @@ def no_difference(declared, assignment, text):
     matter = {place for places in arcs_on_circles(declared, on) for place in places} | set(led_to_no_rescuer(declared, on))
     unsure = declared.unsure()
     left = [number for number, place in zip(lines_of_unsure(text), unsure) if place not in matter]
-    if not left:
-        return []
+    what = b"on these workqueues" if assignment else b"to whether there is a plan"
+    return wording_of_no_difference(left, len(unsure), what) if left else []
+
+
+def wording_of_no_difference(left, count, what):
+    """(f), of these lines, out of so many unsure ones."""
     lines = b", ".join(b"%d" % number for number in left)
     make = b"makes" if len(left) == 1 else b"make"
-    what = b"on these workqueues" if assignment else b"to whether there is a plan"
     return [b"%d of %s %s no difference %s: %s %s" % (
-        len(left), counted(len(unsure), b"unsure line", b"unsure lines"), make, what, b"line" if len(left) == 1 else b"lines", lines)]
+        len(left), counted(count, b"unsure line", b"unsure lines"), make, what, b"line" if len(left) == 1 else b"lines", lines)]
 
 
 def fewest_workqueues(declared):

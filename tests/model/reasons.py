@@ -15,7 +15,7 @@ from circle import led_to_no_rescuer
 from declaration import FLUSHES, FLUSHES_WHOLE, read_declaration, split_lines
 from hang import text_of_walk
 from marks import Word, about, excerpt, shown, words_of, workqueue
-from walks import among_rescuers, cost_of_walk, is_circle, least_circle, least_to_no_rescuer, unsure_first, wait_of
+from walks import among_rescuers, cost_of_walk, is_circle, least_circle, least_to_no_rescuer, run_of_walk, unsure_first, wait_of
 
 # The least that a circular wait costs: one of an item for itself.
 OF_ITSELF = 3
@@ -320,4 +320,5 @@ def wrong_with(command, files, texts, printed, said):
 def is_of_run(files, texts, printed, said):
     """Whether the reason beside a run that `hang` prints is that of this run, wait by wait."""
     case, _ = case_of("hang", files, texts, printed)
-    return text_of_walk(case.declared, case.assignment, flushes_said(case, said)[0]) == printed
+    places = flushes_said(case, said)[0]
+    return text_of_walk(case.declared, places, run_of_walk(case.declared, case.assignment, places)) == printed

@@ -1,4 +1,4 @@
-# A model of `wqplan replay DECL ASSIGN RUN`. It makes the steps of a run and says how that ends, as
+# A model of `wqplan replay DECL ASSIGN RUN [NAME..]`. It makes the steps of a run and says how that ends, as
 # docs/FORMAT.md asks for in "The command `replay`". See plan.py for what the model is.
 
 import sys
@@ -11,15 +11,16 @@ from declaration import Refused  # noqa: E402
 from steps import end_of_run  # noqa: E402
 
 
-def answer(declaration_text, assignment_text, run_text):
+def answer(declaration_text, assignment_text, run_text, *names):
     """The bytes of the answer, and the exit status (Faults and exit statuses)."""
     try:
         declared = declaration.read_declaration(declaration_text)
         assignment = certificate.read_assignment(assignment_text, declared)
         kept, steps = certificate.read_run_and_part(run_text, declared)
+        declaration.look_up(declared, names)
     except Refused as refused:
         return refused.answer()
-    end = end_of_run(certificate.in_its_reading(declared, kept), assignment, steps)
+    end = end_of_run(certificate.in_its_reading(declared, kept), assignment, steps, names)
     if end in ("deadlock", "stuck", "open"):
         return b"%s\n" % end.encode(), 0 if end == "open" else 1
     return b"not lawful %d\n" % end, 1

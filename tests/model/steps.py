@@ -166,13 +166,13 @@ class State:
                 yield step, RESCUER
         yield from self.helper_steps()
 
-    def is_stuck(self):
-        """An entry is unfinished on a workqueue with a rescuer, and no step is forced."""
-        unfinished = any(self.unfinished(item) for item in self.targets if self.workqueue_of[item] not in self.bare)
-        return unfinished and next(self.forced_steps(), None) is None
+    def is_stuck(self, names=()):
+        """An entry of a NAMEd item is unfinished, and no step is forced. Without NAMEs, an entry on a workqueue with a rescuer."""
+        of = names or [item for item in self.targets if self.workqueue_of[item] not in self.bare]
+        return any(map(self.unfinished, of)) and next(self.forced_steps(), None) is None
 
 
-def end_of_run(declaration, assignment, steps):
+def end_of_run(declaration, assignment, steps, names=()):
     """How the run ends: `deadlock`, `stuck` or `open`; or the number of the first unlawful step."""
     state = State(declaration, assignment)
     queued = {item: 0 for item in declaration.items}
@@ -193,7 +193,7 @@ def end_of_run(declaration, assignment, steps):
             elif (word, name) != waits[entry.waits]:
                 as_declared = False
         state.make(step)
-    if not state.is_stuck():
+    if not state.is_stuck(names):
         return "open"
     if as_declared and all(count == 1 for count in queued.values()):
         return "deadlock"

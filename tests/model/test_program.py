@@ -25,6 +25,7 @@ import notes
 import programs
 import pytest
 import reasons
+import reasons_for
 import told_changes
 import unrescued
 from cases import COMMANDS, KINDS, WITHOUT, cases, kind_of
@@ -64,7 +65,7 @@ def wrong_further(text, errors):
 def wrong_beside(command, files, texts, found):
     """What is wrong with the program's words on standard error beside its answer, or None: their form, and of reasons the words."""
     printed, _, errors = found
-    if not fits(printed, errors, files, command):
+    if not fits(printed, errors, files, command, texts[len(TEXTS_OF[command]):] if command != "plan" else []):
         return "standard error hasn't the form that belongs to this answer"
     if printed.startswith(b"refused ") and printed.split()[1] in HAS_FURTHER:
         return wrong_further(texts[0], errors)
@@ -73,6 +74,10 @@ def wrong_beside(command, files, texts, found):
     if command == "repair":
         return told_changes.wrong_with(files, texts[:2], texts[2:], printed, errors)
     behind = errors.split(b"\n", reasons.BLOCK)[reasons.BLOCK] if printed.startswith(b"no ") else errors
+    names = texts[len(TEXTS_OF[command]):]
+    if names:
+        others = unrescued.said_of(command, files, texts, printed)
+        return reasons_for.wrong_with(command, files, texts[:len(TEXTS_OF[command])], names, printed, errors, others)
     try:
         last = notes.said_of(command, files, texts, printed) + unrescued.said_of(command, files, texts, printed)
         if not behind.endswith(last):
@@ -129,8 +134,10 @@ def questions(command, texts, printed):
     if command == "deadlock" and head.startswith((b"run ", b"unsure ")):
         yield "replay", [*texts, printed], (b"deadlock\n", 1)
     if command == "hang" and head.startswith((b"run ", b"unsure ")):
-        yield "replay", [*texts, printed], ANSWERS["replay"](*texts, printed)
-        yield "dot", texts, (dot.text_with_waits_of(printed, *texts), 0)
+        files, names = texts[:2], texts[2:]
+        yield "replay", [*files, printed, *names], ANSWERS["replay"](*files, printed, *names)
+        if not names:
+            yield "dot", texts, (dot.text_with_waits_of(printed, *texts), 0)
     if command == "repair" and head.startswith((b"wq ", b"norescuer ")):
         yield "deadlock", [texts[0], printed], (b"safe\n", 0)
         yield "repair", [texts[0], printed], (printed, 0)
@@ -181,7 +188,7 @@ def test_program(compare, command, request):
     seed, count = request.config.getoption("--seed"), request.config.getoption("--cases") or CASES // FEWER.get(command, 1)
     came = collections.Counter()
     sure = request.config.getoption("--sure")
-    for number, texts in enumerate(cases(command, seed, count, sure=sure)):
+    for number, texts in enumerate(cases(command, seed, count, sure=sure, names=True)):
         words = HELPERS[number % len(HELPERS)] if command == "run" else []
         came.update(of_smallest(compare, command, texts, words))
     wanted = [kind for kind, _, _ in KINDS[command]] + REASONS_OF.get(command, [])

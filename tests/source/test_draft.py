@@ -228,3 +228,16 @@ def test_lines_that_cannot_happen_are_questions(drafted, wqsource):
 def test_a_workqueue_that_one_call_makes(drafted):
     found = drafted("doubts.c", "doubts_made.c")
     assert ("flushwq db_b db_rescue", "doubts.c:35") in found.flushes
+
+
+def named(text):
+    """The items that a draft says to NAME behind `hang`."""
+    words = " ".join(line.removeprefix("#").strip() for line in text.splitlines())
+    found = re.search(r"NAME it behind `wqplan hang`: they are on workqueues with a rescuer where an item may wait: ([^.]*)\.", words)
+    return found[1].split(", ") if found else []
+
+
+def test_the_items_to_name(wqsource):
+    """Those on a workqueue with a rescuer where one may wait: not where none does, nor on a workqueue without a rescuer."""
+    assert named(wqsource("draft", "--tree", C_FILES, "two_inits.c").out) == ["ti_second"]
+    assert named(wqsource("draft", "--tree", C_FILES, "no_rescuer.c").out) == []

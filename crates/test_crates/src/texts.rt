@@ -85,3 +85,46 @@ fn lines_and_words_stand_in_their_text(rt: HostRuntime) -> Result<(), Fail> {
     assert!(rt; number(b"").is_none() && number(b" 1").is_none());
     Ok(())
 }
+
+/// Texts whose first line isn't `wq` and one or two words with one space between them and nothing else, or with fewer
+/// than sixteen bytes left after a space.
+const UNLIKE: &[&[u8]] = &[
+    b"wq a bc d\n# sixteen bytes, and more\n",
+    b"wq\ta bc\n# sixteen bytes, and more\n",
+    b"wq  a bc\n# sixteen bytes, and more\n",
+    b"wq a  bc\n# sixteen bytes, and more\n",
+    b"wq a bc \n# sixteen bytes, and more\n",
+    b"wq a bc\r\n# sixteen bytes, and more\n",
+    b"wq a bc#\n# sixteen bytes, and more\n",
+    b" wq a bc\n# sixteen bytes, and more\n",
+    b"wqs a bc\n# sixteen bytes, and more\n",
+    b"wq\n# sixteen bytes, and more\n",
+    b"\nwq a bc\n# sixteen bytes, and more\n",
+    b"wq a bc\n",
+];
+
+#[test]
+fn plain_lines_are_cut_in_one_pass(rt: HostRuntime) -> Result<(), Fail> {
+    let text = Text::new(b"wq a bc\nwq d\nwq is the third line\n", 99, 99)?;
+    let mut lines = text.lines();
+    assert!(rt; lines.next_single(b"wq").is_none());
+    let (first, second) = lines.next_pair(b"wq").expect(&rt, "two words");
+    assert!(rt; (first.span().start, first.span().end, first.bytes()) == (3, 4, b"a".as_slice()));
+    assert!(rt;
+        (second.span().start, second.span().end, second.bytes()) == (5, 7, b"bc".as_slice())
+    );
+    assert!(rt; lines.next_pair(b"wq").is_none());
+    let single = lines.next_single(b"wq").expect(&rt, "one word");
+    assert!(rt;
+        (single.span().start, single.span().end, single.bytes()) == (11, 12, b"d".as_slice())
+    );
+    let line = lines.next().expect(&rt, "a third line");
+    assert!(rt; line.no() == 3 && line.span().start == 13 && lines.next().is_none());
+    for bytes in UNLIKE {
+        let text = Text::new(bytes, 99, 99)?;
+        let mut lines = text.lines();
+        assert!(rt; lines.next_pair(b"wq").is_none() && lines.next_single(b"wq").is_none());
+        assert!(rt; lines.next().expect(&rt, "a first line").no() == 1);
+    }
+    Ok(())
+}

@@ -1,16 +1,14 @@
 -- What is said beside the answer of `repair`, of what it found.
-use Rattle.std.specs.Prelude.{◌≡◌, ◌⊎◌, if◌then◌else◌, is_none, ℕ, List, [], ◌∷◌, ◌++◌, Option, Some, None}
-use Rattle.wq_items.specs.Table.{item_named}
+use Rattle.std.specs.Prelude.{◌≡◌, ℕ, List, Option, Some, None}
 use Rattle.wq_core.specs.Workqueues.{Workqueues}
 use Rattle.wq_meter.specs.Shell.{Given}
-use Rattle.wq_names.specs.Messages.{did_you_mean, unknown_item}
 use Rattle.wq_names.specs.Names.{names_of}
 use Rattle.wq_groups.specs.DeclaredGroups.{Declared}
 use Rattle.wq_commands.specs.declared.found.Found.{Found}
-use Rattle.wq_diagnosis.specs.Diagnosis.{shown_lines}
 use Rattle.wq_repair.specs.declared.answer.Answer.{Answer}
 use Rattle.wq_repair.specs.declared.answer.Answer.TheVariants as answer
 use Rattle.wq_repair_command.specs.declared.repairing.Repairing.{Repairing}
+use Rattle.wq_voice.specs.Unknown.{SaysFirstUnknown, first_unknown}
 use Rattle.wq_voice.specs.Unsure.{NotesSafe}
 use Rattle.wq_voice.specs.Voice.{SaysFound}
 use Rattle.wq_changes.specs.Told.{TellsChanges}
@@ -31,33 +29,6 @@ SaysAnswer first second lanes s old (answer.TooFewNames start steps) said =
     (text : List ℕ) × (said ≡ Some text) × TellsFew first second s (names_of lanes) start text
 SaysAnswer first second lanes s old (answer.Circle arcs) said =
     (text : List ℕ) × (said ≡ Some text) × TellsCircle first s arcs.items text
-
--- ---- a name that is that of no item
-
--- the first of these names that is no item's
-abbrev pub first_unknown : List (List ℕ) → List (List ℕ) → Option (List ℕ)
-first_unknown items [] = None
-first_unknown items (name ∷ names) = if is_none (item_named items name) then Some name else first_unknown items names
-
--- that this is the name of no item
-abbrev pub unknown_line : List ℕ → List ℕ → List ℕ
-unknown_line file name = shown_lines (unknown_item file name ∷ [])
-
--- that this item was most likely meant
-abbrev pub meant_line : List ℕ → List ℕ → List ℕ
-meant_line file item = shown_lines (did_you_mean file item ∷ [])
-
--- what is said of this name, which is that of no item: that it is the name of none, and nothing else or that an item
--- was meant, which is declared. Which item that is, and whether one is named, isn't said here
-abbrev pub SaysNoItem : List ℕ → List (List ℕ) → List ℕ → List ℕ → Type 0
-SaysNoItem file items name text = (text ≡ unknown_line file name)
-    ⊎ ((i : ℕ) × (item : List ℕ) × (item_named items item ≡ Some i)
-    × (text ≡ unknown_line file name ++ meant_line file item))
-
--- what is said of the first name that is no item's; nothing if there is none
-abbrev pub SaysFirstUnknown : List ℕ → List (List ℕ) → Option (List ℕ) → Option (List ℕ) → Type 0
-SaysFirstUnknown file items None said = said ≡ None
-SaysFirstUnknown file items (Some name) said = (text : List ℕ) × (said ≡ Some text) × SaysNoItem file items name text
 
 -- ---- what `repair` found
 

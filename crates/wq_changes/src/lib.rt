@@ -15,7 +15,6 @@ mod few;
 pub mod laws;
 mod places;
 mod telling;
-mod unknown;
 mod voice;
 mod without;
 mod words;

@@ -11,13 +11,14 @@ ghost use Rattle.wq_repair_command.specs.Repairing.{RepairsText};
 ghost use Rattle.wq_changes.specs.Voice.{SaysRead, SaysRepair};
 
 use crate::answer::say_answer;
-use crate::unknown::say_unknown;
 use std::alloc::{AllocError, Allocator};
 use wq_commands::{Found, SaysRefusal, Texts, Voice};
 use wq_diagnosis::Source;
 use wq_groups::Declaration;
 use wq_repair_command::{RepairCommand, Repairing};
-use wq_voice::{CertificateKind, FileNames, assigned_of, say_refusal, say_refused_text};
+use wq_voice::{
+    CertificateKind, FileNames, assigned_of, say_refusal, say_refused_text, say_unknown,
+};
 
 /// Says what a repair changes, or why no change helps.
 #[derive(Clone, Copy, Debug)]

@@ -14,17 +14,22 @@ use Rattle.wq_core.specs.declared.step.HelpStep.{HelpStep}
 use Rattle.wq_core.specs.declared.step.HelpStep.TheVariants.{Start as DoStart, Wait as DoWait, WaitAll as DoWaitAll, Over as DoOver, OverAll as DoOverAll, Finish as DoFinish}
 use Rattle.wq_core.specs.Wiring.{Wiring, HasRescuer, HasHelper, helpers_of, items, declared_by}
 use Rattle.wq_core.specs.State.{Lane, State, lane_at, run_by, Runs, RunsIn, is_running, next_of, HasPending}
+use Rattle.wq_core.specs.State.{HasUnfinishedOf}
 use Rattle.wq_core.specs.Rules.{IsHeldBack, MayWait, MayBeOver, MayFinish, MayStart, MayStartFirst, MayDo, Lawful}
 use Rattle.wq_core.specs.Runs.{KeepsOrder, KeepsOrderIn, IsNextWait}
 use Rattle.wq_core.specs.Held.{IsSoundState}
 use Rattle.wq_core.specs.Deadlock.{IsStuck}
+use Rattle.wq_core.specs.MustGoOn.{IsStuckFor}
 use Rattle.wq_core.specs.Played.{CanMove, RescuerCanMove, HelperGoesOn}
 use Rattle.wq_core.proofs.DeclaredSteps.{RescuerCanMove-idle, RescuerCanMove-waiting, RescuerCanMove-awake, HelperGoesOn-idle, HelperGoesOn-waiting, HelperGoesOn-awake, HelperGoesOn-exists, CanMove-within}
 use Rattle.wq_core.proofs.LaneLemmas.{nothing_runs, same_running}
+use Rattle.wq_core.proofs.Machines.{HasUnfinishedOf-below_next}
 use Rattle.wq_core.proofs.Playing.{cases_held_back}
 use Rattle.wq_core.proofs.Wirings.{cases_rescuer as has_rescuer}
+use Rattle.wq_checker.specs.Searching.{HasOneLeft}
 use Rattle.wq_checker.proofs.Decided.{Decided, both, one_of, not_so, alike, cases_below, cases_most, cases_Any, cases_each_below, cases_some_below}
 use Rattle.wq_checker.proofs.StuckStates.{cases_lane, cases_owed, IsStuck-can_move, IsStuck-cannot_move}
+use Rattle.wq_checker.proofs.StuckStates.{IsStuckFor-can_move, IsStuckFor-cannot_move}
 
 -- ---- what is pending
 
@@ -252,4 +257,24 @@ module _ (w : Wiring) (s : State) where
       | inr nothing ↦ inr (λ stuck. nothing (stuck.left, stuck.rescuer))
     ]
     | inr some ↦ inr (λ stuck. some (λ q can. IsStuck-can_move w s q can stuck))
+  ]
+
+  -- an entry of one of these items is unfinished, or of none
+  cases_one_left : IsSoundState w s → (named : List ℕ) → Decided (HasOneLeft s named)
+  cases_one_left sound named =
+      alike (λ h. (h.1, (h.0, h.2, h.3), h.4)) (λ (h : HasOneLeft s named). (h.1.0, h.0, h.1.1, h.1.2, h.2))
+      (cases_Any (λ i. HasUnfinishedOf s i) decide named)
+    where
+      decide : (i : ℕ) → Decided (HasUnfinishedOf s i)
+      decide i =
+          let is = HasUnfinishedOf-below_next w s i sound in
+          alike is.1 is.0 (cases_held_back w s false i s.next)
+
+  pub cases_IsStuckFor : IsSoundState w s → (named : List ℕ) → Decided (IsStuckFor w named s)
+  cases_IsStuckFor sound named = elim (cases_none_moves sound) [
+    | inl none ↦ elim (cases_one_left sound named) [
+      | inl left ↦ inl ((IsStuckFor-cannot_move w s named none true (holds left)).0 refl)
+      | inr nothing ↦ inr (λ stuck. nothing (stuck.item, stuck.is_named, stuck.left))
+    ]
+    | inr some ↦ inr (λ stuck. some (λ q can. IsStuckFor-can_move w s named q can stuck))
   ]

@@ -11,7 +11,9 @@ use Rattle.wq_core.specs.declared.step.Step.{Step}
 use Rattle.wq_core.specs.Wiring.{Wiring}
 use Rattle.wq_core.specs.State.{State, empty_state}
 use Rattle.wq_core.specs.Rules.{Lawful, effect}
-use Rattle.wq_core.specs.Runs.{after, IsRunFrom}
+use Rattle.wq_core.specs.Runs.{after, IsRunFrom, IsRun, end_of}
+use Rattle.wq_core.specs.Deadlock.{IsStuck, DeadlocksBy}
+use Rattle.wq_core.specs.MustGoOn.{IsStuckFor, DeadlocksFor}
 use Rattle.wq_cert.specs.Certificate.{PlanCertificate, CircleCertificate, Certificate, OfPlan, OfCircle}
 use Rattle.wq_checker.specs.declared.answer.Yes.{Yes}
 use Rattle.wq_checker.specs.declared.answer.Yes.TheVariants as yes
@@ -22,7 +24,7 @@ use Rattle.wq_checker.specs.declared.run.RunEnd.TheVariants.{NotLawful, Deadlock
 use Rattle.wq_checker.specs.Chains.{AllJoin, IsFirstBreak, before_in_chain, before_in_circle}
 use Rattle.wq_checker.specs.Falling.{Falls, AllFall, Declares, IsFirstNotFalling}
 use Rattle.wq_checker.specs.Answers.{LacksGroup, IsChainBrokenAt, IsPlanAsked, IsAsked, AnswersPlan, AnswersCircle, AnswersCertificate}
-use Rattle.wq_checker.specs.RunEnds.{IsFirstUnlawful, EndsAs}
+use Rattle.wq_checker.specs.RunEnds.{IsFirstUnlawful, EndsAs, EndsFor}
 use Rattle.wq_checker.proofs.FlushPlaces.{same_flush}
 use Rattle.wq_checker.proofs.RunEndLemmas.{IsRun-unlawful}
 
@@ -166,20 +168,52 @@ module _ (w : Wiring) (steps : List Step) where
     | inr (inr less) ↦ absurd (not_earlier n m other one less)
   ]
 
+  -- how the steps end, where it is said what a deadlock is and what is stuck
+  abbrev IsEnd : Type 0 → Type 0 → RunEnd → Type 0
+  IsEnd Dead IsStuckThere (NotLawful n) = IsFirstUnlawful w steps n
+  IsEnd Dead IsStuckThere Deadlock = Dead
+  IsEnd Dead IsStuckThere Stuck = IsRun w steps × IsStuckThere × (¬ Dead)
+  IsEnd Dead IsStuckThere Free = IsRun w steps × (¬ IsStuckThere)
+
+  module _ (Dead IsStuckThere : Type 0) (run : Dead → IsRun w steps) (is_stuck : Dead → IsStuckThere) where
+    one_of_two : (r s : RunEnd) → IsEnd Dead IsStuckThere r → IsEnd Dead IsStuckThere s → r ≡ s
+    one_of_two (NotLawful m) (NotLawful n) one other = ap NotLawful (one_unlawful m n one other)
+    one_of_two (NotLawful m) Deadlock one other = absurd (IsRun-unlawful w steps m one (run other))
+    one_of_two (NotLawful m) Stuck one other = absurd (IsRun-unlawful w steps m one other.0)
+    one_of_two (NotLawful m) Free one other = absurd (IsRun-unlawful w steps m one other.0)
+    one_of_two Deadlock (NotLawful n) one other = absurd (IsRun-unlawful w steps n other (run one))
+    one_of_two Deadlock Deadlock one other = refl
+    one_of_two Deadlock Stuck one other = absurd (other.2 one)
+    one_of_two Deadlock Free one other = absurd (other.1 (is_stuck one))
+    one_of_two Stuck (NotLawful n) one other = absurd (IsRun-unlawful w steps n other one.0)
+    one_of_two Stuck Deadlock one other = absurd (one.2 other)
+    one_of_two Stuck Stuck one other = refl
+    one_of_two Stuck Free one other = absurd (other.1 one.1)
+    one_of_two Free (NotLawful n) one other = absurd (IsRun-unlawful w steps n other one.0)
+    one_of_two Free Deadlock one other = absurd (one.1 (is_stuck other))
+    one_of_two Free Stuck one other = absurd (one.1 other.1)
+    one_of_two Free Free one other = refl
+
   pub one_end : (r s : RunEnd) → EndsAs w steps r → EndsAs w steps s → r ≡ s
-  one_end (NotLawful m) (NotLawful n) one other = ap NotLawful (one_unlawful m n one other)
-  one_end (NotLawful m) Deadlock one other = absurd (IsRun-unlawful w steps m one other.run)
-  one_end (NotLawful m) Stuck one other = absurd (IsRun-unlawful w steps m one other.0)
-  one_end (NotLawful m) Free one other = absurd (IsRun-unlawful w steps m one other.0)
-  one_end Deadlock (NotLawful n) one other = absurd (IsRun-unlawful w steps n other one.run)
-  one_end Deadlock Deadlock one other = refl
-  one_end Deadlock Stuck one other = absurd (other.2 one)
-  one_end Deadlock Free one other = absurd (other.1 one.stuck)
-  one_end Stuck (NotLawful n) one other = absurd (IsRun-unlawful w steps n other one.0)
-  one_end Stuck Deadlock one other = absurd (one.2 other)
-  one_end Stuck Stuck one other = refl
-  one_end Stuck Free one other = absurd (other.1 one.1)
-  one_end Free (NotLawful n) one other = absurd (IsRun-unlawful w steps n other one.0)
-  one_end Free Deadlock one other = absurd (one.1 other.stuck)
-  one_end Free Stuck one other = absurd (one.1 other.1)
-  one_end Free Free one other = refl
+  one_end r s one other = one_of_two (DeadlocksBy w steps) (IsStuck w (end_of w steps)) (λ h. h.run) (λ h. h.stuck)
+      r s (ends-as r one) (ends-as s other)
+    where
+      ends-as : (end : RunEnd) → EndsAs w steps end
+          → IsEnd (DeadlocksBy w steps) (IsStuck w (end_of w steps)) end
+      ends-as (NotLawful n) is = is
+      ends-as Deadlock is = is
+      ends-as Stuck is = is
+      ends-as Free is = is
+
+  -- the same for items that must go on
+  pub one_end_for : (named : List ℕ) (r s : RunEnd) → EndsFor w named steps r → EndsFor w named steps s → r ≡ s
+  one_end_for named r s one other =
+      one_of_two (DeadlocksFor w named steps) (IsStuckFor w named (end_of w steps)) (λ h. h.run) (λ h. h.stuck) r s
+      (ends-for r one) (ends-for s other)
+    where
+      ends-for : (end : RunEnd) → EndsFor w named steps end
+          → IsEnd (DeadlocksFor w named steps) (IsStuckFor w named (end_of w steps)) end
+      ends-for (NotLawful n) is = is
+      ends-for Deadlock is = is
+      ends-for Stuck is = is
+      ends-for Free is = is

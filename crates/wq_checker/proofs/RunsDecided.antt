@@ -1,5 +1,6 @@
 -- Each list of steps has an end.
-use Rattle.std.proofs.Common.{◌≡◌, ℕ, suc, ◌+◌, ◌-◌, ◌<◌, ◌⊎◌, inl, inr, List, [], ◌∷◌, take, Some, refl, subst, arith}
+use Rattle.std.proofs.Common.{◌≡◌, ℕ, suc, ◌+◌, ◌-◌, ◌<◌, ◌⊎◌, inl, inr, ◌↔◌, List, [], ◌∷◌, take, Some, refl, subst}
+use Rattle.std.proofs.Common.{arith}
 use Rattle.std.specs.Prelude.{slice_get}
 use Rattle.std.specs.List.{All, count_by}
 use Rattle.std.proofs.lemmas.Bool.{cases_eq}
@@ -10,12 +11,14 @@ use Rattle.wq_core.specs.State.{State, empty_state}
 use Rattle.wq_core.specs.Rules.{Lawful, effect}
 use Rattle.wq_core.specs.Runs.{after, IsRunFrom, end_of, AsDeclaredFrom, IsCancel, IsOnce, IsHelp, HasNoHelp, queues}
 use Rattle.wq_core.specs.Deadlock.{DeadlocksBy}
+use Rattle.wq_core.specs.MustGoOn.{rescued_items}
+use Rattle.wq_core.proofs.GoingOn.{stuck-rescued, deadlocks-rescued}
 use Rattle.wq_core.proofs.Sound.{IsSoundState-end_of}
 use Rattle.wq_checker.specs.declared.run.RunEnd.{RunEnd}
 use Rattle.wq_checker.specs.declared.run.RunEnd.TheVariants.{NotLawful, Deadlock, Stuck, Free}
-use Rattle.wq_checker.specs.RunEnds.{IsFirstUnlawful, EndsAs}
+use Rattle.wq_checker.specs.RunEnds.{IsFirstUnlawful, EndsAs, EndsFor}
 use Rattle.wq_checker.proofs.Decided.{Decided, both, alike, cases_All, cases_each_below}
-use Rattle.wq_checker.proofs.LawfulSteps.{cases_Lawful, cases_KeepsOrder, cases_IsStuck}
+use Rattle.wq_checker.proofs.LawfulSteps.{cases_Lawful, cases_KeepsOrder, cases_IsStuck, cases_IsStuckFor}
 use Rattle.wq_checker.proofs.RunEndLemmas.{EndsAs-deadlocks}
 
 -- step k, counted from 0, is the first that isn't lawful
@@ -103,6 +106,44 @@ module _ (w : Wiring) (steps : List Step) where
       ]
     ]
   ]
+
+  -- and one where these items must go on
+  pub an_end_for : (named : List ℕ) → (end : RunEnd) × EndsFor w named steps end
+  an_end_for named = elim (cases_run w (empty_state w) steps) [
+    | inr at ↦ (NotLawful (at.0 + 1), IsFirstUnlawful-at at.0 at.1)
+    | inl run ↦ elim (cases_IsStuckFor w (end_of w steps) (IsSoundState-end_of w steps run) named) [
+      | inr moves ↦ (Free, (run, moves))
+      | inl stuck ↦ elim (both (cases_HasNoHelp steps)
+          (both (cases_IsOnce w steps) (cases_AsDeclaredFrom w (empty_state w) steps))) [
+            | inl h ↦ (
+              Deadlock,
+              record { run = run; no_help = h.0; once = h.1.0; as_declared = h.1.1; stuck = stuck },
+            )
+            | inr no_deadlock ↦ (Stuck, (run, stuck, λ h. no_deadlock (h.no_help, (h.once, h.as_declared))))
+          ]
+    ]
+  ]
+
+  -- which is that without names if all items must go on whose lanes have a rescuer
+  pub for_rescued : (end : RunEnd) → EndsFor w (rescued_items w) steps end ↔ EndsAs w steps end
+  for_rescued (NotLawful n) = ((λ is. is), (λ is. is))
+  for_rescued Deadlock = ((deadlocks-rescued w steps).1, (deadlocks-rescued w steps).0)
+  for_rescued Stuck = (
+    (λ is. (
+      is.0,
+      (stuck-rescued w steps is.0).1 is.1,
+      λ dead. is.2 ((deadlocks-rescued w steps).0 dead),
+    )),
+    (λ is. (
+      is.0,
+      (stuck-rescued w steps is.0).0 is.1,
+      λ dead. is.2 ((deadlocks-rescued w steps).1 dead),
+    )),
+  )
+  for_rescued Free = (
+    (λ is. (is.0, λ stuck. is.1 ((stuck-rescued w steps is.0).0 stuck))),
+    (λ is. (is.0, λ stuck. is.1 ((stuck-rescued w steps is.0).1 stuck))),
+  )
 
   cases_end : (end : RunEnd) → Decided (end ≡ Deadlock)
   cases_end (NotLawful n) = inr (λ e. absurd cc)

@@ -10,9 +10,11 @@ use Rattle.wq_core.specs.State.{Lane, State, idle_lane, lane_at, IsUnfinishedOn,
 use Rattle.wq_core.specs.Rules.{Lawful}
 use Rattle.wq_core.specs.Runs.{IsForcedStep}
 use Rattle.wq_core.specs.Deadlock.{IsStuck}
+use Rattle.wq_core.specs.MustGoOn.{IsStuckFor}
 use Rattle.wq_core.specs.Played.{CanMove}
 use Rattle.wq_core.proofs.LaneLemmas.{Contains-nil, lane_within}
 use Rattle.wq_core.proofs.Wirings.{cases_rescuer}
+use Rattle.wq_checker.specs.Searching.{HasOneLeft}
 use Rattle.wq_checker.proofs.Decided.{Decided, both, cases_some_below}
 
 -- ---- some lane
@@ -102,3 +104,21 @@ module _ (w : Wiring) (s : State) where
       stuck : Decided IsOwed → IsStuck w s
       stuck (inl owed) = record { left = owed.0; rescuer = owed.1; no_step = λ step is lawful. let moves = CanMove-forced w s step is lawful in none moves.0 moves.1 }
       stuck (inr nothing) = absurd (let e : false ≡ true = both.1 (λ left rescuer. nothing (left, rescuer)) in cc)
+
+  -- if a lane can move, the state isn't stuck for any items
+  pub IsStuckFor-can_move : (named : List ℕ) (q : ℕ) → CanMove w s q → ¬ IsStuckFor w named s
+  IsStuckFor-can_move named q (inl (step, of_lane, lawful, forced)) stuck = stuck.no_step step forced lawful
+  IsStuckFor-can_move named q (inr (h, (deed, goes_on, lawful))) stuck = stuck.no_step (Help q h deed) goes_on lawful
+
+  -- if none can, it is stuck for these items exactly if an entry of one of them is unfinished
+  pub IsStuckFor-cannot_move : (named : List ℕ) → ((q : ℕ) → ¬ CanMove w s q) → (left : Bool)
+      → (IsTrue left ↔ HasOneLeft s named) → IsTrue left ↔ IsStuckFor w named s
+  IsStuckFor-cannot_move named none left both = (
+    (λ e. let one : HasOneLeft s named = both.0 e in record {
+      item = one.0;
+      is_named = one.1;
+      left = one.2;
+      no_step = λ step is lawful. let moves = CanMove-forced w s step is lawful in none moves.0 moves.1;
+    }),
+    (λ stuck. both.1 (stuck.item, stuck.is_named, stuck.left)),
+  )

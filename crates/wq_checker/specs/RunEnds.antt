@@ -5,6 +5,7 @@ use Rattle.wq_core.specs.Wiring.{Wiring}
 use Rattle.wq_core.specs.Rules.{Lawful}
 use Rattle.wq_core.specs.Runs.{IsRun, end_of}
 use Rattle.wq_core.specs.Deadlock.{IsStuck, DeadlocksBy}
+use Rattle.wq_core.specs.MustGoOn.{IsStuckFor, DeadlocksFor}
 use Rattle.wq_checker.specs.declared.run.RunEnd.{RunEnd}
 use Rattle.wq_checker.specs.declared.run.RunEnd.TheVariants.{NotLawful, Deadlock, Stuck, Free}
 
@@ -23,3 +24,11 @@ EndsAs w steps (NotLawful n) = IsFirstUnlawful w steps n
 EndsAs w steps Deadlock = DeadlocksBy w steps
 EndsAs w steps Stuck = IsRun w steps × IsStuck w (end_of w steps) × (¬ DeadlocksBy w steps)
 EndsAs w steps Free = IsRun w steps × (¬ IsStuck w (end_of w steps))
+
+-- the same where these items must go on: it is asked whether the steps end stuck for them
+abbrev pub EndsFor : Wiring → List ℕ → List Step → RunEnd → Type 0
+EndsFor w named steps (NotLawful n) = IsFirstUnlawful w steps n
+EndsFor w named steps Deadlock = DeadlocksFor w named steps
+EndsFor w named steps Stuck =
+    IsRun w steps × IsStuckFor w named (end_of w steps) × (¬ DeadlocksFor w named steps)
+EndsFor w named steps Free = IsRun w steps × (¬ IsStuckFor w named (end_of w steps))

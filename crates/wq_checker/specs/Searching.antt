@@ -1,11 +1,12 @@
 -- Searching: what is found in parts of a declaration, of a circle or of a run.
 use Rattle.std.specs.Prelude.{◌≡◌, ◌↔◌, ℕ, ◌<◌, nat_lt, if◌then◌else◌, Bool, IsTrue, List, Option, Some, None}
+use Rattle.std.specs.Prelude.{Contains}
 use Rattle.wq_items.specs.declared.target.Target.{Target}
 use Rattle.wq_groups.specs.Declaration.{Declaration}
 use Rattle.wq_groups.specs.Assignment.{Assignment}
 use Rattle.wq_core.specs.declared.step.Step.{Step}
 use Rattle.wq_core.specs.Wiring.{Wiring}
-use Rattle.wq_core.specs.State.{empty_state}
+use Rattle.wq_core.specs.State.{State, HasUnfinishedOf, empty_state}
 use Rattle.wq_core.specs.Runs.{IsRun, end_of, AsDeclaredFrom}
 use Rattle.wq_core.specs.Held.{Machine}
 use Rattle.wq_checker.specs.declared.falling.DeclaredFlush.{DeclaredFlush}
@@ -43,3 +44,7 @@ pub record IsPlayed (w : Wiring) (steps : List Step) (in_order : Bool) (m : Mach
   pub wiring : m.wiring ≡ w
   pub state : m.state ≡ end_of w steps
   pub declared : IsTrue in_order ↔ AsDeclaredFrom w (empty_state w) steps
+
+-- an entry of one of these items is unfinished
+abbrev pub HasOneLeft : State → List ℕ → Type 0
+HasOneLeft s named = (i : ℕ) × Contains named i × HasUnfinishedOf s i

@@ -2,7 +2,7 @@
 //!
 //! They speak of declarations, certificates and lists of steps alone, whatever code checks them.
 
-ghost use Rattle.std.specs.Prelude.{◌≡◌, ℕ, ◌<◌, List, length, Result};
+ghost use Rattle.std.specs.Prelude.{◌≡◌, ◌↔◌, ℕ, ◌<◌, List, length, Result};
 ghost use Rattle.wq_items.specs.Chain.{Circle};
 ghost use Rattle.wq_groups.specs.Declaration.{Declaration, IsDeclaration};
 ghost use Rattle.wq_groups.specs.Assignment.{Assignment, IsAssignment};
@@ -16,7 +16,8 @@ ghost use Rattle.wq_checker.specs.declared.run.RunEnd.{RunEnd};
 ghost use Rattle.wq_checker.specs.Chains.{IsChainAlong, IsCircleAlong};
 ghost use Rattle.wq_checker.specs.Answers.{IsGoodPlan, IsGoodCircle, IsPlanAsked, IsCircleAsked, IsAsked};
 ghost use Rattle.wq_checker.specs.Answers.{AnswersCertificate};
-ghost use Rattle.wq_checker.specs.RunEnds.{EndsAs};
+ghost use Rattle.wq_core.specs.MustGoOn.{rescued_items};
+ghost use Rattle.wq_checker.specs.RunEnds.{EndsAs, EndsFor};
 
 /// A good plan is safe, and the workqueues of every assignment with fewer of them wait in a circle.
 pub fn a_good_plan_is_safe_and_fewer_wait_in_a_circle()
@@ -73,4 +74,14 @@ pub fn steps_have_one_end()
     ensures one { (w : Wiring) (steps : List Step) → (end : RunEnd) × EndsAs w steps end }
     ensures at_most_one { (w : Wiring) (steps : List Step) (r s : RunEnd) → EndsAs w steps r → EndsAs w steps s →
         r ≡ s }
+{}
+
+/// Where items must go on, a list of steps has only one end; and it ends as without names, if all items whose lanes
+/// have a rescuer must.
+pub fn steps_have_one_end_for_items()
+    ensures one { (w : Wiring) (named : List ℕ) (steps : List Step) → (end : RunEnd) × EndsFor w named steps end }
+    ensures at_most_one { (w : Wiring) (named : List ℕ) (steps : List Step) (r s : RunEnd) →
+        EndsFor w named steps r → EndsFor w named steps s → r ≡ s }
+    ensures all_rescued { (w : Wiring) (steps : List Step) (end : RunEnd) →
+        EndsFor w (rescued_items w) steps end ↔ EndsAs w steps end }
 {}

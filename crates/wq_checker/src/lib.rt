@@ -21,4 +21,4 @@ mod running;
 pub use answer::{No, Yes};
 pub use checking::check_answer;
 pub use run::RunEnd;
-pub use running::{check_run, check_run_on};
+pub use running::{check_run, check_run_for, check_run_on};

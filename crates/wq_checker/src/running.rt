@@ -14,15 +14,16 @@ ghost use Rattle.wq_core.specs.Rules.{Lawful};
 ghost use Rattle.wq_core.specs.Runs.{KeepsOrder};
 ghost use Rattle.wq_core.specs.Deadlock.{IsStuck};
 ghost use Rattle.wq_core.specs.Played.{IsDeclaredStep};
-ghost use Rattle.wq_checker.specs.RunEnds.{IsFirstUnlawful, EndsAs};
-ghost use Rattle.wq_checker.specs.Searching.{IsPlayed};
+ghost use Rattle.wq_core.specs.MustGoOn.{IsStuckFor};
+ghost use Rattle.wq_checker.specs.RunEnds.{IsFirstUnlawful, EndsAs, EndsFor};
+ghost use Rattle.wq_checker.specs.Searching.{HasOneLeft, IsPlayed};
 
 use crate::once::is_once;
 use crate::run::RunEnd;
 use std::alloc::{AllocError, Allocator};
 use wq_core::{Core, Step, Workqueues};
 use wq_groups::{Assignment, Groups, LaneId};
-use wq_items::ItemTable;
+use wq_items::{ItemId, ItemTable};
 
 /// Whether the step is the one that the lane can make if what it runs flushes as declared.
 fn is_declared<A: Allocator>(core: &Core<A>, q: LaneId, step: Step) -> bool
@@ -155,4 +156,88 @@ pub fn check_run_on<A: Allocator + Copy>(
 {
     let core = Core::on_workqueues(alloc, table, groups, workqueues)?;
     ends(alloc, core, steps)
+}
+
+/// Whether an entry of one of these items is unfinished.
+fn has_one_left<A: Allocator>(core: &Core<A>, named: &[ItemId]) -> bool
+    ensures { IsTrue result ↔ HasOneLeft core.now.state named.now }
+{
+    for item in named {
+        if core.has_unfinished(*item) {
+            return true;
+        }
+    }
+    false
+}
+
+/// Whether an entry of one of these items is unfinished, and no lane can move.
+fn is_stuck_for<A: Allocator>(core: &Core<A>, named: &[ItemId]) -> bool
+    ensures { IsTrue result ↔ IsStuckFor core.now.wiring named.now core.now.state }
+{
+    core.enabled().is_none() && has_one_left(core, named)
+}
+
+/// How a run without helpers that leaves this machine ends, where these items must go on.
+fn end_for<A: Allocator + Copy>(
+    alloc: A,
+    core: &Core<A>,
+    named: &[ItemId],
+    steps: &[Step],
+    in_order: bool,
+) -> Result<RunEnd, AllocError>
+    requires helpers { core.now.wiring.helpers ≡ 0 }
+    requires few { length steps.now < 4294967295 }
+    requires played { IsPlayed core.now.wiring steps.now in_order core.now }
+    ensures end { IfOk result (λ end. EndsFor core.now.wiring named.now steps.now end) }
+    ensures memory { OnErr result (0 < core.now.wiring.lanes) }
+{
+    if !is_stuck_for(core, named) {
+        return Ok(RunEnd::Free);
+    }
+    if in_order && is_once(alloc, core, steps)? {
+        Ok(RunEnd::Deadlock)
+    } else {
+        Ok(RunEnd::Stuck)
+    }
+}
+
+/// How a list of steps ends that are made on a machine without helpers on which nothing was queued yet, where these
+/// items must go on.
+fn ends_for<A: Allocator + Copy>(
+    alloc: A,
+    mut core: Core<A>,
+    named: &[ItemId],
+    steps: &[Step],
+) -> Result<RunEnd, AllocError>
+    requires helpers { core.wiring.helpers ≡ 0 }
+    requires empty { core.state ≡ empty_state core.wiring }
+    requires few { length steps.now < 4294967295 }
+    ensures end { IfOk result (λ end. EndsFor core.wiring named.now steps.now end) }
+    ensures memory { OnErr result (0 < core.wiring.lanes) }
+{
+    match play(&mut core, steps) {
+        Ok(in_order) => end_for(alloc, &core, named, steps, in_order),
+        Err(at) => Ok(RunEnd::NotLawful(at)),
+    }
+}
+
+/// How a list of fewer than 4,294,967,295 steps ends on workqueues of the groups, where these items must go on. The
+/// only error is out of memory (20), which can't occur if there is no lane.
+pub fn check_run_for<A: Allocator + Copy>(
+    alloc: A,
+    table: &ItemTable<'_, A>,
+    groups: &Groups<A>,
+    workqueues: &Workqueues<A>,
+    named: &[ItemId],
+    steps: &[Step],
+) -> Result<RunEnd, AllocError>
+    requires grouped { length groups.now.group_of ≡ length table.now.names }
+    requires assigned { length workqueues.now.assignment.lane_of_group ≡ groups.now.groups }
+    requires few { length steps.now < 4294967295 }
+    ensures end { IfOk result (λ end. EndsFor (wiring_of (declaration_of table.now groups.now) workqueues.now)
+        named.now steps.now end) }
+    ensures memory { OnErr result (0 < workqueues.now.assignment.lanes) }
+{
+    let machine = Core::on_workqueues(alloc, table, groups, workqueues)?;
+    ends_for(alloc, machine, named, steps)
 }

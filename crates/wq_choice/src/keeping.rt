@@ -12,6 +12,7 @@ use crate::parts::{Ordered, Parts};
 use crate::vertex_lists::count_one;
 use std::alloc::{AllocError, Allocator};
 use wq_graph::WaitGraph;
+use wq_groups::{GroupId, LaneId};
 
 /// This many groups are looked at together.
 const TOGETHER: usize = 256;
@@ -19,20 +20,20 @@ const TOGETHER: usize = 256;
 /// Those of these groups of whose lane another one leaves.
 fn with_others<A: Allocator + Copy>(
     alloc: A,
-    lane_of: &[u16],
+    lane_of: &[LaneId],
     lanes: usize,
-    leaving: &[u16],
-) -> Result<Vec<u16, A>, AllocError> {
+    leaving: &[GroupId],
+) -> Result<Vec<GroupId, A>, AllocError> {
     let mut counts = vec![in alloc; 0u32; lanes]?;
     for group in leaving {
-        if let Some(lane) = lane_of.get(usize::from(*group)) {
-            count_one(counts.as_mut_slice(), *lane);
+        if let Some(lane) = lane_of.get(usize::from(group.get())) {
+            count_one(counts.as_mut_slice(), lane.get());
         }
     }
     let mut some = Vec::new(alloc);
     for group in leaving {
-        if let Some(lane) = lane_of.get(usize::from(*group)) {
-            if let Some(count) = counts.get(usize::from(*lane)) {
+        if let Some(lane) = lane_of.get(usize::from(group.get())) {
+            if let Some(count) = counts.get(usize::from(lane.get())) {
                 if *count > 1 {
                     some.push(*group)?;
                 }
@@ -45,7 +46,7 @@ fn with_others<A: Allocator + Copy>(
 /// Groups that are looked at together: first the homes of their lanes, and then they themselves.
 #[derive(Drop)]
 struct Together<A: Allocator> {
-    vertices: Vec<u16, A>,
+    vertices: Vec<GroupId, A>,
     /// For each lane the place of its home, if it has one.
     homes: Vec<Option<u16>, A>,
     /// The place of the first group.
@@ -55,21 +56,21 @@ struct Together<A: Allocator> {
 /// These groups and the homes of their lanes, if they have one already. `homes` has the home of each lane.
 fn beside_homes<A: Allocator + Copy>(
     alloc: A,
-    lane_of: &[u16],
-    homes: &[Option<u16>],
-    groups: &[u16],
+    lane_of: &[LaneId],
+    homes: &[Option<GroupId>],
+    groups: &[GroupId],
 ) -> Result<Together<A>, AllocError> {
     let mut places: Vec<Option<u16>, A> = vec![in alloc; None; homes.len()]?;
     let mut vertices = Vec::new(alloc);
     let mut first: u16 = 0;
     for group in groups {
-        let Some(lane) = lane_of.get(usize::from(*group)) else {
+        let Some(lane) = lane_of.get(usize::from(group.get())) else {
             continue;
         };
-        let Some(Some(home)) = homes.get(usize::from(*lane)) else {
+        let Some(Some(home)) = homes.get(usize::from(lane.get())) else {
             continue;
         };
-        if let Some(place) = places.get_mut(usize::from(*lane)) {
+        if let Some(place) = places.get_mut(usize::from(lane.get())) {
             if place.is_none() {
                 *place = Some(first);
                 vertices.push(*home)?;
@@ -85,7 +86,7 @@ fn beside_homes<A: Allocator + Copy>(
     })
 }
 
-/// All these lead to what only one of the two leads to.
+/// All at these places lead to what only one of the two leads to.
 fn lead_to_both<A: Allocator + Copy>(
     leading: &mut [Numbers<A>],
     all: &Numbers<A>,
@@ -99,7 +100,7 @@ fn lead_to_both<A: Allocator + Copy>(
     }
 }
 
-/// Two vertices become one, of which neither leads to the other: a group, and its home.
+/// The vertices at two places become one, of which neither leads to the other: a group, and its home.
 fn merge<A: Allocator + Copy>(
     alloc: A,
     leading: &mut [Numbers<A>],
@@ -126,10 +127,10 @@ fn merge<A: Allocator + Copy>(
 fn keep_some<A: Allocator + Copy>(
     alloc: A,
     waits: &Ordered<A>,
-    lane_of: &[u16],
-    homes: &mut [Option<u16>],
+    lane_of: &[LaneId],
+    homes: &mut [Option<GroupId>],
     parts: &mut Parts<A>,
-    groups: &[u16],
+    groups: &[GroupId],
 ) -> Result<bool, AllocError> {
     let mut asked = beside_homes(alloc, lane_of, homes, groups)?;
     let mut leading = parts.leading(alloc, waits, asked.vertices.as_slice())?;
@@ -138,10 +139,10 @@ fn keep_some<A: Allocator + Copy>(
     for group in groups {
         let own = place;
         place = place.wrapping_add(1);
-        let Some(lane) = lane_of.get(usize::from(*group)) else {
+        let Some(lane) = lane_of.get(usize::from(group.get())) else {
             continue;
         };
-        let lane = usize::from(*lane);
+        let lane = usize::from(lane.get());
         match asked.homes.get(lane) {
             Some(Some(home)) => {
                 let home = *home;
@@ -171,13 +172,13 @@ fn keep_some<A: Allocator + Copy>(
 pub(crate) fn keep_together<A: Allocator + Copy>(
     alloc: A,
     graph: &WaitGraph<A>,
-    lane_of: &[u16],
+    lane_of: &[LaneId],
     lanes: usize,
     parts: &mut Parts<A>,
-    leaving: &[u16],
+    leaving: &[GroupId],
 ) -> Result<(), AllocError> {
     let leaving = with_others(alloc, lane_of, lanes, leaving)?;
-    let mut homes: Vec<Option<u16>, A> = vec![in alloc; None; lanes]?;
+    let mut homes: Vec<Option<GroupId>, A> = vec![in alloc; None; lanes]?;
     let mut known: Option<Ordered<A>> = None;
     for groups in leaving.chunks(TOGETHER) {
         let waits = match known {

@@ -10,6 +10,7 @@ use crate::bits::{Numbers, empty_sets};
 use crate::vertex_lists::{Filling, VertexLists, count_one};
 use std::alloc::{AllocError, Allocator};
 use wq_graph::WaitGraph;
+use wq_groups::GroupId;
 
 /// How many words a row has.
 const WORDS: usize = 4;
@@ -26,19 +27,19 @@ pub(crate) struct Ordered<A: Allocator> {
     /// For each part those for which its vertices wait.
     pub(crate) waits: VertexLists<A>,
     /// The parts, each before those to which it leads.
-    pub(crate) downwards: Vec<u16, A>,
+    pub(crate) downwards: Vec<GroupId, A>,
 }
 
 /// Which vertices have become one.
 #[derive(Drop)]
 pub(crate) struct Parts<A: Allocator> {
     /// For each vertex the one that stands for its part.
-    part_of: Vec<u16, A>,
+    part_of: Vec<GroupId, A>,
 }
 
 impl<A: Allocator + Copy> Parts<A> {
     /// The parts of these vertices. A part has the number of one of its vertices.
-    pub(crate) fn new(part_of: Vec<u16, A>) -> Self {
+    pub(crate) fn new(part_of: Vec<GroupId, A>) -> Self {
         Parts { part_of }
     }
 
@@ -62,16 +63,16 @@ impl<A: Allocator + Copy> Parts<A> {
     ) -> Result<VertexLists<A>, AllocError> {
         let mut counts = vec![in alloc; 0u32; self.part_of.len()]?;
         for vertex in 0..graph.vertices() {
-            let part = self.part(vertex);
+            let part = self.part(GroupId::new(vertex));
             for _ in graph.arcs(vertex) {
-                count_one(counts.as_mut_slice(), part);
+                count_one(counts.as_mut_slice(), part.get());
             }
         }
         let mut waits = Filling::new(alloc, counts.as_slice())?;
         for vertex in 0..graph.vertices() {
-            let part = self.part(vertex);
+            let part = self.part(GroupId::new(vertex));
             for arc in graph.arcs(vertex) {
-                waits.put(part, self.part(arc.head));
+                waits.put(part.get(), self.part(GroupId::new(arc.head)));
             }
         }
         Ok(waits.lists())
@@ -85,20 +86,20 @@ impl<A: Allocator + Copy> Parts<A> {
     }
 
     /// The part of a vertex.
-    fn part(&self, vertex: u16) -> u16 {
-        match self.part_of.get(usize::from(vertex)) {
+    fn part(&self, vertex: GroupId) -> GroupId {
+        match self.part_of.get(usize::from(vertex.get())) {
             Some(part) => *part,
             None => vertex,
         }
     }
 
     /// Makes these vertices one part, that of the first. Each of the others was alone.
-    pub(crate) fn unite(&mut self, vertices: &[u16]) {
+    pub(crate) fn unite(&mut self, vertices: &[GroupId]) {
         let Some(first) = vertices.first() else {
             return;
         };
         for vertex in vertices {
-            if let Some(part) = self.part_of.get_mut(usize::from(*vertex)) {
+            if let Some(part) = self.part_of.get_mut(usize::from(vertex.get())) {
                 *part = *first;
             }
         }
@@ -110,8 +111,8 @@ impl<A: Allocator + Copy> Parts<A> {
         let mut of_parts = vec![in alloc; 0u16; self.part_of.len()]?;
         for place in (0..downwards.len()).rev() {
             let part = downwards[place];
-            let rank = rank_above(of_parts.as_slice(), waits.of(part));
-            if let Some(own) = of_parts.get_mut(usize::from(part)) {
+            let rank = rank_above(of_parts.as_slice(), waits.of(part.get()));
+            if let Some(own) = of_parts.get_mut(usize::from(part.get())) {
                 *own = rank;
             }
         }
@@ -127,11 +128,11 @@ impl<A: Allocator + Copy> Parts<A> {
         &self,
         alloc: A,
         of_parts: &Ordered<A>,
-        vertices: &[u16],
+        vertices: &[GroupId],
     ) -> Result<Vec<Row, A>, AllocError> {
         let mut rows = vec![in alloc; [0; WORDS]; self.part_of.len()]?;
         for (place, vertex) in vertices.iter().enumerate() {
-            if let Some(row) = rows.get_mut(usize::from(self.part(*vertex))) {
+            if let Some(row) = rows.get_mut(usize::from(self.part(*vertex).get())) {
                 row[place / 64 % WORDS] |= 1 << (place % 64);
             }
         }
@@ -140,8 +141,8 @@ impl<A: Allocator + Copy> Parts<A> {
             if row.iter().all(|word| *word == 0) {
                 continue;
             }
-            for target in of_parts.waits.of(*part) {
-                if let Some(told) = rows.get_mut(usize::from(*target)) {
+            for target in of_parts.waits.of(part.get()) {
+                if let Some(told) = rows.get_mut(usize::from(target.get())) {
                     add_row(told, &row);
                 }
             }
@@ -154,7 +155,7 @@ impl<A: Allocator + Copy> Parts<A> {
         &self,
         alloc: A,
         of_parts: &Ordered<A>,
-        vertices: &[u16],
+        vertices: &[GroupId],
     ) -> Result<Vec<Numbers<A>, A>, AllocError> {
         let mut sets = empty_sets(alloc, vertices.len())?;
         let mut first: usize = 0;
@@ -178,12 +179,12 @@ impl<A: Allocator + Copy> Parts<A> {
 fn none_waits_for<A: Allocator + Copy>(
     alloc: A,
     counts: &[u32],
-) -> Result<Vec<u16, A>, AllocError> {
+) -> Result<Vec<GroupId, A>, AllocError> {
     let mut free = Vec::with_capacity(alloc, counts.len())?;
     let mut part: u16 = 0;
     for count in counts {
         if *count == 0 {
-            free.push(part)?;
+            free.push(GroupId::new(part))?;
         }
         part = part.wrapping_add(1);
     }
@@ -194,7 +195,7 @@ fn none_waits_for<A: Allocator + Copy>(
 pub(crate) fn downwards<A: Allocator + Copy>(
     alloc: A,
     targets: &VertexLists<A>,
-) -> Result<Vec<u16, A>, AllocError> {
+) -> Result<Vec<GroupId, A>, AllocError> {
     let mut waits = targets.counts(alloc)?;
     let mut free = none_waits_for(alloc, waits.as_slice())?;
     for place in 0..targets.len() {
@@ -202,8 +203,8 @@ pub(crate) fn downwards<A: Allocator + Copy>(
             break;
         };
         let part = *part;
-        for target in targets.of(part) {
-            if let Some(left) = waits.get_mut(usize::from(*target)) {
+        for target in targets.of(part.get()) {
+            if let Some(left) = waits.get_mut(usize::from(target.get())) {
                 *left = left.saturating_sub(1);
                 if *left == 0 {
                     free.push(*target)?;
@@ -215,15 +216,15 @@ pub(crate) fn downwards<A: Allocator + Copy>(
 }
 
 /// The rank of a part.
-fn rank_of(ranks: &[u16], part: u16) -> u16 {
-    match ranks.get(usize::from(part)) {
+fn rank_of(ranks: &[u16], part: GroupId) -> u16 {
+    match ranks.get(usize::from(part.get())) {
         Some(rank) => *rank,
         None => 0,
     }
 }
 
 /// The rank of a part that waits for these.
-fn rank_above(ranks: &[u16], targets: &[u16]) -> u16 {
+fn rank_above(ranks: &[u16], targets: &[GroupId]) -> u16 {
     let mut rank: u16 = 0;
     for target in targets {
         rank = rank.max(rank_of(ranks, *target).saturating_add(1));
@@ -232,8 +233,8 @@ fn rank_above(ranks: &[u16], targets: &[u16]) -> u16 {
 }
 
 /// The row of a part.
-fn row_of(rows: &[Row], part: u16) -> Row {
-    match rows.get(usize::from(part)) {
+fn row_of(rows: &[Row], part: GroupId) -> Row {
+    match rows.get(usize::from(part.get())) {
         Some(row) => *row,
         None => [0; WORDS],
     }

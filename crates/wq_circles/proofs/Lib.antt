@@ -22,3 +22,11 @@ pub mod ForBare
 mod FirstItems
 mod NoDifference
 mod AllRescued
+mod HeldLists
+mod HeldSearch
+pub mod HeldMarks
+mod HeldCounts
+mod HeldBetween
+pub mod HeldWalks
+pub mod HeldPromised
+pub mod FoundFor

@@ -96,7 +96,8 @@ module _ (s : Declared) (sound : IsSound s) where
   kept a assigned Refused out circles = absurd circles
 
 -- what is said about a value that was read or not, case by case
-by_case : {V E : Type 0} (r : Result V E) (P Q : V → Type 0) (F G : E → Type 0) → ((v : V) → r ≡ Ok v → P v → Q v) → ((e : E) → F e → G e) → MatchResult r P F → MatchResult r Q G
+pub by_case : {V E : Type 0} (r : Result V E) (P Q : V → Type 0) (F G : E → Type 0)
+    → ((v : V) → r ≡ Ok v → P v → Q v) → ((e : E) → F e → G e) → MatchResult r P F → MatchResult r Q G
 by_case (Ok v) P Q F G good bad one = good v refl one
 by_case (Err e) P Q F G good bad one = bad e one
 

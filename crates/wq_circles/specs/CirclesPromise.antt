@@ -1,14 +1,19 @@
 -- What an answer of `circles` promises, in terms of flushes and of workqueues that lead to one another.
-use Rattle.std.specs.Prelude.{◌≡◌, ◌≢◌, ◌↔◌, ℕ, List, [], map, AllPairs, MatchResult}
+use Rattle.std.specs.Prelude.{◌≡◌, ◌≢◌, ◌↔◌, ℕ, true, List, [], ◌++◌, flat_map, map, AllPairs}
+use Rattle.std.specs.Prelude.{MatchOption, MatchResult}
 use Rattle.std.specs.List.{All}
 use Rattle.std.specs.List.Sorted.{IsStrictlyIncreasing}
+use Rattle.wq_items.specs.Readings.{is_among}
 use Rattle.wq_groups.specs.Declaration.{Declaration}
 use Rattle.wq_groups.specs.Assignment.{IsAssignment, item_lane}
 use Rattle.wq_graph.specs.declared.arc.WaitArc.{WaitArc}
 use Rattle.wq_core.specs.Wiring.{HasRescuer, RescuedWaits, own_lanes}
 use Rattle.wq_core.specs.Workqueues.{Workqueues, wiring_of, all_rescued}
 use Rattle.wq_core.specs.Deadlock.{IsSafe, Deadlocks}
+use Rattle.wq_core.specs.MustGoOn.{IsSafeFor}
+use Rattle.wq_core.specs.Readings.{reading}
 use Rattle.wq_circles.specs.Leading.{Leads, AreTogether}
+use Rattle.wq_cert.specs.Forms.{items_of}
 use Rattle.wq_cert.specs.Texts.{workqueues_of_text}
 use Rattle.wq_commands.specs.declared.end.End.{End}
 use Rattle.wq_commands.specs.declared.end.End.TheVariants.{Good, Bad, Refused}
@@ -16,6 +21,7 @@ use Rattle.wq_groups.specs.DeclaredGroups.{declared_waits, Declared}
 use Rattle.wq_commands.specs.Deadlocking.{safe_text}
 use Rattle.wq_commands.specs.Declaration.{declaration}
 use Rattle.wq_circles.specs.ComponentsText.{circles_text}
+use Rattle.wq_circles.specs.HeldText.{held_text}
 use Rattle.wq_circles.specs.Flushes.{HasFlush, IsInComponents, AreInOneComponent, IsDeclaredFlush, IsBefore}
 
 -- exactly the declared flushes that are on a circle of workqueues that have a rescuer: those whose target's workqueue
@@ -82,3 +88,31 @@ KeepsOwnCircles declared end out =
     MatchResult (declaration declared)
     (λ s. KeepsAssigned s (all_rescued (own_lanes s.partition.groups)) end out)
     (λ r. end ≡ Refused)
+
+-- what is promised where the items with these names must go on, for the texts of a declaration and an assignment:
+-- `safe` is printed if no run ends stuck for them, in any reading; and of two readings that differ only in unsure
+-- flushes that aren't printed, in both or in neither some run ends stuck for them
+pub record KeepsHeldFlushes (s : Declared) (ws : Workqueues) (named : List ℕ) (end : End) (out : List ℕ)
+    : Type 0 where
+  pub safe : end ≡ Good → IsSafeFor (wiring_of (declared_waits s) ws) named × (out ≡ safe_text)
+  pub bad : end ≡ Bad → (components : List (List WaitArc)) × (waits : List WaitArc) × (ways : List WaitArc)
+      × (out ≡ held_text s.table.names s.table.waits components waits ways)
+      × (¬ IsSafeFor (wiring_of (declared_waits s) ws) named)
+      × ((kept others : List ℕ)
+      → ((p : ℕ) → is_among (map (λ (b : WaitArc). b.place) (flat_map (λ arcs. arcs) components ++ waits ++ ways))
+      p ≡ true
+      → is_among kept p ≡ is_among others p)
+      → IsSafeFor (reading (wiring_of (declared_waits s) ws) kept) named
+      → IsSafeFor (reading (wiring_of (declared_waits s) ws) others) named)
+
+-- the same for the text of an assignment of a declaration; a text that isn't one, and a name of no item, are refused
+abbrev pub KeepsHeldDeclared : Declared → List (List ℕ) → List ℕ → End → List ℕ → Type 0
+KeepsHeldDeclared s names text end out =
+    MatchResult (workqueues_of_text s.table.names s.partition text)
+    (λ ws. MatchOption (items_of s.table.names names) (end ≡ Refused) (λ named. KeepsHeldFlushes s ws named end out))
+    (λ fault. end ≡ Refused)
+
+-- the same for the texts of a declaration and an assignment
+abbrev pub KeepsHeldCircles : List (List ℕ) → List ℕ → List ℕ → End → List ℕ → Type 0
+KeepsHeldCircles names declared text end out =
+    MatchResult (declaration declared) (λ s. KeepsHeldDeclared s names text end out) (λ r. end ≡ Refused)

@@ -14,5 +14,7 @@ pub mod Components
 pub mod ComponentsText
 pub mod Flushes
 pub mod Circling
+pub mod Held
+pub mod HeldText
 pub mod CirclesPromise
 pub mod AllRescued

@@ -34,7 +34,8 @@ ghost use Rattle.wq_circles.specs.declared.circling.Circling.{Circling};
 ghost use Rattle.wq_circles.specs.Leading.{AreLowest, AreTogether, Leads};
 ghost use Rattle.wq_circles.specs.AllRescued.{CirclesAllRescued};
 ghost use Rattle.wq_circles.specs.Circling.{Circles, CirclesTexts, OwnCircles};
-ghost use Rattle.wq_circles.specs.CirclesPromise.{AreForBare, KeepsCircles, KeepsOwnCircles};
+ghost use Rattle.wq_circles.specs.CirclesPromise.{AreForBare, KeepsCircles, KeepsHeldCircles, KeepsOwnCircles};
+ghost use Rattle.wq_circles.specs.HeldText.{CirclesNamed};
 ghost use Rattle.wq_circles.specs.Components.{AreComponents};
 ghost use Rattle.wq_circles.specs.Flushes.{IsInComponents, AreInOneComponent, IsDeclaredFlush, IsBefore};
 
@@ -139,6 +140,14 @@ pub fn circles_keep_their_promise()
         Circles declared text end out → KeepsCircles declared text end out }
     ensures own { (declared : List ℕ) (end : End) (out : List ℕ) → OwnCircles declared end out →
         KeepsOwnCircles declared end out }
+{}
+
+/// An answer where items must go on keeps its promise. If `safe` is printed, no run ends stuck for one of them.
+/// Otherwise some run does; and of two readings that differ only in unsure flushes that aren't printed, some run of
+/// each ends stuck for one of them, or none of either.
+pub fn what_can_hold_items_up_is_printed()
+    ensures { (names : List (List ℕ)) (declared text : List ℕ) (end : End) (out : List ℕ) →
+        CirclesNamed names declared text end out → KeepsHeldCircles names declared text end out }
 {}
 
 /// A run of `circles` ends like a run of `deadlock` with the same texts or, if no assignment is named, like a run of

@@ -13,7 +13,9 @@
 
 mod circles;
 mod circling;
+mod circling_for;
 mod finishing;
+mod held;
 mod joining;
 pub mod laws;
 mod lists;
@@ -25,5 +27,7 @@ mod walk;
 
 pub use circles::CirclesCommand;
 pub use circling::Circling;
+pub use circling_for::{CirclesForCommand, CirclingFor};
+pub use held::{HeldCircles, held_circles};
 pub use joining::components;
 pub use unsure::is_unsure;

@@ -8,6 +8,7 @@ ghost use Rattle.std.specs.List.{All};
 ghost use Rattle.wq_text.specs.LineText.{line_text};
 ghost use Rattle.wq_circles.specs.ComponentsText.{count_line, arcs_lines, bare_lines, components_text, circles_text};
 ghost use Rattle.wq_circles.specs.ComponentsText.{AreBetween, arc_words};
+ghost use Rattle.wq_circles.specs.HeldText.{way_lines};
 
 use crate::unsure::is_unsure;
 use std::alloc::{AllocError, Allocator};
@@ -124,4 +125,20 @@ pub(crate) fn circles_text<A: Allocator + Copy>(
     let mut out = components_text(alloc, table, components)?;
     put_bare(&mut out, table, waits)?;
     Ok(out)
+}
+
+/// Adds ways: `ways M` and the arcs, where there are any.
+pub(crate) fn put_ways<A: Allocator + Copy>(
+    out: &mut Vec<u8, A>,
+    table: &ItemTable<'_, A>,
+    arcs: &[WaitArc],
+) -> Result<(), AllocError>
+    requires { AreBetween (length table.now.names) arcs.now }
+    ensures { OnOk result (out.new.items
+        ≡ out.old.items ++ flat_map line_text (way_lines table.now.names table.now.waits arcs.now)) }
+{
+    if arcs.is_empty() {
+        return Ok(());
+    }
+    put_arcs(out, table, b"ways", arcs)
 }

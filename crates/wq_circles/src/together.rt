@@ -23,7 +23,7 @@ use std::alloc::{AllocError, Allocator};
 use wq_graph::WaitGraph;
 
 /// Finds the unfound vertex `root` and all that it leads to, from list to list, by way of unfound vertices.
-fn spread<A: Allocator + Copy>(
+pub(crate) fn spread<A: Allocator + Copy>(
     found: &mut FoundVertices<A>,
     lists: &[Vec<u16, A>],
     root: u16,

@@ -30,8 +30,8 @@ use Rattle.wq_hang.proofs.Shortest.{path_hop}
 use Rattle.wq_commands.proofs.AnswerLemmas.{IsSound}
 use Rattle.wq_commands.proofs.NamedSteps.{IsStepOf-hang, length-hang}
 use Rattle.wq_checker.specs.declared.run.RunEnd.{RunEnd}
-use Rattle.wq_checker.specs.RunEnds.{EndsAs}
-use Rattle.wq_commands.proofs.SamePlaces.{deadlock-same, end_as-same}
+use Rattle.wq_checker.specs.RunEnds.{EndsAs, EndsFor}
+use Rattle.wq_commands.proofs.SamePlaces.{deadlock-same, end_as-same, end_for-same}
 
 -- ---- the reading
 
@@ -69,6 +69,14 @@ module _ (s : Declared) (ws : Workqueues) (kept : List ℕ) where
       let d = declared_waits s in
       end_as-same (wiring_of (reading_declared d kept) ws) (reading (wiring_of d ws) kept)
       (SameButPlaces-compact d ws kept) steps e ends
+
+  pub end_for-reading : (named : List ℕ) (steps : List Step) (e : RunEnd)
+      → EndsFor (wiring_of (declared_waits (reading_with_names s kept)) ws) named steps e
+      → EndsFor (reading (wiring_of (declared_waits s) ws) kept) named steps e
+  end_for-reading named steps e ends =
+      let d = declared_waits s in
+      end_for-same (wiring_of (reading_declared d kept) ws) (reading (wiring_of d ws) kept)
+      (SameButPlaces-compact d ws kept) named steps e ends
 
 -- ---- the flushes of a walk
 

@@ -22,6 +22,8 @@ pub mod Commands
 pub mod Found
 pub mod Shell
 pub mod Replaying
+pub mod Named
+pub mod ReplayingFor
 pub mod Deadlocking
 pub mod DeadlockInput
 pub mod Declaration

@@ -5,8 +5,8 @@
 
 ghost use Rattle.std.specs.Prelude.{◌≡◌, IfOk};
 ghost use Rattle.wq_core.specs.Wiring.{wiring, own_lanes};
-ghost use Rattle.wq_core.specs.Deadlock.{Deadlocks};
-ghost use Rattle.wq_deadlock.specs.Verdict.{IsDeadlock};
+ghost use Rattle.wq_core.specs.Deadlock.{DeadlocksBy};
+ghost use Rattle.wq_deadlock.specs.CircleRun.{IsCircleRun};
 ghost use Rattle.wq_plan.specs.Solve.{IsPlanned, IsCircled, Solves};
 ghost use Rattle.wq_groups.specs.DeclaredGroups.{declared_waits};
 ghost use Rattle.wq_commands.specs.Answer.{PrintsCircle, text_of_plan};
@@ -18,7 +18,7 @@ use crate::shell::Answered;
 use std::alloc::{AllocError, Allocator};
 use wq_cert::{circle_text, plan_text};
 use wq_core::Step;
-use wq_deadlock::circle_run;
+use wq_deadlock::run_round;
 use wq_graph::WaitArc;
 use wq_groups::{Assignment, Declaration};
 use wq_plan::{Answer, solve};
@@ -38,19 +38,19 @@ fn text_of_plan<A: Allocator + Copy>(
     plan_text(alloc, table, groups, assignment, &chain)
 }
 
-/// The run by which the declared items hang although each group has a workqueue of
-/// its own. The groups wait in a circle.
-fn run_of_groups<A: Allocator + Copy>(
+/// The run of this circle of groups if each group has a workqueue of its own. By it all items of the circle hang.
+fn run_of_circle<A: Allocator + Copy>(
     alloc: A,
     declared: &Declaration<'_, A>,
+    arcs: &[WaitArc],
 ) -> Result<Vec<Step, A>, AllocError>
-    requires { Deadlocks (wiring (declared_waits declared.now) (own_lanes declared.now.partition.groups)) }
-    ensures { IfOk result (λ steps.
-        IsDeadlock (declared_waits declared.now) (own_lanes declared.now.partition.groups) steps.items) }
+    requires circled { IsCircled (declared_waits declared.now) arcs.now }
+    ensures run { IfOk result (λ steps. IsCircleRun
+        (wiring (declared_waits declared.now) (own_lanes declared.now.partition.groups)) arcs.now steps.items) }
+    ensures deadlocks { IfOk result (λ steps. DeadlocksBy
+        (wiring (declared_waits declared.now) (own_lanes declared.now.partition.groups)) steps.items) }
 {
-    let run = circle_run(alloc, &declared.table, &declared.groups)?;
-    // `None` would mean that these workqueues are safe, and they aren't.
-    Ok(run.unwrap())
+    run_round(alloc, &declared.table, &declared.groups, arcs)
 }
 
 /// The text of the circle in which the declared groups wait, with its run.
@@ -65,7 +65,7 @@ pub fn text_of_circle<A: Allocator + Copy>(
     ensures { IfOk result (λ text. PrintsCircle declared.now text.items) }
 {
     let ends = ends_of(alloc, arcs)?;
-    let steps = run_of_groups(alloc, declared)?;
+    let steps = run_of_circle(alloc, declared, arcs)?;
     circle_text(alloc, &declared.table, &ends, Some(steps.as_slice()))
 }
 

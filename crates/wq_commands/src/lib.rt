@@ -19,10 +19,13 @@ mod end;
 mod found;
 pub mod laws;
 mod limits;
+mod named;
 mod plan;
 mod refusal;
 mod replay;
+mod replay_for;
 mod replaying;
+mod replaying_for;
 mod shell;
 
 pub use answer::text_of_circle;
@@ -34,10 +37,13 @@ pub use declaration::{MAX_DECLARATION, MAX_DECLARATION_LINE, Stop, read_declarat
 pub use end::End;
 pub use found::{Found, Which};
 pub use limits::{ONE_TEXT, THREE_TEXTS, TWO_TEXTS, one_or_two_texts};
+pub use named::{named_items, refuse_name};
 pub use plan::{PlanCommand, plan_cmd};
 pub use refusal::{TOO_MANY_LANES, refuse};
 pub use replay::{ReplayCommand, replay_cmd};
+pub use replay_for::ReplayForCommand;
 pub use replaying::Replayed;
+pub use replaying_for::ReplayedFor;
 pub use shell::{
     Answered, Command, Finds, SaysRefusal, Silent, Voice, carry_out, respond_refused, tell,
 };

@@ -53,7 +53,10 @@ fn word_text<A: Allocator + Copy>(alloc: A, word: &[u8]) -> Result<Vec<u8, A>, A
 }
 
 /// The line that says how a run ends.
-fn replay_text<A: Allocator + Copy>(alloc: A, end: RunEnd) -> Result<Vec<u8, A>, AllocError>
+pub(crate) fn replay_text<A: Allocator + Copy>(
+    alloc: A,
+    end: RunEnd,
+) -> Result<Vec<u8, A>, AllocError>
     ensures { IfOk result (λ text. text.items ≡ line_text (replay_words end)) }
 {
     match end {
@@ -65,7 +68,7 @@ fn replay_text<A: Allocator + Copy>(alloc: A, end: RunEnd) -> Result<Vec<u8, A>,
 }
 
 /// How the program ends after a run that ends in this way: well, if the run isn't stuck.
-fn replay_end(end: RunEnd) -> End
+pub(crate) fn replay_end(end: RunEnd) -> End
     ensures { result ≡ replay_end end }
 {
     match end {

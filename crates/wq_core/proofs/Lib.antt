@@ -37,3 +37,4 @@ pub mod Starts
 pub mod Places
 pub mod HelpSteps
 pub mod MoreFlushes
+pub mod GoingOn

@@ -8,6 +8,7 @@ pub mod State
 pub mod Rules
 pub mod Runs
 pub mod Deadlock
+pub mod MustGoOn
 pub mod Readings
 pub mod Played
 pub mod Work

@@ -11,6 +11,7 @@
 mod assigned;
 mod building;
 mod entry;
+pub mod going_on_laws;
 mod lane;
 mod lanes;
 pub mod laws;

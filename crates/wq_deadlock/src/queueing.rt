@@ -2,9 +2,9 @@
 //!
 //! The items that flush along the arcs of the circle come first, in the order of the circle, and then all others, in
 //! declaration order. So each lane of the circle starts with an item that waits for the next lane, and no lane of the
-//! circle finishes anything. With n items and a circle of length c, this takes O(n c) time.
+//! circle finishes anything. This takes the time and the memory of going through the items once.
 
-ghost use Rattle.std.specs.Prelude.{◌≡◌, ◌+◌, ◌<◌, ◌==◌, length, IfOk};
+ghost use Rattle.std.specs.Prelude.{◌≡◌, ◌+◌, ◌<◌, ◌==◌, ℕ, false, length, slice_index_or, IfOk};
 ghost use Rattle.std.specs.List.{list_any};
 ghost use Rattle.wq_core.specs.Held.{AreDone};
 ghost use Rattle.wq_core.specs.Played.{queue_order};
@@ -26,11 +26,23 @@ pub(crate) fn flushing_items<A: Allocator + Copy>(
     arcs.iter().map(|arc| arc.src).collect(alloc)
 }
 
-/// Whether the item is one of these.
-fn is_among(item: ItemId, items: &[ItemId]) -> bool
-    ensures { result ≡ list_any (λ j. item == j) items.now }
+/// For each of so many items, whether it is one of these.
+fn marks_of<A: Allocator + Copy>(
+    alloc: A,
+    items: u16,
+    these: &[ItemId],
+) -> Result<Vec<bool, A>, AllocError>
+    ensures len { IfOk result (λ marks. length marks.items ≡ items) }
+    ensures marked { IfOk result (λ marks. (i : ℕ) → i < items →
+        slice_index_or marks.items i false ≡ list_any (λ j. i == j) these.now) }
 {
-    items.iter().any(|j| item == *j)
+    let mut marks = vec![in alloc; false; usize::from(items)]?;
+    for item in these {
+        if item.get() < items {
+            marks[usize::from(item.get())] = true;
+        }
+    }
+    Ok(marks)
 }
 
 /// The queueings of all items of a machine: those of `first`, and then the others.
@@ -42,14 +54,14 @@ pub(crate) fn queueings<A: Allocator + Copy>(
     ensures { IfOk result (λ steps. steps.items ≡ queue_order core.now.wiring first.now) }
 {
     let items = core.items() as u16;
+    let is_first = marks_of(alloc, items, first)?;
     let mut steps = Vec::with_capacity(alloc, usize::from(items))?;
     for item in first {
         steps.push(Step::Queue(*item))?;
     }
     for number in 0..items {
-        let item = ItemId::new(number);
-        if !is_among(item, first) {
-            steps.push(Step::Queue(item))?;
+        if !is_first[usize::from(number)] {
+            steps.push(Step::Queue(ItemId::new(number)))?;
         }
     }
     Ok(steps)

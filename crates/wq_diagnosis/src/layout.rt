@@ -3,7 +3,7 @@
 //! Each byte is shown as "Diagnoses" in docs/FORMAT.md says. A call takes time and memory linear in the length of what
 //! is shown.
 
-ghost use Rattle.std.specs.Prelude.{◌≡◌, ◌++◌, ◌∷◌, [], map, IfOk, OnOk};
+ghost use Rattle.std.specs.Prelude.{◌≡◌, ◌++◌, ◌∷◌, [], true, map, IfOk, OnOk};
 ghost use Rattle.wq_findings.specs.Shown.{place_text, shown};
 ghost use Rattle.wq_diagnosis.specs.Diagnosis.{shown_lines};
 
@@ -11,12 +11,28 @@ use std::alloc::{AllocError, Allocator};
 use wq_findings::{Excerpt, Hint, Mark, Marks, put_place, shown};
 use wq_text::Text;
 
-/// Appends a line as it is shown.
+/// Whether each byte of a line is shown as it is.
+fn is_shown_as_it_is(line: &[u8]) -> bool
+    ensures { result ≡ true → map shown line.now ≡ line.now }
+{
+    for byte in line {
+        if shown(*byte) != *byte {
+            return false;
+        }
+    }
+    true
+}
+
+/// Appends a line as it is shown. Most lines are shown as they are.
 pub fn put_line<A: Allocator>(out: &mut Vec<u8, A>, line: &[u8]) -> Result<(), AllocError>
     ensures { OnOk result (out.new.items ≡ out.old.items ++ (map shown line.now ++ (10 ∷ []))) }
 {
-    for byte in line {
-        out.push(shown(*byte))?;
+    if is_shown_as_it_is(line) {
+        out.extend_from_slice(line)?;
+    } else {
+        for byte in line {
+            out.push(shown(*byte))?;
+        }
     }
     out.push(b'\n')?;
     Ok(())

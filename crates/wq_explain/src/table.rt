@@ -157,8 +157,8 @@ const UNKNOWN_ITEM: Explanation = (
     "\
 `refused 8 line N`: line N, a `flush`, `flushwq`, `flush?`, `flushwq?` or
 `ordered` line, has a name that no `item` line above it declares. An `item` line
-below it doesn't count. `refused 8 line 0`: a NAME behind the files of `repair`
-is that of no item.
+below it doesn't count. `refused 8 line 0`: a NAME behind the files of `hang`,
+`repair`, `replay` or `circles` is that of no item.
 
 The rule: docs/FORMAT.md, \"Items and groups\"
 

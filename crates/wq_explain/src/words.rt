@@ -398,6 +398,28 @@ Or take the wait out.
 ",
 );
 
+const WAYS: Explanation = (
+    None,
+    "ways",
+    "ways answer\n",
+    "\
+`ways M`: the M flushes below it lie on no circle, and lead to one from the
+workqueue of an item that is named behind the files, or to a workqueue without a
+rescuer. By such a way the named item is held up.
+
+The rule: docs/FORMAT.md, \"The command `circles`\"
+
+To see it:
+    printf 'item n\\nitem a\\nflush n a\\nflush a a\\n' > decl
+    printf 'wq 0 n\\nwq 1 a\\n' > assign
+    wqplan circles decl assign n
+
+What to do:
+Mend the components and the waits below `norescuer`: then no way leads anywhere
+any more. Or take a wait out, if it isn't so.
+",
+);
+
 const WORKQUEUES: Explanation = (
     None,
     "workqueues",
@@ -579,7 +601,7 @@ at once. An assignment doesn't say which workqueues are ordered.
 );
 
 /// The explanations of the words of answers and of the directives, in the order of docs/FORMAT.md.
-pub static WORDS: [Explanation; 26] = [
+pub static WORDS: [Explanation; 27] = [
     PLAN,
     WQ,
     CHAIN,
@@ -597,6 +619,7 @@ pub static WORDS: [Explanation; 26] = [
     COMPONENTS,
     ARC_UNSURE,
     NORESCUER,
+    WAYS,
     WORKQUEUES,
     REFUSED,
     FAULT,

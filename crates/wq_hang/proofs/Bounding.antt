@@ -1,8 +1,8 @@
 -- Bounds of items and of lanes: what it costs at least to come on from them.
 use Rattle.std.proofs.Common.{◌≡◌, ◌≢◌, ℕ, ◌+◌, ◌<◌, ◌≤◌, ◌⊎◌, inl, inr, Bool, true, false, List, [], ◌∷◌, length}
-use Rattle.std.proofs.Common.{◌++◌, get_or, set, replicate, refl, sym, ap, subst, ◌∙◌, arith}
-use Rattle.std.specs.Prelude.{Contains, slice_index, slice_index_or, take}
-use Rattle.std.proofs.lemmas.Bool.{cases_eq, cases_lt, both_ways}
+use Rattle.std.proofs.Common.{◌++◌, get_or, set, replicate, eqb, refl, sym, ap, subst, ◌∙◌, arith}
+use Rattle.std.specs.Prelude.{Contains, slice_index, slice_index_or, take, nat_lt, not, ◌&&◌, if◌then◌else◌}
+use Rattle.std.proofs.lemmas.Bool.{cases_eq, cases_lt, eqb-true, ltb-true, both_ways}
 use Rattle.std.proofs.lemmas.List.{get_or-replicate, get_or_past, get_or-set_same, get_or-set_other, get_or_append_left}
 use Rattle.std.proofs.lemmas.List.{length-replicate, length-set}
 use Rattle.std.proofs.Math.Seq.{get_or-append_seam}
@@ -10,10 +10,10 @@ use Rattle.wq_items.specs.declared.target.Target.{Target}
 use Rattle.wq_core.specs.Wiring.{Wiring, IsWiring, HasRescuer, items, lane_of, declared_by}
 use Rattle.wq_core.proofs.Wirings.{lane_of-within}
 use Rattle.wq_hang.specs.declared.hop.Hop.{Hop}
-use Rattle.wq_hang.specs.Walk.{IsPath}
+use Rattle.wq_hang.specs.Walk.{IsPath, unsure_part}
 use Rattle.wq_hang.specs.Search.{hop_cost, hops_cost, AreItemsOn, AreBounds}
-use Rattle.wq_hang.specs.Bounds.{AreLaneBounds, IsBelowEach}
-use Rattle.wq_hang.proofs.Declared.{declared-item, target_beside-most}
+use Rattle.wq_hang.specs.Bounds.{AreLaneBounds, IsBelowEach, least_step}
+use Rattle.wq_hang.proofs.Declared.{beside_cases, declared-item, target_beside-most}
 
 -- an item that comes next on a path to an item on a lane with a rescuer is on such a lane
 next_has_rescuer : (w : Wiring) (i first : ℕ) (hops : List Hop) → HasRescuer w (lane_of w first)
@@ -22,6 +22,29 @@ next_has_rescuer w i first [] rescuer path = subst (λ (k : ℕ). HasRescuer w (
 next_has_rescuer w i first (h ∷ hops) rescuer path =
     subst (λ (k : ℕ). HasRescuer w (lane_of w k)) path.0 path.1.rescuer
 
+-- a hop costs no less than by its flush, if an item that declares a flush comes next where it costs more to go on
+least_step-enough : (w : Wiring) (further : ℕ) (h : Hop) → (0 < further → 0 < length (declared_by w h.next))
+    → least_step w further h.flush ≤ hop_cost h
+least_step-enough w further h waits =
+    by h.flush.whole refl (nat_lt 0 further) refl (eqb (length (declared_by w h.flush.item)) 0) refl
+  where
+    by : (whole : Bool) → h.flush.whole ≡ whole → (more : Bool) → nat_lt 0 further ≡ more → (none : Bool)
+        → eqb (length (declared_by w h.flush.item)) 0 ≡ none
+        → unsure_part h.flush + (if more && (not whole && none) then 4 else 3) ≤ hop_cost h
+    by true kind true test none nothing = omega arith
+    by true kind false test none nothing = omega arith
+    by false kind false test none nothing = omega arith
+    by false kind true test false nothing = omega arith
+    by false kind true test true nothing = elim (beside_cases h) [
+      | inl next ↦ absurd (omega (
+        arith,
+        waits (ltb-true 0 further test),
+        ap (λ (i : ℕ). length (declared_by w i)) (next.1 kind),
+        eqb-true (length (declared_by w h.flush.item)) 0 nothing,
+      ))
+      | inr beside ↦ omega (arith, ap (λ (l : List ℕ). length l) beside.0)
+    ]
+
 replicate-none : (n q : ℕ) → slice_index (replicate n 0) q ≡ 0
 replicate-none n q = elim (cases_lt q n) [
   | inl within ↦ get_or-replicate n q 0 0 within
@@ -29,6 +52,15 @@ replicate-none n q = elim (cases_lt q n) [
 ]
 
 module _ (w : Wiring) (marks : List Bool) where
+  -- on a path to a marked lane an item that declares a flush comes next, if the bound of its lane isn't 0
+  next_waits : (bounds : List ℕ) (i first : ℕ) (hops : List Hop) → AreLaneBounds w marks bounds
+      → HasRescuer w (lane_of w first) → slice_index_or marks (lane_of w first) false ≡ true → IsPath w i hops first
+      → 0 < slice_index bounds (lane_of w i) → 0 < length (declared_by w i)
+  next_waits bounds i first [] are rescuer marked path more =
+      absurd (omega (arith, more, are.least i first [] rescuer marked path))
+  next_waits bounds i first (h ∷ hops) are rescuer marked path more =
+      subst (λ (k : ℕ). 0 < length (declared_by w k)) path.0 (omega (arith, path.1.declared.1))
+
   -- a path to a marked lane costs at least what is below each flush of its first item
   pub path-bound : (bounds : List ℕ) (i cost first : ℕ) (hops : List Hop) → AreLaneBounds w marks bounds
       → IsBelowEach w bounds i cost → HasRescuer w (lane_of w first)
@@ -40,10 +72,15 @@ module _ (w : Wiring) (marks : List Bool) where
       subst (λ (k : ℕ). Contains (declared_by w k) h.flush) path.0 path.1.declared in
       let has : HasRescuer w (lane_of w h.flush.item) =
       subst (HasRescuer w) path.2 (next_has_rescuer w h.next first hops rescuer path.3) in
+      let further : ℕ = slice_index bounds (lane_of w h.flush.item) in
+      let least : least_step w further h.flush ≤ hop_cost h =
+      least_step-enough w further h (λ more. next_waits bounds h.next first hops are rescuer marked path.3
+      (subst (λ (q : ℕ). 0 < slice_index bounds q) (sym path.2) more)) in
       omega (
         arith,
         below h.flush there has,
         ap (slice_index bounds) path.2,
+        least,
         are.least h.next first hops rescuer marked path.3,
       )
 

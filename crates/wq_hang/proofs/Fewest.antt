@@ -108,7 +108,7 @@ unsure_at-has (g ∷ hops) h (suc k, lt, at) is =
     unsure-later g hops g.flush.unsure h.flush.place (unsure_at-has hops h (k, omega arith, at) is)
 
 -- hops of different items wait by different flushes
-Apart-unsure : (w : Wiring) (hops : List Hop) → Apart (places w.waits)
+pub Apart-unsure : (w : Wiring) (hops : List Hop) → Apart (places w.waits)
     → ((h : Hop) → Contains hops h → Contains (declared_by w h.item) h.flush) → Apart (items_of hops)
     → Apart (unsure_at hops)
 Apart-unsure w [] apart all once = tt
@@ -137,14 +137,14 @@ Apart-walk w hops beside are walk apart =
 
 -- ---- hops of a reading
 
-kept-In : (kept : List ℕ) (t : Target) → t.unsure ≡ true → is_kept kept t ≡ true → In t.place kept
+pub kept-In : (kept : List ℕ) (t : Target) → t.unsure ≡ true → is_kept kept t ≡ true → In t.place kept
 kept-In kept t unsure is = by t.unsure unsure is
   where
     by : (u : Bool) → u ≡ true → (not u || is_among kept t.place) ≡ true → In t.place kept
     by true same h = among-In t.place kept h
     by false same h = absurd cc
 
-In-kept : (kept : List ℕ) (t : Target) → (t.unsure ≡ true → In t.place kept) → is_kept kept t ≡ true
+pub In-kept : (kept : List ℕ) (t : Target) → (t.unsure ≡ true → In t.place kept) → is_kept kept t ≡ true
 In-kept kept t there = by t.unsure refl
   where
     by : (u : Bool) → t.unsure ≡ u → (not u || is_among kept t.place) ≡ true
@@ -152,7 +152,7 @@ In-kept kept t there = by t.unsure refl
     by false is = refl
 
 module _ (w : Wiring) (kept : List ℕ) where
-  IsHop-out : (h : Hop) → IsHop (reading w kept) h → IsHop w h × (is_kept kept h.flush ≡ true)
+  pub IsHop-out : (h : Hop) → IsHop (reading w kept) h → IsHop w h × (is_kept kept h.flush ≡ true)
   IsHop-out h is =
       let ts : List Target = declared_by w h.item in
       let there : Contains (kept_of kept ts) h.flush =
@@ -162,18 +162,18 @@ module _ (w : Wiring) (kept : List ℕ) where
             (filter_passes (is_kept kept) ts) there,
       )
 
-  IsHop-in : (h : Hop) → IsHop w h → is_kept kept h.flush ≡ true → IsHop (reading w kept) h
+  pub IsHop-in : (h : Hop) → IsHop w h → is_kept kept h.flush ≡ true → IsHop (reading w kept) h
   IsHop-in h is stays = record {
     declared = subst (λ (l : List Target). Contains l h.flush) (sym (targets_of-kept kept w.waits h.item))
         (Contains-filtered (is_kept kept) (declared_by w h.item) h.flush stays is.declared);
     rescuer = is.rescuer;
   }
 
-  IsPath-out : (i j : ℕ) (hops : List Hop) → IsPath (reading w kept) i hops j → IsPath w i hops j
+  pub IsPath-out : (i j : ℕ) (hops : List Hop) → IsPath (reading w kept) i hops j → IsPath w i hops j
   IsPath-out i j [] path = path
   IsPath-out i j (h ∷ hops) path = (path.0, (IsHop-out h path.1).0, path.2, IsPath-out h.next j hops path.3)
 
-  IsPath-in : (i j : ℕ) (hops : List Hop) → IsPath w i hops j
+  pub IsPath-in : (i j : ℕ) (hops : List Hop) → IsPath w i hops j
       → ((h : Hop) → Contains hops h → is_kept kept h.flush ≡ true) → IsPath (reading w kept) i hops j
   IsPath-in i j [] path stay = path
   IsPath-in i j (h ∷ hops) path stay = (
@@ -213,7 +213,7 @@ kept_below n kept (ts ∷ waits) all =
     (All-filter (is_kept kept) (λ (t : Target). t.item < n) ts (all 0 ts (omega arith)))
     (kept_below n kept waits (All-tail (TargetsBelow n) ts waits all))
 
-IsWiring-reading : (w : Wiring) (kept : List ℕ) → IsWiring w → IsWiring (reading w kept)
+pub IsWiring-reading : (w : Wiring) (kept : List ℕ) → IsWiring w → IsWiring (reading w kept)
 IsWiring-reading w kept is =
     let as_many : items (reading w kept) ≡ items w = length-map w.waits (kept_of kept) in
     record {
@@ -268,7 +268,7 @@ place_low n w hops same are all p there =
     (Contains-In g.0.flush.place (places w.waits) at) in
     omega (arith, low, same, g.2)
 
-length-needs : (n : ℕ) (w : Wiring) (hops : List Hop) → n ≡ max_flushes → ArePlacesApart w
+pub length-needs : (n : ℕ) (w : Wiring) (hops : List Hop) → n ≡ max_flushes → ArePlacesApart w
     → ((h : Hop) → Contains hops h → Contains (declared_by w h.item) h.flush) → Apart (unsure_at hops)
     → length (needs hops) ≡ length (unsure_hops hops)
 length-needs n w hops same are all apart =
@@ -276,7 +276,7 @@ length-needs n w hops same are all apart =
     ∙ length-needed n (unsure_at hops) apart (place_low n w hops same are all)
     ∙ length-map (unsure_hops hops) (λ (h : Hop). h.flush.place)
 
-In-needs : (n : ℕ) (w : Wiring) (hops : List Hop) → n ≡ max_flushes → ArePlacesApart w
+pub In-needs : (n : ℕ) (w : Wiring) (hops : List Hop) → n ≡ max_flushes → ArePlacesApart w
     → ((h : Hop) → Contains hops h → Contains (declared_by w h.item) h.flush) → (p : ℕ) → In p (unsure_at hops)
     → In p (needs hops)
 In-needs n w hops same are all p there =

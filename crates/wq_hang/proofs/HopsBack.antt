@@ -111,6 +111,7 @@ IsBetter-back w i least h low is =
     record {
       less = omega (arith, same, is.less);
       round = record { some = omega arith; first = i; path = is.back };
+      path = is.back;
       costs = omega (arith, same);
       all = λ others some path. omega (
         arith,

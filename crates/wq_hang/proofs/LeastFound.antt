@@ -85,9 +85,17 @@ IsNoBetter-bound w bounds first least are low hops some path = omega (arith, low
 pub IsNoBetter-searched : (w : Wiring) (first least : ℕ) (s : Reach) → IsSearched w first least s → least ≤ slice_index s.costs first → IsNoBetter w first least
 IsNoBetter-searched w first least s searched enough hops some path = omega (arith, searched.least hops some path, enough)
 
-pub IsBetter-searched : (w : Wiring) (first least : ℕ) (s : Reach) (hops : List Hop) → IsSearched w first least s → slice_index s.costs first < least → IsRound w hops → hops_cost hops ≤ slice_index s.costs first
+pub IsBetter-searched : (w : Wiring) (first least : ℕ) (s : Reach) (hops : List Hop) → IsSearched w first least s
+    → slice_index s.costs first < least → IsRound w hops → IsPath w first hops first
+    → hops_cost hops ≤ slice_index s.costs first
     → IsBetter w first least (slice_index s.costs first) hops
-IsBetter-searched w first least s hops searched less round cost = record { less = less; round = round; costs = cost; all = searched.least }
+IsBetter-searched w first least s hops searched less round path cost = record {
+  less = less;
+  round = round;
+  path = path;
+  costs = cost;
+  all = searched.least;
+}
 
 -- ---- after all searches
 

@@ -39,11 +39,11 @@ hops_cost-append (h ∷ hops) more = let rest : hops_cost (hops ++ more) ≡ hop
 
 -- ---- another item on the last lane
 
-abbrev redirect : ℕ → Hop → List Hop → List Hop
+abbrev pub redirect : ℕ → Hop → List Hop → List Hop
 redirect y h [] = record h { next = y } ∷ []
 redirect y h (g ∷ hops) = h ∷ redirect y g hops
 
-redirect-some : (y : ℕ) (h : Hop) (hops : List Hop) → 0 < length (redirect y h hops)
+pub redirect-some : (y : ℕ) (h : Hop) (hops : List Hop) → 0 < length (redirect y h hops)
 redirect-some y h [] = omega arith
 redirect-some y h (g ∷ hops) = omega arith
 
@@ -51,7 +51,8 @@ redirect-cost : (y : ℕ) (h : Hop) (hops : List Hop) → hops_cost (redirect y 
 redirect-cost y h [] = let most : length (target_beside (record h { next = y })) ≤ 1 = target_beside-most (record h { next = y }) in omega arith
 redirect-cost y h (g ∷ hops) = let rest : hops_cost (redirect y g hops) ≤ hops_cost (g ∷ hops) + 1 = redirect-cost y g hops in omega arith
 
-redirect-path : (w : Wiring) (i j y : ℕ) (h : Hop) (hops : List Hop) → IsPath w i (h ∷ hops) j → lane_of w y ≡ lane_of w j → IsPath w i (redirect y h hops) y
+pub redirect-path : (w : Wiring) (i j y : ℕ) (h : Hop) (hops : List Hop) → IsPath w i (h ∷ hops) j
+    → lane_of w y ≡ lane_of w j → IsPath w i (redirect y h hops) y
 redirect-path w i j y h [] path same =
     (path.0, record { declared = path.1.declared; rescuer = path.1.rescuer }, same ∙ ap (lane_of w) (sym path.3) ∙ path.2, refl)
 redirect-path w i j y h (g ∷ hops) path same = (path.0, path.1, path.2, redirect-path w h.next j y g hops path.3 same)
@@ -126,13 +127,13 @@ hops_cost-most (h ∷ hops) =
     let most : hop_cost h ≤ 32772 = hop_cost-most h in
     omega (arith, rest, most)
 
-length-lanes_from : (w : Wiring) (hops : List Hop) → length (lanes_from w hops) ≡ length hops
+pub length-lanes_from : (w : Wiring) (hops : List Hop) → length (lanes_from w hops) ≡ length hops
 length-lanes_from w [] = refl
 length-lanes_from w (h ∷ hops) =
     let rest : length (lanes_from w hops) ≡ length hops = length-lanes_from w hops in
     omega arith
 
-lanes_from-below : (w : Wiring) → IsWiring w → (i j : ℕ) (hops : List Hop) → IsPath w i hops j
+pub lanes_from-below : (w : Wiring) → IsWiring w → (i j : ℕ) (hops : List Hop) → IsPath w i hops j
     → All (λ q. q < w.lanes) (lanes_from w hops)
 lanes_from-below w wiring i j [] path = All-nil (λ q. q < w.lanes)
 lanes_from-below w wiring i j (h ∷ hops) path =

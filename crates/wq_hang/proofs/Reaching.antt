@@ -30,7 +30,7 @@ queues s = length s.near + (length s.far + (length s.near_unsure + length s.far_
 abbrev pub work : Reach → ℕ
 work s = 2 * total s.costs + queues s
 
-total-set : (xs : List ℕ) (i x : ℕ) → i < length xs → total (set xs i x) + get_or xs i 0 ≡ total xs + x
+pub total-set : (xs : List ℕ) (i x : ℕ) → i < length xs → total (set xs i x) + get_or xs i 0 ≡ total xs + x
 total-set [] i x lt = absurd (omega arith)
 total-set (y ∷ xs) zero x lt = omega arith
 total-set (y ∷ xs) (suc i) x lt = let rest : total (set xs i x) + get_or xs i 0 ≡ total xs + x = total-set xs i x (omega arith) in omega arith
@@ -84,7 +84,7 @@ then-cases : (b : Bool) (i : ℕ) (queue : List ℕ) (j : ℕ) → Contains (and
 then-cases true i queue j there = Contains-push_cases queue i j there
 then-cases false i queue j there = inl there
 
-kept_with : (near unsure : Bool) (i : ℕ) (s : Reach) (j : ℕ) → IsTodo s j → IsTodo (with_todo near unsure i s) j
+pub kept_with : (near unsure : Bool) (i : ℕ) (s : Reach) (j : ℕ) → IsTodo s j → IsTodo (with_todo near unsure i s) j
 kept_with near unsure i s j (inl there) = inl (then-kept (near && not unsure) i s.near j there)
 kept_with near unsure i s j (inr (inl there)) = inr (inl (then-kept (not near && not unsure) i s.far j there))
 kept_with near unsure i s j (inr (inr (inl there))) =
@@ -92,13 +92,13 @@ kept_with near unsure i s j (inr (inr (inl there))) =
 kept_with near unsure i s j (inr (inr (inr there))) =
     inr (inr (inr (then-kept (not near && unsure) i s.far_unsure j there)))
 
-todo_with : (near unsure : Bool) (i : ℕ) (s : Reach) → IsTodo (with_todo near unsure i s) i
+pub todo_with : (near unsure : Bool) (i : ℕ) (s : Reach) → IsTodo (with_todo near unsure i s) i
 todo_with true false i s = inl (Contains-push s.near i)
 todo_with false false i s = inr (inl (Contains-push s.far i))
 todo_with true true i s = inr (inr (inl (Contains-push s.near_unsure i)))
 todo_with false true i s = inr (inr (inr (Contains-push s.far_unsure i)))
 
-cases_with : (near unsure : Bool) (i : ℕ) (s : Reach) (j : ℕ) → IsTodo (with_todo near unsure i s) j → IsTodo s j
+pub cases_with : (near unsure : Bool) (i : ℕ) (s : Reach) (j : ℕ) → IsTodo (with_todo near unsure i s) j → IsTodo s j
     ⊎ (i ≡ j)
 cases_with near unsure i s j (inl there) =
     elim (then-cases (near && not unsure) i s.near j there) [ inl before ↦ inl (inl before) | inr same ↦ inr same ]
@@ -112,7 +112,7 @@ cases_with near unsure i s j (inr (inr (inr there))) =
     elim (then-cases (not near && unsure) i s.far_unsure j there)
     [ inl before ↦ inl (inr (inr (inr before))) | inr same ↦ inr same ]
 
-queues_with : (near unsure : Bool) (i : ℕ) (s : Reach) → queues (with_todo near unsure i s) ≡ queues s + 1
+pub queues_with : (near unsure : Bool) (i : ℕ) (s : Reach) → queues (with_todo near unsure i s) ≡ queues s + 1
 queues_with true false i s = omega (arith, length-append s.near (i ∷ []))
 queues_with false false i s = omega (arith, length-append s.far (i ∷ []))
 queues_with true true i s = omega (arith, length-append s.near_unsure (i ∷ []))
@@ -128,21 +128,22 @@ kept_reached near cost s h i todo = kept_with near h.flush.unsure h.next (put co
 todo_reached : (near : Bool) (cost : ℕ) (s : Reach) (h : Hop) → IsTodo (reached near cost s h) h.next
 todo_reached near cost s h = todo_with near h.flush.unsure h.next (put cost s h)
 
-todo_cases : (near : Bool) (cost : ℕ) (s : Reach) (h : Hop) (i : ℕ) → IsTodo (reached near cost s h) i
+pub todo_cases : (near : Bool) (cost : ℕ) (s : Reach) (h : Hop) (i : ℕ) → IsTodo (reached near cost s h) i
     → IsTodo s i ⊎ (h.next ≡ i)
 todo_cases near cost s h i todo = cases_with near h.flush.unsure h.next (put cost s h) i todo
 
 queues_reached : (near : Bool) (cost : ℕ) (s : Reach) (h : Hop) → queues (reached near cost s h) ≡ queues s + 1
 queues_reached near cost s h = queues_with near h.flush.unsure h.next (put cost s h)
 
-cost_at : (near : Bool) (cost : ℕ) (s : Reach) (h : Hop) (i : ℕ) → h.next < length s.costs
+pub cost_at : (near : Bool) (cost : ℕ) (s : Reach) (h : Hop) (i : ℕ) → h.next < length s.costs
     → ((i ≡ h.next) × (slice_index (reached near cost s h).costs i ≡ cost)) ⊎ ((i ≢ h.next) × (slice_index (reached near cost s h).costs i ≡ slice_index s.costs i))
 cost_at near cost s h i within = elim (cases_eq i h.next) [
   | inl same ↦ inl (same, subst (λ (j : ℕ). get_or (set s.costs h.next cost) j 0 ≡ cost) (sym same) (get_or-set_same s.costs h.next cost 0 within))
   | inr other ↦ inr (other, get_or-set_other s.costs h.next i cost 0 other)
 ]
 
-Later-reached : (near : Bool) (cost : ℕ) (s : Reach) (h : Hop) → h.next < length s.costs → cost < slice_index s.costs h.next → Later s (reached near cost s h)
+pub Later-reached : (near : Bool) (cost : ℕ) (s : Reach) (h : Hop) → h.next < length s.costs
+    → cost < slice_index s.costs h.next → Later s (reached near cost s h)
 Later-reached near cost s h within less = record {
   one_each = length-set s.costs h.next cost;
   by_each = length-set s.by h.next h;
@@ -256,7 +257,7 @@ module _ (w : Wiring) (first limit : ℕ) where
     from_other = λ e. omega (arith, is.from_other e, later.less i);
   }
 
-  lane_step-enough : (i : ℕ) (t : Target) (j : ℕ) → hop_cost (hop_to i t j) ≤ lane_step t
+  pub lane_step-enough : (i : ℕ) (t : Target) (j : ℕ) → hop_cost (hop_to i t j) ≤ lane_step t
   lane_step-enough i t j = by t.whole (eqb t.item j)
     where
       by : (whole same : Bool)
@@ -290,14 +291,16 @@ module _ (w : Wiring) (first limit : ℕ) where
       each r end here later rest j (zero, lt, at) = subst (λ (k : ℕ). slice_index end.costs k ≤ cost + lane_step t) at (omega (arith, here, later.less x))
       each r end here later rest j (suc k, lt, at) = rest j (k, omega arith, at)
 
-  lane_costs-reach : (near : Bool) (cost : ℕ) (s : Reach) (h : Hop) → (reach near cost s h).lane_costs ≡ s.lane_costs
+  pub lane_costs-reach : (near : Bool) (cost : ℕ) (s : Reach) (h : Hop)
+      → (reach near cost s h).lane_costs ≡ s.lane_costs
   lane_costs-reach near cost s h = by (ltb cost (slice_index s.costs h.next))
     where
       by : (b : Bool) → (if b then reached near cost s h else s).lane_costs ≡ s.lane_costs
       by true = refl
       by false = refl
 
-  lane_costs-all : (near : Bool) (cost : ℕ) (i : ℕ) (t : Target) (js : List ℕ) (s : Reach) → (reach_all near cost i t js s).lane_costs ≡ s.lane_costs
+  pub lane_costs-all : (near : Bool) (cost : ℕ) (i : ℕ) (t : Target) (js : List ℕ) (s : Reach)
+      → (reach_all near cost i t js s).lane_costs ≡ s.lane_costs
   lane_costs-all near cost i t [] s = refl
   lane_costs-all near cost i t (j ∷ js) s = lane_costs-all near cost i t js (reach near cost s (hop_to i t j)) ∙ lane_costs-reach near cost s (hop_to i t j)
 
@@ -399,7 +402,7 @@ module _ (w : Wiring) (first limit : ℕ) where
             omega (arith, is.1, less, later.lanes_less (lane_of w t.item)),
           )
 
-      direct-enough : (t : Target) (i : ℕ) → hop_cost (hop_to i t t.item) ≤ step t
+      pub direct-enough : (t : Target) (i : ℕ) → hop_cost (hop_to i t t.item) ≤ step t
       direct-enough t i = by t.whole (eqb t.item t.item) refl
         where
           by : (whole same : Bool) → eqb t.item t.item ≡ same

@@ -64,6 +64,10 @@ module _ (w : Wiring) (first limit : ℕ) (s : Reach) (reach : IsReach w first l
       let all : cost_before first s h.item ≡ slice_index s.costs h.item = cond-false (eqb h.item first) 0 (slice_index s.costs h.item) (ne_eqb h.item first other) in
       omega (arith, before h.item g is, all)
 
+  pub path_traced : (h : Hop) (hops : List Hop) → IsTrace w first limit s h hops → h.item ≡ first
+      → IsPath w first (reverse hops) first
+  path_traced h hops trace same = subst (λ (i : ℕ). IsPath w i (reverse hops) first) same trace.path
+
   pub IsRound-traced : (h : Hop) (hops : List Hop) → IsTrace w first limit s h hops → h.item ≡ first → IsRound w (reverse hops) × (hops_cost (reverse hops) ≤ slice_index s.costs first)
   IsRound-traced h hops trace same = (
     record { some = turned_some hops trace.some; first = first; path = subst (λ (i : ℕ). IsPath w i (reverse hops) first) same trace.path },

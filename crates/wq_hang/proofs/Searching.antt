@@ -54,13 +54,13 @@ pub record IsNew (w : Wiring) (limit : ℕ) (s : Reach) : Type 0 where
   pub near_unsure : s.near_unsure ≡ []
   pub far_unsure : s.far_unsure ≡ []
 
-replicate-most : (n x i : ℕ) → get_or (replicate n x) i 0 ≤ x
+pub replicate-most : (n x i : ℕ) → get_or (replicate n x) i 0 ≤ x
 replicate-most n x i = elim (cases_lt i n) [
   | inl within ↦ omega (arith, get_or-replicate n i x 0 within)
   | inr past ↦ omega (arith, get_or_past (replicate n x) i 0 (omega (arith, past, length-replicate n x)))
 ]
 
-none_todo : (w : Wiring) (limit : ℕ) (s : Reach) (i : ℕ) → IsNew w limit s → ¬ IsTodo s i
+pub none_todo : (w : Wiring) (limit : ℕ) (s : Reach) (i : ℕ) → IsNew w limit s → ¬ IsTodo s i
 none_todo w limit s i new (inl there) = omega (arith, there.1, ap (λ (l : List ℕ). length l) new.near)
 none_todo w limit s i new (inr (inl there)) = omega (arith, there.1, ap (λ (l : List ℕ). length l) new.far)
 none_todo w limit s i new (inr (inr (inl there))) = omega
@@ -154,7 +154,7 @@ module _ (w : Wiring) (bounds : List ℕ) (first limit : ℕ) (wiring : IsWiring
   one_more : (j x : ℕ) (xs : List ℕ) (P : Type 0) → (Contains xs j → P) → Contains (x ∷ xs) j → (j ≡ x) ⊎ P
   one_more j x xs P later there = elim (first_or_later j x xs there) [ inl same ↦ inl same | inr old ↦ inr (later old) ]
 
-  taken_todo : (s r : Reach) (i : ℕ) → IsTaken s i r → (j : ℕ) → IsTodo s j → (j ≡ i) ⊎ IsTodo r j
+  pub taken_todo : (s r : Reach) (i : ℕ) → IsTaken s i r → (j : ℕ) → IsTodo s j → (j ≡ i) ⊎ IsTodo r j
   taken_todo s r i taken j = for_queues i r (λ (x : Reach). IsTodo x j → (j ≡ i)
       ⊎ IsTodo r j) one two three four s taken.queues
     where
@@ -179,7 +179,7 @@ module _ (w : Wiring) (bounds : List ℕ) (first limit : ℕ) (wiring : IsWiring
       four (inr (inr (inl there))) = inr (inr (inr (inl there)))
       four (inr (inr (inr there))) = one_more j i r.far_unsure (IsTodo r j) (λ old. inr (inr (inr old))) there
 
-  taken_before : (s r : Reach) (i : ℕ) → IsTaken s i r → (j : ℕ) → IsTodo r j → IsTodo s j
+  pub taken_before : (s r : Reach) (i : ℕ) → IsTaken s i r → (j : ℕ) → IsTodo r j → IsTodo s j
   taken_before s r i taken j todo = for_queues i r (λ (x : Reach). IsTodo x j) (one todo) (two todo) (three todo)
       (four todo) s taken.queues
     where
@@ -259,7 +259,7 @@ module _ (w : Wiring) (bounds : List ℕ) (first limit : ℕ) (wiring : IsWiring
             (arith, before.1, same, ap (λ (l : List ℕ). slice_index l (lane_of w t.item)) taken.lane_costs),
       )
 
-  same_cost : (s r : Reach) (i : ℕ) → IsTaken s i r → (j : ℕ) → slice_index r.costs j ≡ slice_index s.costs j
+  pub same_cost : (s r : Reach) (i : ℕ) → IsTaken s i r → (j : ℕ) → slice_index r.costs j ≡ slice_index s.costs j
   same_cost s r i taken j = ap (λ (l : List ℕ). slice_index l j) taken.costs
 
   pub IsGoing-next : (s r end : Reach) (i cost : ℕ) → IsGoing w bounds first limit s → IsTaken s i r
@@ -301,7 +301,7 @@ module _ (w : Wiring) (bounds : List ℕ) (first limit : ℕ) (wiring : IsWiring
           (kept later j (slice_index s.costs j) (followed_taken s r i taken j (slice_index s.costs j) done)))
 
   -- less is left to do
-  work-taken : (s r : Reach) (i : ℕ) → IsTaken s i r → work r + 1 ≡ work s
+  pub work-taken : (s r : Reach) (i : ℕ) → IsTaken s i r → work r + 1 ≡ work s
   work-taken s r i taken = for_queues i r (λ (x : Reach). work r + 1 ≡ work x) (omega arith) (omega arith) (omega arith)
       (omega arith) s taken.queues
 

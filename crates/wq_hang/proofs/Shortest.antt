@@ -1,5 +1,6 @@
 -- The run of a walk that meets no lane twice ends stuck.
-use Rattle.std.proofs.Common.{◌≡◌, ◌≢◌, ℕ, zero, suc, ◌*◌, ◌<◌, ◌≤◌, ◌⊎◌, inl, inr, Bool, true, false, List, [], ◌∷◌, ◌++◌, length, map, refl, sym, ap, subst, ◌∙◌, arith}
+use Rattle.std.proofs.Common.{◌≡◌, ◌≢◌, ℕ, zero, suc, ◌*◌, ◌<◌, ◌≤◌, ◌⊎◌, inl, inr, Bool, true, false, List, [], ◌∷◌}
+use Rattle.std.proofs.Common.{◌++◌, length, map, refl, sym, ap, subst, ◌∙◌, arith}
 use Rattle.std.specs.Prelude.{Contains, flat_map}
 use Rattle.std.specs.List.{All}
 use Rattle.std.proofs.lemmas.List.{length-append, length-map}
@@ -20,7 +21,7 @@ use Rattle.wq_hang.proofs.StuckRounds.{lanes_to, IsWalk-stuck}
 use Rattle.wq_hang.proofs.LeastWalks.{lanes_from}
 use Rattle.wq_hang.proofs.WalkRuns.{items_of, queued, lane_In, In_item, HoldUp, IsRun-walk, IsStuck-walk}
 
-All-from_In : (P : ℕ → Type 0) (xs : List ℕ) → ((x : ℕ) → In x xs → P x) → All P xs
+pub All-from_In : (P : ℕ → Type 0) (xs : List ℕ) → ((x : ℕ) → In x xs → P x) → All P xs
 All-from_In P [] each = All-nil P
 All-from_In P (x ∷ xs) each = All-cons P x xs (each x (inl refl)) (All-from_In P xs (λ y there. each y (inr there)))
 
@@ -32,18 +33,20 @@ path_hop w i j [] path h (k, lt, at) = absurd (omega arith)
 path_hop w i j (g ∷ hops) path h (zero, lt, at) = subst (λ (x : Hop). IsHop w x × (lane_of w x.next ≡ lane_of w x.flush.item)) at (path.1, path.2)
 path_hop w i j (g ∷ hops) path h (suc k, lt, at) = path_hop w g.next j hops path.3 h (k, omega arith, at)
 
-path_next : (w : Wiring) (i j : ℕ) (hops : List Hop) → IsPath w i hops j → (h : Hop) → Contains hops h → In h.next (items_of hops) ⊎ (h.next ≡ j)
+pub path_next : (w : Wiring) (i j : ℕ) (hops : List Hop) → IsPath w i hops j → (h : Hop) → Contains hops h
+    → In h.next (items_of hops) ⊎ (h.next ≡ j)
 path_next w i j [] path h (k, lt, at) = absurd (omega arith)
 path_next w i j (g ∷ []) path h (zero, lt, at) = inr (ap (λ (x : Hop). x.next) (sym at) ∙ path.3)
 path_next w i j (g ∷ f ∷ hops) path h (zero, lt, at) = inl (inr (inl (ap (λ (x : Hop). x.next) (sym at) ∙ sym path.3.0)))
 path_next w i j (g ∷ hops) path h (suc k, lt, at) = elim (path_next w g.next j hops path.3 h (k, omega arith, at)) [ inl there ↦ inl (inr there) | inr end ↦ inr end ]
 
-path_first : (w : Wiring) (i j : ℕ) (hops : List Hop) → IsPath w i hops j → 0 < length hops → In i (items_of hops)
+pub path_first : (w : Wiring) (i j : ℕ) (hops : List Hop) → IsPath w i hops j → 0 < length hops → In i (items_of hops)
 path_first w i j [] path some = absurd (omega arith)
 path_first w i j (g ∷ hops) path some = inl (sym path.0)
 
 -- the lanes to which a path leads are those from which it leads, but for the first and the last
-path_lanes : (w : Wiring) (i j : ℕ) (hops : List Hop) → IsPath w i hops j → lane_of w i ∷ lanes_to w hops ≡ lanes_from w hops ++ (lane_of w j ∷ [])
+pub path_lanes : (w : Wiring) (i j : ℕ) (hops : List Hop) → IsPath w i hops j
+    → lane_of w i ∷ lanes_to w hops ≡ lanes_from w hops ++ (lane_of w j ∷ [])
 path_lanes w i j [] path = ap (λ (x : ℕ). lane_of w x ∷ []) path
 path_lanes w i j (h ∷ hops) path =
     ap (λ (x : ℕ). lane_of w x ∷ lane_of w h.flush.item ∷ lanes_to w hops) (sym path.0)
@@ -58,7 +61,7 @@ lanes_around w i h hops path =
     ∙ path_lanes w h.next i hops path.3
     ∙ ap (λ (x : ℕ). lanes_from w hops ++ (lane_of w x ∷ [])) (sym path.0)
 
-round_lanes : (w : Wiring) (i : ℕ) (hops : List Hop) → IsPath w i hops i → Apart (lanes_from w hops)
+pub round_lanes : (w : Wiring) (i : ℕ) (hops : List Hop) → IsPath w i hops i → Apart (lanes_from w hops)
     → Apart (lanes_to w hops)
 round_lanes w i [] path apart = tt
 round_lanes w i (h ∷ hops) path apart =
@@ -95,7 +98,8 @@ walk_hop w hops beside (inr (g, hop, bare, one, other)) h there =
 
 -- ---- what is queued beside
 
-lane_to_In : (w : Wiring) (hops : List Hop) (h : Hop) → Contains hops h → In (lane_of w h.flush.item) (lanes_to w hops)
+pub lane_to_In : (w : Wiring) (hops : List Hop) (h : Hop) → Contains hops h
+    → In (lane_of w h.flush.item) (lanes_to w hops)
 lane_to_In w [] h (k, lt, at) = omega arith
 lane_to_In w (g ∷ hops) h (zero, lt, at) = inl (ap (λ (x : Hop). lane_of w x.flush.item) (sym at))
 lane_to_In w (g ∷ hops) h (suc k, lt, at) = inr (lane_to_In w hops h (k, omega arith, at))
@@ -148,12 +152,14 @@ items_apart w [] apart = tt
 items_apart w (h ∷ hops) apart = (items_avoid w h.item hops apart.0, items_apart w hops apart.1)
 
 -- an item whose lane none of the hops leaves isn't one of theirs
-lane_apart : (w : Wiring) (hops : List Hop) (i j : ℕ) → Avoids (lane_of w i) (lanes_from w hops) → In j (items_of hops) → lane_of w i ≢ lane_of w j
+pub lane_apart : (w : Wiring) (hops : List Hop) (i j : ℕ) → Avoids (lane_of w i) (lanes_from w hops)
+    → In j (items_of hops) → lane_of w i ≢ lane_of w j
 lane_apart w hops i j avoids there is =
     let found = In_item hops j there in
     not_in (lane_of w i) (lanes_from w hops) avoids (subst (λ (q : ℕ). In q (lanes_from w hops)) (ap (lane_of w) found.2 ∙ sym is) (lane_In w hops found.0 found.1))
 
-one_on_lane : (w : Wiring) (hops : List Hop) → Apart (lanes_from w hops) → (i j : ℕ) → In i (items_of hops) → In j (items_of hops) → lane_of w i ≡ lane_of w j → i ≡ j
+pub one_on_lane : (w : Wiring) (hops : List Hop) → Apart (lanes_from w hops) → (i j : ℕ) → In i (items_of hops)
+    → In j (items_of hops) → lane_of w i ≡ lane_of w j → i ≡ j
 one_on_lane w [] apart i j one other same = absurd one
 one_on_lane w (h ∷ hops) apart i j (inl one) (inl other) same = one ∙ sym other
 one_on_lane w (h ∷ hops) apart i j (inl one) (inr other) same = absurd (lane_apart w hops h.item j apart.0 other (ap (lane_of w) (sym one) ∙ same))
@@ -181,7 +187,6 @@ module _ (w : Wiring) (wiring : IsWiring w) where
 
     HoldUp-round : HoldUp w hops targets
     HoldUp-round = record {
-      some = round.some;
       declared = λ h there. (is_hop h there).0.declared;
       rescuer = λ h there. (is_hop h there).0.rescuer;
       apart = apart;
@@ -224,7 +229,6 @@ module _ (w : Wiring) (wiring : IsWiring w) where
 
   HoldUp-bare : (h : Hop) → IsHop w h → (¬ HasRescuer w (lane_of w h.flush.item)) → HoldUp w (h ∷ []) (h.flush.item ∷ [])
   HoldUp-bare h hop bare = record {
-    some = omega arith;
     declared = λ g there. subst (λ (x : Hop). Contains (declared_by w x.item) x.flush) (the_one g there) hop.declared;
     rescuer = λ g there. subst (λ (x : Hop). HasRescuer w (lane_of w x.item)) (the_one g there) hop.rescuer;
     apart = (tt, tt);
@@ -248,9 +252,9 @@ module _ (w : Wiring) (wiring : IsWiring w) where
       subst (λ (hs : List Hop). HoldUp w hs beside) (sym one) (subst (λ (is : List ℕ). HoldUp w (h ∷ []) is) (sym other) (HoldUp-bare h hop bare))
 
 -- the same under any number of helpers
-HoldUp-helped : (w : Wiring) (n : ℕ) (hops : List Hop) (beside : List ℕ) → HoldUp w hops beside → HoldUp (with_helpers w n) hops beside
+pub HoldUp-helped : (w : Wiring) (n : ℕ) (hops : List Hop) (beside : List ℕ) → HoldUp w hops beside
+    → HoldUp (with_helpers w n) hops beside
 HoldUp-helped w n hops beside hold = record {
-  some = hold.some;
   declared = hold.declared;
   rescuer = hold.rescuer;
   apart = lanes_kept hops hold.apart;
@@ -281,7 +285,7 @@ length-run_of_walk w hops beside =
 
 -- ---- none of its steps needs a worker
 
-alone-queued : (w : Wiring) (is : List ℕ) → All (λ (step : Step). ¬ NeedsWorker w step) (map Queue is)
+pub alone-queued : (w : Wiring) (is : List ℕ) → All (λ (step : Step). ¬ NeedsWorker w step) (map Queue is)
 alone-queued w [] = All-nil (λ (step : Step). ¬ NeedsWorker w step)
 alone-queued w (i ∷ is) = All-cons (λ (step : Step). ¬ NeedsWorker w step) (Queue i) (map Queue is) (λ needs. needs) (alone-queued w is)
 
@@ -289,7 +293,8 @@ alone-wait : (w : Wiring) (q : ℕ) (whole : Bool) (b : ℕ) → ¬ NeedsWorker 
 alone-wait w q false b needs = needs
 alone-wait w q true b needs = needs
 
-alone-moves : (w : Wiring) (hops : List Hop) → ((h : Hop) → Contains hops h → HasRescuer w (lane_of w h.item)) → All (λ (step : Step). ¬ NeedsWorker w step) (flat_map (moves_of w) hops)
+pub alone-moves : (w : Wiring) (hops : List Hop) → ((h : Hop) → Contains hops h → HasRescuer w (lane_of w h.item))
+    → All (λ (step : Step). ¬ NeedsWorker w step) (flat_map (moves_of w) hops)
 alone-moves w [] rescuer = All-nil (λ (step : Step). ¬ NeedsWorker w step)
 alone-moves w (h ∷ hops) rescuer =
     let needs_none : Step → Type 0 = λ (step : Step). ¬ NeedsWorker w step in
@@ -300,13 +305,17 @@ alone-moves w (h ∷ hops) rescuer =
 
 -- ---- the laws
 
+walk_some : (w : Wiring) (hops : List Hop) (beside : List ℕ) → IsWalk w hops beside → 0 < length hops
+walk_some w hops beside (inl (round, same)) = round.some
+walk_some w hops beside (inr (h, hop, bare, one, other)) = omega (arith, ap (λ (l : List Hop). length l) one)
+
 pub walk_hangs : (w : Wiring) (hops : List Hop) (beside : List ℕ) → IsWiring w → IsWalk w hops beside
     → Apart (lanes_from w hops) → (n : ℕ) → EndsStuck w n (run_of_walk w hops beside)
 walk_hangs w hops beside wiring walk apart n =
     let v : Wiring = with_helpers w n in
     let helped : HoldUp v hops beside = HoldUp-helped w n hops beside (HoldUp-walk w wiring hops beside walk apart) in
     let sound : IsWiring v = IsWiring-with_helpers w n wiring in
-    (IsRun-walk v hops beside sound helped, IsStuck-walk v hops beside sound helped)
+    (IsRun-walk v hops beside sound helped, IsStuck-walk v hops beside sound helped (walk_some w hops beside walk))
 
 pub walk_alone : (w : Wiring) (hops : List Hop) (beside : List ℕ) → IsWalk w hops beside
     → All (λ (step : Step). ¬ NeedsWorker w step) (run_of_walk w hops beside)

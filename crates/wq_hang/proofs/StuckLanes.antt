@@ -54,7 +54,7 @@ first_of_helpers-at [] x is = absurd cc
 first_of_helpers-at (Some y ∷ os) x is = (0, is)
 first_of_helpers-at (None ∷ os) x is = let later = first_of_helpers-at os x is in (suc later.0, later.1)
 
-first_run-some : (lane : Lane) (c : ℕ) (r : Running) → RunsIn lane c r → (x : Running) × (first_run lane ≡ Some x)
+pub first_run-some : (lane : Lane) (c : ℕ) (r : Running) → RunsIn lane c r → (x : Running) × (first_run lane ≡ Some x)
 first_run-some lane c r runs = by lane.running refl c runs
   where
     by : (o : Option Running) → lane.running ≡ o → (k : ℕ) → run_by lane k ≡ Some r → (x : Running) × (first_or_helpers o lane.helping ≡ Some x)
@@ -62,7 +62,7 @@ first_run-some lane c r runs = by lane.running refl c runs
     by None is zero at = absurd (let never : None ≡ Some r = sym is ∙ at in cc)
     by None is (suc h) at = first_of_helpers-some lane.helping h r at
 
-first_run-at : (lane : Lane) (x : Running) → first_run lane ≡ Some x → (c : ℕ) × RunsIn lane c x
+pub first_run-at : (lane : Lane) (x : Running) → first_run lane ≡ Some x → (c : ℕ) × RunsIn lane c x
 first_run-at lane x is = by lane.running refl is
   where
     by : (o : Option Running) → lane.running ≡ o → first_or_helpers o lane.helping ≡ Some x → (c : ℕ) × RunsIn lane c x
@@ -181,7 +181,7 @@ cases_unfinished lane i = by (pending_of lane i) refl
 
 module _ (w : Wiring) (s : State) (sound : IsSoundState w s) (no_step : (step : Step) → IsForcedStep w step → ¬ Lawful w s step) where
   -- something runs on a busy lane, since else its rescuer could start something
-  runs_on : (q : ℕ) → HasRescuer w q → IsBusy (lane_at s q) → (c : ℕ) × (r : Running) × RunsIn (lane_at s q) c r
+  pub runs_on : (q : ℕ) → HasRescuer w q → IsBusy (lane_at s q) → (c : ℕ) × (r : Running) × RunsIn (lane_at s q) c r
   runs_on q rescuer (e, inr (c, r, runs, same)) = (c, r, runs)
   runs_on q rescuer (e, inl pending) = by_next (next_of (lane_at s q)) refl
     where
@@ -222,7 +222,7 @@ module _ (w : Wiring) (s : State) (sound : IsSoundState w s) (no_step : (step : 
       ]
 
   -- what runs waits, and something holds its wait back, since else it could go on
-  waits_for : (q c : ℕ) (r : Running) → RunsIn (lane_at s q) c r → (f : Waiting) × (r.waiting ≡ Some f) × IsLeft f
+  pub waits_for : (q c : ℕ) (r : Running) → RunsIn (lane_at s q) c r → (f : Waiting) × (r.waiting ≡ Some f) × IsLeft f
   waits_for q c r runs = by r.waiting refl
     where
       stays : ((f : Waiting) → r.waiting ≡ Some f → ¬ IsHeldBack w s f.whole f.target f.mark) → ⊥
@@ -237,7 +237,7 @@ module _ (w : Wiring) (s : State) (sound : IsSoundState w s) (no_step : (step : 
         | inr none ↦ absurd (stays (λ g waits. held_nowhere g (let both : Some f ≡ Some g = sym is ∙ waits in let same : f ≡ g = cc in subst (λ (x : Waiting). IsLeft x → ⊥) same none)))
       ]
 
-  weighs : (r : Running) (f : Waiting) → r.waiting ≡ Some f → run_weight (Some r) ≡ 3
+  pub weighs : (r : Running) (f : Waiting) → r.waiting ≡ Some f → run_weight (Some r) ≡ 3
   weighs r f is = omega (arith, ap (λ (o : Option Waiting). run_weight (Some (record r { waiting = o }))) is)
 
   -- the hop from a busy lane: its item runs there and waits, and what comes next runs on the lane of the target

@@ -21,7 +21,8 @@ use Rattle.wq_hang.specs.Walk.{IsHop, IsPath, IsWalk, target_beside, unsure_hops
 use Rattle.wq_hang.specs.Search.{hops_cost}
 use Rattle.wq_hang.proofs.Apart.{Avoids, Apart, In, cases_In, not_in, Apart-few}
 use Rattle.wq_hang.proofs.Declared.{declared-target, target_beside-most}
-use Rattle.wq_hang.proofs.Weights.{lane_weight, lane_weight-unfinished, weight, weight_on, weight_on-apart, weight-end_of}
+use Rattle.wq_hang.proofs.Weights.{lane_weight, lane_weight-unfinished, weight, weight_on, weight_on-apart}
+use Rattle.wq_hang.proofs.Weights.{weight-end_of}
 use Rattle.wq_hang.proofs.StuckLanes.{item_on, IsHopFrom, hop_from, hop-weight}
 
 -- the lanes to which hops lead
@@ -41,7 +42,7 @@ walk_steps-hops (h ∷ hops) =
     omega (arith, rest, length-append (target_beside h) (flat_map target_beside hops))
 
 -- what one hop more adds for an unsure flush
-unsure-more : (u : Bool) (h : Hop) (hops : List Hop)
+pub unsure-more : (u : Bool) (h : Hop) (hops : List Hop)
     → 32768 * length (cond u (h ∷ hops) hops) ≡ (if u then 32768 else 0) + 32768 * length hops
 unsure-more true h hops = omega arith
 unsure-more false h hops = omega arith
@@ -254,10 +255,11 @@ module _ (w : Wiring) (wiring : IsWiring w) (s : State) (sound : IsSoundState w 
       ]
 
 -- a hop of a wiring is one under any number of helpers
-IsHop-without : (w : Wiring) (n : ℕ) (h : Hop) → IsHop (with_helpers w n) h → IsHop w h
+pub IsHop-without : (w : Wiring) (n : ℕ) (h : Hop) → IsHop (with_helpers w n) h → IsHop w h
 IsHop-without w n h is = record { declared = is.declared; rescuer = is.rescuer }
 
-IsPath-without : (w : Wiring) (n : ℕ) (i : ℕ) (hops : List Hop) (j : ℕ) → IsPath (with_helpers w n) i hops j → IsPath w i hops j
+pub IsPath-without : (w : Wiring) (n : ℕ) (i : ℕ) (hops : List Hop) (j : ℕ) → IsPath (with_helpers w n) i hops j
+    → IsPath w i hops j
 IsPath-without w n i [] j path = path
 IsPath-without w n i (h ∷ hops) j path = (path.0, IsHop-without w n h path.1, path.2, IsPath-without w n h.next hops j path.3)
 

@@ -1,9 +1,12 @@
 -- Elements of the front of a list, and marks.
-use Rattle.std.proofs.Common.{◌≡◌, ℕ, ◌+◌, ◌<◌, ◌≤◌, ◌⊎◌, inl, inr, Bool, true, false, List, [], ◌∷◌, ◌++◌, length, take, drop, Option, Some, None, set, get_or, sym, subst, ◌∙◌}
-use Rattle.std.specs.Prelude.{Contains, slice_index_or, Result, Ok, Err, IfOk, IfSome, IfNone}
+use Rattle.std.proofs.Common.{◌≡◌, ℕ, ◌+◌, ◌-◌, ◌<◌, ◌≤◌, ◌⊎◌, inl, inr, Bool, true, false, List, [], ◌∷◌, ◌++◌, length}
+use Rattle.std.proofs.Common.{take, drop, Option, Some, None, set, get_or, sym, ap, subst, ◌∙◌, arith}
+use Rattle.std.specs.Prelude.{Contains, slice_index_or, Result, Ok, Err, IfOk, IfSome, IfNone, MatchOption}
 use Rattle.std.proofs.lemmas.Bool.{cases_eq, cases_lt}
-use Rattle.std.proofs.lemmas.List.{take_more, take_all, take-append-drop, get_or-set_same, get_or-set_other, set_past}
+use Rattle.std.proofs.lemmas.List.{take_more, take_all, take-append-drop, take-take, drop-take, get_or-set_same}
+use Rattle.std.proofs.lemmas.List.{get_or-set_other, set_past}
 use Rattle.std.proofs.lemmas.List.Elements.{Contains-push, Contains-push_cases, Contains-append_left}
+use Rattle.std.proofs.lemmas.List.Elements.{Contains-append_right, Contains-append_cases}
 
 pub contains_more : {X : Type 0} (xs : List X) (i : ℕ) (d x : X) → i < length xs → Contains (take (i + 1) xs) x → Contains (take i xs) x ⊎ (get_or xs i d ≡ x)
 contains_more {X} xs i d x lt there = Contains-push_cases (take i xs) (get_or xs i d) x (subst (λ (l : List X). Contains l x) (take_more xs i d lt) there)
@@ -19,6 +22,31 @@ contains_back {X} xs i d x lt there = subst (λ (l : List X). Contains l x) (sym
   | inl before ↦ Contains-append_left (take i xs) (get_or xs i d ∷ []) x before
   | inr same ↦ subst (λ (y : X). Contains (take i xs ++ (get_or xs i d ∷ [])) y) same (Contains-push (take i xs) (get_or xs i d))
 ])
+
+-- an element of the front of a list is in a shorter front, or in the piece behind that
+pub contains_piece : {X : Type 0} (xs : List X) (from to : ℕ) (x : X) → from ≤ to → Contains (take to xs) x
+    → Contains (take from xs) x ⊎ Contains (take (to - from) (drop from xs)) x
+contains_piece {X} xs from to x le there =
+    Contains-append_cases (take from xs) (take (to - from) (drop from xs)) x
+    (subst (λ (l : List X). Contains l x) is there)
+  where
+    both : from + (to - from) ≡ to
+    both = omega (arith, le)
+
+    is : take to xs ≡ take from xs ++ take (to - from) (drop from xs)
+    is =
+        ap (λ (n : ℕ). take n xs) (sym both)
+        ∙ sym (take-append-drop from (take (from + (to - from)) xs))
+        ∙ ap (λ (l : List X). l ++ drop from (take (from + (to - from)) xs))
+        (take-take from (from + (to - from)) xs (omega arith))
+        ∙ ap (λ (l : List X). take from xs ++ l) (drop-take from (to - from) xs)
+
+-- a piece has no other elements
+pub piece_contains : {X : Type 0} (xs : List X) (from n : ℕ) (x : X) → Contains (take n (drop from xs)) x
+    → Contains xs x
+piece_contains {X} xs from n x there =
+    subst (λ (l : List X). Contains l x) (take-append-drop from xs)
+    (Contains-append_right (take from xs) (drop from xs) x (contains_taken (drop from xs) n x there))
 
 -- a mark that is set stays, and others with it
 pub marked_kept : (marks : List Bool) (p q : ℕ) → slice_index_or marks q false ≡ true → get_or (set marks p true) q false ≡ true
@@ -47,3 +75,24 @@ IfSome-weaker (Some a) P Q weaker holds = weaker a holds
 pub IfNone-weaker : {A : Type 0} (o : Option A) (P Q : Type 0) → (P → Q) → IfNone o P → IfNone o Q
 IfNone-weaker None P Q weaker holds = weaker holds
 IfNone-weaker (Some a) P Q weaker holds = tt
+
+-- what follows from two facts of a result
+pub IfOk-both : {A E : Type 0} (r : Result A E) (P Q R : A → Type 0) → ((a : A) → P a → Q a → R a) → IfOk r P
+    → IfOk r Q → IfOk r R
+IfOk-both (Ok a) P Q R both one other = both a one other
+IfOk-both (Err e) P Q R both one other = tt
+
+-- what follows where an option isn't empty
+pub IfSome-match : {A : Type 0} (o : Option A) (P Q : A → Type 0) → ((a : A) → P a → Q a) → MatchOption o ⊥ P
+    → IfSome o Q
+IfSome-match None P Q weaker holds = tt
+IfSome-match (Some a) P Q weaker holds = weaker a holds
+
+pub IfNone-match : {A : Type 0} (o : Option A) (P : A → Type 0) (Q : Type 0) → MatchOption o ⊥ P → IfNone o Q
+IfNone-match None P Q holds = absurd holds
+IfNone-match (Some a) P Q holds = tt
+
+pub match-weaker : {A : Type 0} (o : Option A) (P Q : A → Type 0) → ((a : A) → P a → Q a) → MatchOption o ⊥ P
+    → MatchOption o ⊥ Q
+match-weaker None P Q weaker holds = holds
+match-weaker (Some a) P Q weaker holds = weaker a holds

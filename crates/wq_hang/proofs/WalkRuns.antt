@@ -1,5 +1,6 @@
 -- The run of a walk that meets no lane twice is a run, and ends stuck.
-use Rattle.std.proofs.Common.{◌≡◌, ◌≢◌, ℕ, zero, suc, ◌<◌, ◌⊎◌, inl, inr, Bool, true, false, not, eqb, List, [], ◌∷◌, ◌++◌, length, map, Some, None, refl, sym, ap, subst, ◌∙◌, arith}
+use Rattle.std.proofs.Common.{◌≡◌, ◌≢◌, ℕ, zero, suc, ◌<◌, ◌⊎◌, inl, inr, Bool, true, false, not, eqb, List, [], ◌∷◌}
+use Rattle.std.proofs.Common.{◌++◌, length, map, Some, None, refl, sym, ap, subst, ◌∙◌, arith}
 use Rattle.std.specs.Prelude.{AllPairs, Contains, flat_map, find, option_map, slice_get}
 use Rattle.std.specs.List.{All}
 use Rattle.std.proofs.lemmas.Bool.{cond-true, eq-eqb, false_from_ne_true}
@@ -11,27 +12,35 @@ use Rattle.wq_core.specs.declared.entry.Entry.{Entry}
 use Rattle.wq_core.specs.declared.entry.Waiting.{Waiting}
 use Rattle.wq_core.specs.declared.entry.Running.{Running}
 use Rattle.wq_core.specs.declared.step.Step.{Step}
-use Rattle.wq_core.specs.declared.step.Step.TheVariants.{Queue, Cancel, Start, Wait, Over, WaitAll, OverAll, Finish, Help}
-use Rattle.wq_core.specs.declared.step.HelpStep.TheVariants.{Start as DoStart, Wait as DoWait, WaitAll as DoWaitAll, Over as DoOver, OverAll as DoOverAll, Finish as DoFinish}
+use Rattle.wq_core.specs.declared.step.Step.TheVariants.{Queue, Cancel, Start, Wait, Over, WaitAll, OverAll, Finish}
+use Rattle.wq_core.specs.declared.step.Step.TheVariants.{Help}
+use Rattle.wq_core.specs.declared.step.HelpStep.TheVariants.{Start as DoStart, Wait as DoWait, WaitAll as DoWaitAll}
+use Rattle.wq_core.specs.declared.step.HelpStep.TheVariants.{Over as DoOver, OverAll as DoOverAll, Finish as DoFinish}
 use Rattle.wq_core.specs.Wiring.{Wiring, IsWiring, HasRescuer, items, lane_of, declared_by}
-use Rattle.wq_core.specs.State.{Lane, State, idle_lane, lane_at, with_lane, empty_state, run_by, RunsIn, is_running, HasPending, IsUnfinishedOn}
-use Rattle.wq_core.specs.Rules.{MayWait, MayBeOver, MayStartFirst, Lawful, effect, wait_of, begun, waiting_for, with_started, with_wait}
+use Rattle.wq_core.specs.State.{Lane, State, idle_lane, lane_at, with_lane, empty_state, run_by, RunsIn, is_running}
+use Rattle.wq_core.specs.State.{HasPending, IsUnfinishedOn}
+use Rattle.wq_core.specs.Rules.{MayWait, MayBeOver, MayStartFirst, Lawful, effect, wait_of, begun, waiting_for}
+use Rattle.wq_core.specs.Rules.{with_started, with_wait}
 use Rattle.wq_core.specs.Runs.{after, end_of, IsRun, IsRunFrom, IsForcedStep}
 use Rattle.wq_core.specs.Held.{IsSoundState}
 use Rattle.wq_core.specs.Deadlock.{IsStuck}
+use Rattle.wq_core.specs.MustGoOn.{IsStuckFor}
 use Rattle.wq_core.proofs.Contexts.{is_running-some, found-pending, next-may, MayStart-first}
 use Rattle.wq_core.proofs.Helpers.{OnlyRescuersRun, only_rescuers-end_of}
 use Rattle.wq_core.proofs.Knots.{unfinished-started, unfinished-going_on}
-use Rattle.wq_core.proofs.LaneLemmas.{lane_at-with_lane_same, lane_at-with_lane_other, lane_at-empty_state, idle_lane-unfinished, Contains-filter, AllPairs-nil}
+use Rattle.wq_core.proofs.LaneLemmas.{lane_at-with_lane_same, lane_at-with_lane_other, lane_at-empty_state}
+use Rattle.wq_core.proofs.LaneLemmas.{idle_lane-unfinished, Contains-filter, AllPairs-nil}
 use Rattle.wq_core.proofs.Plays.{after-append, IsRunFrom-append, no_help-queued}
-use Rattle.wq_core.proofs.Queued.{pending_items, on_lane, pending_items-all_queued, running-all_queued, IsRunFrom-queued}
+use Rattle.wq_core.proofs.Queued.{pending_items, on_lane, pending_items-all_queued, running-all_queued}
+use Rattle.wq_core.proofs.Queued.{IsRunFrom-queued}
 use Rattle.wq_core.proofs.QueueOrder.{first_on_lane}
 use Rattle.wq_core.proofs.Sound.{IsSoundState-end_of}
 use Rattle.wq_core.proofs.WaitSteps.{held_back-holder}
 use Rattle.wq_core.proofs.Wirings.{lane_of-within}
 use Rattle.wq_hang.specs.declared.hop.Hop.{Hop}
 use Rattle.wq_hang.specs.Walk.{moves_of, run_of_walk}
-use Rattle.wq_hang.proofs.Apart.{Avoids, Apart, In, cases_In, not_in, In-Contains, Contains-In, AllPairs-Apart, In-append_left}
+use Rattle.wq_hang.proofs.Apart.{Avoids, Apart, In, cases_In, not_in, In-Contains, Contains-In, AllPairs-Apart}
+use Rattle.wq_hang.proofs.Apart.{In-append_left}
 use Rattle.wq_hang.proofs.LeastWalks.{lanes_from}
 
 -- ---- lists
@@ -48,7 +57,8 @@ lane_In w [] h (k, lt, at) = omega arith
 lane_In w (g ∷ hops) h (zero, lt, at) = inl (ap (λ (x : Hop). lane_of w x.item) (sym at))
 lane_In w (g ∷ hops) h (suc k, lt, at) = inr (lane_In w hops h (k, omega arith, at))
 
-In_lane : (w : Wiring) (hops : List Hop) (q : ℕ) → In q (lanes_from w hops) → (h : Hop) × Contains hops h × (lane_of w h.item ≡ q)
+pub In_lane : (w : Wiring) (hops : List Hop) (q : ℕ) → In q (lanes_from w hops)
+    → (h : Hop) × Contains hops h × (lane_of w h.item ≡ q)
 In_lane w [] q there = absurd there
 In_lane w (g ∷ hops) q (inl same) = (g, (0, omega arith, refl), sym same)
 In_lane w (g ∷ hops) q (inr later) = let found = In_lane w hops q later in (found.0, (suc found.1.0, omega (arith, found.1.1), found.1.2), found.2)
@@ -63,7 +73,7 @@ In_item [] i there = absurd there
 In_item (g ∷ hops) i (inl same) = (g, (0, omega arith, refl), sym same)
 In_item (g ∷ hops) i (inr later) = let found = In_item hops i later in (found.0, (suc found.1.0, omega (arith, found.1.1), found.1.2), found.2)
 
-In-append : (i : ℕ) (xs ys : List ℕ) → In i (xs ++ ys) → In i xs ⊎ In i ys
+pub In-append : (i : ℕ) (xs ys : List ℕ) → In i (xs ++ ys) → In i xs ⊎ In i ys
 In-append i [] ys there = inr there
 In-append i (x ∷ xs) ys (inl same) = inl (inl same)
 In-append i (x ∷ xs) ys (inr later) = elim (In-append i xs ys later) [ inl one ↦ inl (inr one) | inr other ↦ inr other ]
@@ -81,7 +91,7 @@ entry_of [] i there = absurd there
 entry_of (e ∷ es) i (inl same) = (e, (0, omega arith, refl), sym same)
 entry_of (e ∷ es) i (inr later) = let found = entry_of es i later in (found.0, (suc found.1.0, omega (arith, found.1.1), found.1.2), found.2)
 
-entry_In : (es : List Entry) (e : Entry) → Contains es e → In e.item (map (λ (f : Entry). f.item) es)
+pub entry_In : (es : List Entry) (e : Entry) → Contains es e → In e.item (map (λ (f : Entry). f.item) es)
 entry_In [] e (k, lt, at) = omega arith
 entry_In (x ∷ es) e (zero, lt, at) = inl (ap (λ (f : Entry). f.item) (sym at))
 entry_In (x ∷ es) e (suc k, lt, at) = inr (entry_In es e (k, omega arith, at))
@@ -214,7 +224,6 @@ all_move w s (h ∷ hops) apart can =
 -- hops, and items beside them, whose run ends stuck: their items are on different lanes that have a rescuer, and declare the flushes;
 -- what each waits for is queued; and nothing else is queued on a lane that has a rescuer
 pub record HoldUp (w : Wiring) (hops : List Hop) (beside : List ℕ) : Type 0 where
-  pub some : 0 < length hops
   pub declared : (h : Hop) → Contains hops h → Contains (declared_by w h.item) h.flush
   pub rescuer : (h : Hop) → Contains hops h → HasRescuer w (lane_of w h.item)
   pub apart : Apart (lanes_from w hops)
@@ -424,12 +433,25 @@ module _ (w : Wiring) (hops : List Hop) (beside : List ℕ) (wiring : IsWiring w
   first_hop [] some = absurd (omega arith)
   first_hop (h ∷ hs) some = (h, (0, omega arith, refl))
 
-  pub IsStuck-walk : IsStuck w (end_of w (run_of_walk w hops beside))
-  IsStuck-walk =
-      let h = first_hop hops hold.some in
+  pub IsStuck-walk : 0 < length hops → IsStuck w (end_of w (run_of_walk w hops beside))
+  IsStuck-walk some =
+      let h = first_hop hops some in
       let left = left_at_end h.0.item (In-append_left h.0.item (items_of hops) beside (item_In hops h.0 h.1)) in
       subst (λ (s : State). IsStuck w s) (sym (after-append w (empty_state w) (map Queue all) (flat_map (moves_of w) hops))) (record {
         left = record { lane = lane_of w h.0.item; entry = left.0; unfinished = left.1 };
         rescuer = hold.rescuer h.0 h.1;
+        no_step = no_step;
+      })
+
+  -- and it is stuck for each item that is queued
+  pub IsStuckFor-walk : (named : List ℕ) (x : ℕ) → Contains named x → In x all
+      → IsStuckFor w named (end_of w (run_of_walk w hops beside))
+  IsStuckFor-walk named x is_named there =
+      let left = left_at_end x there in
+      subst (λ (s : State). IsStuckFor w named s)
+      (sym (after-append w (empty_state w) (map Queue all) (flat_map (moves_of w) hops))) (record {
+        item = x;
+        is_named = is_named;
+        left = record { lane = lane_of w x; entry = left.0; unfinished = left.1; of_item = left.2 };
         no_step = no_step;
       })

@@ -4,10 +4,16 @@ pub use Rattle.wq_groups.specs.Assignment
 pub use Rattle.wq_graph.specs.Graph
 pub use Rattle.wq_core.specs.Assigned
 pub use Rattle.wq_core.specs.Deadlock
+pub use Rattle.wq_core.specs.MustGoOn
 pub mod Shortest
 pub mod Walk
+pub mod ShortestFor
+pub mod WalkFor
 pub mod Bare
 pub mod Search
 pub mod Bounds
 pub mod Numbering
 pub mod Answer
+pub mod AnswerFor
+pub mod WaysFor
+pub mod EndsFor

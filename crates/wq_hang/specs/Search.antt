@@ -212,6 +212,7 @@ ArePassed w passed = (hops : List Hop) → IsRound w hops
 pub record IsBetter (w : Wiring) (first least cost : ℕ) (hops : List Hop) : Type 0 where
   pub less : cost < least
   pub round : IsRound w hops
+  pub path : IsPath w first hops first
   pub costs : hops_cost hops ≤ cost
   pub all : (others : List Hop) → 0 < length others → IsPath w first others first → cost ≤ hops_cost others
 

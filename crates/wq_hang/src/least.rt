@@ -10,7 +10,7 @@ ghost use Rattle.std.specs.Prelude.{IfNone};
 ghost use Rattle.std.specs.List.{All};
 ghost use Rattle.wq_core.specs.Wiring.{HasRescuer, items, lane_of};
 ghost use Rattle.wq_hang.specs.declared.hop.Hop.{Hop};
-ghost use Rattle.wq_hang.specs.Walk.{AreFirstAlike, BeginsUnsure, IsRound, max_walk_cost};
+ghost use Rattle.wq_hang.specs.Walk.{AreFirstAlike, BeginsUnsure, IsPath, IsRound, max_walk_cost};
 ghost use Rattle.wq_hang.specs.Search.{AreItemsOn, ArePassed, IsReach, IsBetter, IsNoBetter, IsLeastRound, hops_cost};
 ghost use Rattle.wq_hang.specs.Search.{AreBounds, least_hop};
 
@@ -29,7 +29,7 @@ use wq_items::ItemId;
 pub(crate) const MOST: u32 = 4097 * (UNSURE + 4);
 
 /// So many searches share their bounds.
-const AT_A_TIME: usize = 128;
+pub(crate) const AT_A_TIME: usize = 128;
 
 /// The round that a search from an item found, the item's own hop first.
 fn round<A: Allocator + Copy>(
@@ -43,6 +43,7 @@ fn round<A: Allocator + Copy>(
     requires first { first < items waits.now }
     requires less { slice_index search.now.costs first < limit }
     ensures round { IfOk result (λ hops. IsRound waits.now hops.items) }
+    ensures path { IfOk result (λ hops. IsPath waits.now first hops.items first) }
     ensures cost { IfOk result (λ hops. hops_cost hops.items ≤ slice_index search.now.costs first) }
 {
     let _items = waits.items();
@@ -78,7 +79,7 @@ fn better_hop<A: Allocator + Copy>(
 }
 
 /// A round from an item that costs less than the least so far, and what it costs at most, if there is one.
-fn better_round<A: Allocator + Copy>(
+pub(crate) fn better_round<A: Allocator + Copy>(
     alloc: A,
     waits: &Waits<'_, A>,
     on: &Buckets<A>,

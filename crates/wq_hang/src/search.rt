@@ -8,14 +8,15 @@
 //! as much as the limit isn't gone on from; nor does a flush lead on to a lane from which it can't come back for less
 //! than the cheapest way round so far. It takes time in the number of items, lanes and flushes.
 
-ghost use Rattle.std.specs.Prelude.{◌≡◌, ◌<◌, ◌≤◌, ◌⊎◌, [], false, length, replicate, slice_index, slice_index_or};
-ghost use Rattle.std.specs.Prelude.{IfOk, OnOk, IfSome, IfNone, IsTrue, if◌then◌else◌};
+ghost use Rattle.std.specs.Prelude.{◌≡◌, ◌<◌, ◌≤◌, ◌⊎◌, [], true, false, length, replicate, slice_index};
+ghost use Rattle.std.specs.Prelude.{slice_index_or, IfOk, OnOk, IfSome, IfNone, IsTrue, if◌then◌else◌};
 ghost use Rattle.std.specs.List.{All};
 ghost use Rattle.wq_core.specs.Wiring.{HasRescuer, items, lane_of};
 ghost use Rattle.wq_hang.specs.declared.hop.Hop.{Hop};
 ghost use Rattle.wq_hang.specs.Walk.{max_walk_cost};
 ghost use Rattle.wq_hang.specs.Search.{AreItemsOn, IsTaken, IsSearched, with_todo, reach, reach_all, reach_lane};
-ghost use Rattle.wq_hang.specs.Search.{most_of_use, follow, expand, hop_to, AreBounds};
+ghost use Rattle.wq_hang.specs.Search.{most_of_use, to_both, follow, expand, hop_to, AreBounds};
+ghost use Rattle.wq_hang.specs.WaysFor.{begin_at, begin_all, start_lane};
 
 use crate::hop::Hop;
 use crate::hop_back::unsure_part;
@@ -82,7 +83,7 @@ impl<A: Allocator + Copy> Search<A> {
     }
 
     /// Begins anew: each of this many items costs as much as the limit. Memory is taken only the first time.
-    fn begin(&mut self, items: usize, lanes: usize, limit: u32) -> Result<(), AllocError>
+    pub(crate) fn begin(&mut self, items: usize, lanes: usize, limit: u32) -> Result<(), AllocError>
         ensures costs { OnOk result (self.new.costs ≡ replicate items limit) }
         ensures lane_costs { OnOk result (self.new.lane_costs ≡ replicate lanes limit) }
         ensures by { OnOk result (length self.new.by ≡ items) }
@@ -215,6 +216,39 @@ impl<A: Allocator + Copy> Search<A> {
         }
     }
 
+    /// A flush of an item, which costs so much, leads on to its target, and to each item of that lane, where that costs
+    /// less than the most that is of use.
+    #[inline(always)]
+    pub(crate) fn lead_on(
+        &mut self,
+        waits: &Waits<'_, A>,
+        on: &Buckets<A>,
+        most: u32,
+        item: ItemId,
+        cost: u32,
+        flush: &Target,
+    ) -> Result<(), AllocError>
+        requires on { AreItemsOn waits.now on.now }
+        requires one_each { length self.old.costs ≡ items waits.now }
+        requires by_each { length self.old.by ≡ items waits.now }
+        requires lanes_each { length self.old.lane_costs ≡ waits.now.lanes }
+        requires target { flush.now.item < items waits.now }
+        requires low { cost ≤ max_walk_cost }
+        ensures { IfOk result (λ _. self.new ≡ to_both waits.now on.now most item cost self.old flush.now) }
+    {
+        let _items = waits.items();
+        let lane = waits.lane_of(flush.item);
+        let cost = cost + unsure_part(flush);
+        if cost + 3 < most {
+            self.reach(true, cost + 3, item, flush, flush.item)?;
+        }
+        let step = if flush.whole { 3 } else { 4 };
+        if cost + step < most {
+            self.reach_lane(flush.whole, cost + step, item, flush, lane.get(), on)?;
+        }
+        Ok(())
+    }
+
     /// A flush of an item, which costs so much, leads on, as far as it is of use.
     fn follow(
         &mut self,
@@ -242,14 +276,53 @@ impl<A: Allocator + Copy> Search<A> {
         if !waits.has_rescuer(lane) {
             return Ok(());
         }
-        let cost = cost + unsure_part(flush);
         let most = self.most_of_use(waits, bounds, first, lane);
-        if cost + 3 < most {
-            self.reach(true, cost + 3, item, flush, flush.item)?;
+        self.lead_on(waits, on, most, item, cost, flush)
+    }
+
+    /// It costs so much to come to an item, if that is less than before. It is reached by no hop.
+    fn begin_at(&mut self, near: bool, cost: u32, item: ItemId) -> Result<(), AllocError>
+        requires { item < length self.old.costs }
+        ensures { IfOk result (λ _. self.new ≡ begin_at near cost self.old item) }
+    {
+        let at = usize::from(item.get());
+        if cost < self.costs[at] {
+            self.costs[at] = cost;
+            self.push(near, false, item)?;
         }
-        let step = if flush.whole { 3 } else { 4 };
-        if cost + step < most {
-            self.reach_lane(flush.whole, cost + step, item, flush, lane.get(), on)?;
+        Ok(())
+    }
+
+    /// It costs 1 to come to each of these items.
+    fn begin_all(&mut self, on: &[u32]) -> Result<(), AllocError>
+        requires on { All (λ j. j < length self.old.costs) on.now }
+        requires few { length self.old.costs ≤ 4096 }
+        ensures { IfOk result (λ _. self.new ≡ begin_all on.now self.old) }
+    {
+        for item in on {
+            self.begin_at(false, 1, ItemId::new(*item as u16))?;
+        }
+        Ok(())
+    }
+
+    /// It costs nothing to come to an item: it is queued, and may wait.
+    pub(crate) fn start(&mut self, item: ItemId) -> Result<(), AllocError>
+        requires { item < length self.old.costs }
+        ensures { IfOk result (λ _. self.new ≡ begin_at true 0 self.old item) }
+    {
+        self.begin_at(true, 0, item)
+    }
+
+    /// It costs 1 to come to each of these items, which are those of a lane: one that is queued is behind them.
+    pub(crate) fn start_lane(&mut self, lane: LaneId, on: &[u32]) -> Result<(), AllocError>
+        requires lane { lane < length self.old.lane_costs }
+        requires on { All (λ j. j < length self.old.costs) on.now }
+        requires few { length self.old.costs ≤ 4096 }
+        ensures { IfOk result (λ _. self.new ≡ start_lane lane on.now self.old) }
+    {
+        if self.lane_costs[usize::from(lane.get())] > 1 {
+            self.begin_all(on)?;
+            self.lane_costs[usize::from(lane.get())] = 1;
         }
         Ok(())
     }
@@ -340,7 +413,7 @@ impl<A: Allocator + Copy> Search<A> {
     }
 
     /// The next item to go on from, the cheapest.
-    fn take(&mut self) -> Option<ItemId>
+    pub(crate) fn take(&mut self) -> Option<ItemId>
         ensures some { IfSome result (λ i. IsTaken self.old i self.new) }
         ensures none { IfNone result (self.new ≡ self.old) }
         ensures near { IfNone result (length self.old.near ≡ 0) }

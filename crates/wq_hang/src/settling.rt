@@ -9,12 +9,13 @@ ghost use Rattle.wq_items.specs.declared.target.Target.{Target};
 ghost use Rattle.wq_core.specs.Wiring.{items, declared_by};
 ghost use Rattle.wq_hang.specs.declared.hop.Hop.{Hop};
 ghost use Rattle.wq_hang.specs.Walk.{AreAlike, AreFirstAlike, BeginsUnsure, IsRound};
+ghost use Rattle.wq_hang.specs.WalkFor.{HoldsUp, cost_for};
 ghost use Rattle.wq_hang.specs.Search.{hops_cost};
 
 use crate::hop::Hop;
 use crate::waits::Waits;
 use std::alloc::Allocator;
-use wq_items::Target;
+use wq_items::{ItemId, Target};
 
 /// Whether two flushes have the same words in a text, if they are of one item.
 fn are_alike(flush: &Target, other: &Target) -> bool
@@ -46,6 +47,21 @@ fn put_first_alike<A: Allocator>(waits: &Waits<'_, A>, hops: &mut [Hop])
     requires { IsRound waits.now hops.old }
     ensures round { IsRound waits.now hops.new }
     ensures cost { hops_cost hops.new ≡ hops_cost hops.old }
+    ensures len { length hops.new ≡ length hops.old }
+    ensures alike { AreFirstAlike waits.now hops.new }
+{
+    for at in 0..hops.len() {
+        let mut hop = hops[at];
+        hop.flush = first_alike(waits, &hop);
+        hops[at] = hop;
+    }
+}
+
+/// Each hop of a walk that holds up an item waits by the first flush with its words.
+pub(crate) fn settle_held<A: Allocator>(waits: &Waits<'_, A>, named: ItemId, hops: &mut [Hop])
+    requires { HoldsUp waits.now named hops.old }
+    ensures walk { HoldsUp waits.now named hops.new }
+    ensures cost { cost_for waits.now named hops.new ≡ cost_for waits.now named hops.old }
     ensures len { length hops.new ≡ length hops.old }
     ensures alike { AreFirstAlike waits.now hops.new }
 {

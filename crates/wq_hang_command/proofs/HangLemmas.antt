@@ -39,7 +39,7 @@ use Rattle.wq_commands.proofs.ReadingLemmas.{AreKeptPlaces-needs, deadlock-readi
 use Rattle.wq_commands.proofs.ReadingLemmas.{not_safe-reading}
 
 -- a helper's step needs a worker that nobody can rely on
-needs-help : (w : Wiring) (step : Step) → IsHelp step → NeedsWorker w step
+pub needs-help : (w : Wiring) (step : Step) → IsHelp step → NeedsWorker w step
 needs-help w (Help q h deed) is = is
 needs-help w (Queue i) is = absurd is
 needs-help w (Cancel i) is = absurd is

@@ -1,2 +1,4 @@
 pub mod Hanging
+pub mod Holding
 pub mod Saying
+pub mod Telling

@@ -6,8 +6,13 @@
 
 mod hang;
 mod hanging;
+mod hold;
+mod holding;
 pub mod laws;
 mod saying;
+mod telling;
 
 pub use hang::HangCommand;
 pub use hanging::Hanging;
+pub use hold::HoldCommand;
+pub use holding::Holding;

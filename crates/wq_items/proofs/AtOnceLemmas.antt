@@ -1,13 +1,13 @@
 -- Reading a text at once: what a line seems to say compared with what it says, and what the lines so far have made.
 use Rattle.std.proofs.Common.{◌≡◌, ◌≢◌, ℕ, ◌+◌, ◌-◌, ◌<◌, Bool, true, false, cond, ◌||◌, List, [], ◌∷◌, ◌++◌, length}
-use Rattle.std.proofs.Common.{Option, Some, None, Result, Ok, Err, IsOk, refl, sym, ap, subst, ◌∙◌, arith}
-use Rattle.std.specs.Prelude.{IsTrue, IfSome, IfNone, option_map}
+use Rattle.std.proofs.Common.{Option, Some, None, Result, Ok, Err, IsOk, refl, sym, ap, subst, ◌∙◌, arith, inl, inr}
+use Rattle.std.specs.Prelude.{IsTrue, IfSome, IfNone, option_map, codes}
 use Rattle.std.specs.List.{AllByRecursion, list_all, cons_option}
 use Rattle.std.specs.Option.{option_or}
 use Rattle.std.proofs.lemmas.Bool.{and_from, or_right}
 use Rattle.wq_text.specs.Lines.{LineView}
 use Rattle.wq_text.specs.Comments.{before_comment}
-use Rattle.wq_text.specs.Words.{WordView, words_of}
+use Rattle.wq_text.specs.Words.{WordView, words_of, BeginsWithWords}
 use Rattle.wq_decl.specs.declared.directive.Directive.{Directive}
 use Rattle.wq_decl.specs.declared.directive.Directive.TheVariants.{Item, Flush, FlushWq, Unsure, Ordered}
 use Rattle.wq_decl.specs.declared.fault.DeclError.{DeclError}
@@ -26,9 +26,10 @@ use Rattle.wq_items.specs.Table.{Table, IsTable, item_named}
 use Rattle.wq_items.specs.declared.target.Kind.{Kind}
 use Rattle.wq_items.specs.declared.target.Target.{Target}
 use Rattle.wq_items.specs.Building.{AddsOne, empty_table, items_named, declared, and_then, table_after, table_of}
+use Rattle.wq_items.specs.Building.{of_item, flushes_declared, item_declared}
 use Rattle.wq_items.specs.FirstFault.{RanOut, DeclaresMore}
 use Rattle.wq_items.specs.AtOnce.{item_unjudged, flush_unjudged, flushwq_unjudged, unsure_unjudged, unjudged_after}
-use Rattle.wq_items.specs.AtOnce.{unjudged, is_whole, Foretells}
+use Rattle.wq_items.specs.AtOnce.{unjudged, is_whole, Foretells, IsTaken, IsRefused}
 use Rattle.wq_items.proofs.TableLemmas.{parts, item_named-below}
 use Rattle.wq_items.proofs.BuildingLemmas.{IsTable-table_of}
 use Rattle.wq_items.proofs.GrownTables.{known_next}
@@ -377,6 +378,94 @@ OrdersSoFar-noted any first count here new_any new_first new_count line d left r
           none = λ e. absurd cc;
           start = λ e. absurd cc;
         }
+
+-- ---- plain lines
+
+-- what a line says that begins with these words
+plain_said : (keyword : List ℕ) (words : List WordView) (lines left : List LineView)
+    (b : BeginsWithWords keyword words lines left)
+    → Foretells (unjudged (record { start = b.line.start; bytes = keyword } ∷ words)) (reading b.line)
+plain_said keyword words lines left b =
+    subst (λ (ws : List WordView). Foretells (unjudged ws) (reading b.line)) b.holds (Foretells-reading b.line)
+
+module _ (name target : WordView) (lines left : List LineView)
+    (b : BeginsWithWords (codes "flush") (name ∷ target ∷ []) lines left) where
+  flush_said : Foretells (Some (Some (Flush name (target ∷ [])))) (reading b.line)
+  flush_said = plain_said (codes "flush") (name ∷ target ∷ []) lines left b
+
+  pub IsTaken-flush : (t u : Table) → IsTrue (are_names (name ∷ target ∷ []))
+      → ((n : ℕ) → flushes_declared t n of_item (items_named t.names (name ∷ target ∷ [])) ≡ Ok u)
+      → IsTaken t lines u left
+  IsTaken-flush t u whole makes = record {
+    line = b.line;
+    directive = Flush name (target ∷ []);
+    first = b.first;
+    said = flush_said.0 whole;
+    other = refl;
+    makes = makes b.line.no;
+  }
+
+  pub IsRefused-flush : IsRefused lines
+  IsRefused-flush = record {
+    line = b.line;
+    directive = Flush name (target ∷ []);
+    left = left;
+    first = b.first;
+    said = flush_said;
+    grows = inr (omega arith);
+  }
+
+module _ (name : WordView) (lines left : List LineView) (b : BeginsWithWords (codes "item") (name ∷ []) lines left)
+  where
+    item_said : Foretells (Some (Some (Item name))) (reading b.line)
+    item_said = plain_said (codes "item") (name ∷ []) lines left b
+
+    pub IsTaken-item : (t u : Table) → IsTrue (is_whole (Item name)) → ((n : ℕ) → item_declared t n name ≡ Ok u)
+        → IsTaken t lines u left
+    IsTaken-item t u whole makes = record {
+      line = b.line;
+      directive = Item name;
+      first = b.first;
+      said = item_said.0 whole;
+      other = refl;
+      makes = makes b.line.no;
+    }
+
+    pub IsRefused-item : IsRefused lines
+    IsRefused-item = record {
+      line = b.line;
+      directive = Item name;
+      left = left;
+      first = b.first;
+      said = item_said;
+      grows = inl refl;
+    }
+
+-- the lines so far, after one that was taken
+pub SoFar-taken : (t u : Table) (orders : Bool) (lines left all : List LineView) → IsTaken t lines u left
+    → SoFar t orders lines all → SoFar u orders left all
+SoFar-taken t u orders lines left all k h =
+    let same : (orders || is_ordered k.directive) ≡ orders = ap (λ (b : Bool). orders || b) k.other
+    ∙ sym (or_false orders) in
+    subst (λ (b : Bool). SoFar u b left all) same
+    (SoFar-more t u orders k.line k.directive lines left all k.first k.said k.makes h)
+
+pub OrdersSoFar-taken : (t u : Table) (any : Bool) (first : List LineView) (count : Option ℕ)
+    (lines left all : List LineView) → IsTaken t lines u left → OrdersSoFar any first count lines all
+    → OrdersSoFar any first count left all
+OrdersSoFar-taken t u any first count lines left all k h =
+    passed_line any first count k.line lines left all k.first
+    (ap ordered_lines (more_directives k.line k.directive left k.said)
+    ∙ other_order k.line.no k.directive (directives left) k.other) h
+
+-- memory ran out, if the text has no fault
+pub SoFar-refused : (t : Table) (orders : Bool) (lines all : List LineView) → IsRefused lines
+    → SoFar t orders lines all → first_fault all ≡ None → IsOk (table_of (directives all)) → RanOut (directives all)
+SoFar-refused t orders lines all k h = SoFar-ran_out t orders k.line k.directive lines k.left all k.first k.said
+    (λ whole ok. k.grows) h
+
+pub length-taken : (t u : Table) (lines left : List LineView) → IsTaken t lines u left → length left < length lines
+length-taken t u lines left k = omega (arith, ap (λ (ls : List LineView). length ls) k.first)
 
 -- ---- names that are found
 

@@ -1,19 +1,63 @@
 -- Names that bring their hashes, and how they are found by them.
-use Rattle.std.proofs.Common.{◌≡◌, ◌≢◌, ℕ, ◌+◌, ◌-◌, ◌<◌, ◌≤◌, ◌==◌, inl, inr, Bool, true, false, not, cond, List, [], ◌∷◌, ◌++◌, length, get_or, set, replicate, Option, Some, None, refl, sym, ap, subst, ◌∙◌, arith, eq-eqb}
-use Rattle.std.specs.Prelude.{◌&&◌, bytes_eq, position, slice_index}
-use Rattle.std.specs.List.{All, list_any}
+use Rattle.std.proofs.Common.{
+  ◌≡◌,
+  ◌≢◌,
+  ℕ,
+  ◌+◌,
+  ◌-◌,
+  ◌<◌,
+  ◌≤◌,
+  ◌==◌,
+  inl,
+  inr,
+  Bool,
+  true,
+  false,
+  List,
+  [],
+  ◌∷◌,
+  ◌++◌,
+  length,
+  get_or,
+  set,
+  replicate,
+  Option,
+  Some,
+  None,
+  refl,
+  sym,
+  ap,
+  subst,
+  ◌∙◌,
+  arith,
+  eq-eqb,
+}
+use Rattle.std.specs.Prelude.{◌&&◌, bytes_eq, slice_index, AllPairs}
 use Rattle.std.specs.Int.Bits.{bit_and}
-use Rattle.std.proofs.lemmas.Bool.{cases_eq}
-use Rattle.std.proofs.lemmas.List.{map-append, length-map, length-set, length-replicate, length_push, get_or-map, get_or-replicate, get_or-set_same, get_or-set_other, get_or_append_left, get_or_push}
+use Rattle.std.proofs.lemmas.Bool.{cases_eq, both_ways}
+use Rattle.std.proofs.lemmas.List.{
+  map-append,
+  length-map,
+  length-set,
+  length-replicate,
+  length_push,
+  get_or-map,
+  get_or-replicate,
+  get_or-set_same,
+  get_or-set_other,
+  get_or_append_left,
+  get_or_push,
+  get_or_default,
+}
 use Rattle.std.proofs.lemmas.List.Elements.{All-nil, All-push}
+use Rattle.std.proofs.lemmas.List.Quantifiers.{all_pairs_push}
 use Rattle.std.proofs.lemmas.Slice.Eq.{bytes_eq-Decides}
 use Rattle.wq_items.specs.declared.hashing.Name.{Name}
 use Rattle.wq_items.specs.declared.hashing.Seeded.{Seeded}
 use Rattle.wq_items.specs.Table.{item_named}
-use Rattle.wq_items.specs.Hashing.{hash_of, AreHashed, names_of, keys_of, EndsAfterLast, AreLinked, AreFound}
+use Rattle.wq_items.specs.Hashing.{hash_of, names_of, keys_of, EndsAfterLast, AreLinked, AreFound}
 use Rattle.wq_items.proofs.FlushLemmas.{item_named-is}
-use Rattle.wq_items.proofs.FoundNames.{position-agree, list_any-agree}
-use Rattle.wq_items.proofs.TableLemmas.{item_named-below}
+use Rattle.wq_items.proofs.TableLemmas.{item_named-below, differs-from-item_named}
 
 -- ---- names with their hashes are the same where their bytes are
 
@@ -28,27 +72,6 @@ same-hashed hasher a b own-a own-b =
     and-second (a.hash == b.hash) (bytes_eq a.bytes.now b.bytes.now) (
     λ (e : bytes_eq a.bytes.now b.bytes.now ≡ true). eq-eqb a.hash b.hash (own-a ∙ ap (hash_of hasher) ((bytes_eq-Decides a.bytes.now b.bytes.now).0 e) ∙ sym own-b)
     )
-
-module _ (hasher : Seeded) (name : Name) (keys : List Name) (own : name.hash ≡ hash_of hasher name.bytes.now) (hashed : AreHashed hasher keys) where
-  same_tests : All (λ (k : Name). ((name.hash == k.hash) && bytes_eq name.bytes.now k.bytes.now) ≡ bytes_eq name.bytes.now k.bytes.now) keys
-  same_tests i d lt = same-hashed hasher name (get_or keys i d) own (hashed i d lt)
-
-  -- a name that brings its hash is found where its bytes are
-  pub position-hashed : position (λ (k : Name). (name.hash == k.hash) && bytes_eq name.bytes.now k.bytes.now) keys ≡ position (λ (k : Name). bytes_eq name.bytes.now k.bytes.now) keys
-  position-hashed = position-agree (λ (k : Name). (name.hash == k.hash) && bytes_eq name.bytes.now k.bytes.now) (λ (k : Name). bytes_eq name.bytes.now k.bytes.now) keys same_tests
-
-  pub list_any-hashed : list_any (λ (k : Name). (name.hash == k.hash) && bytes_eq name.bytes.now k.bytes.now) keys ≡ list_any (λ (k : Name). bytes_eq name.bytes.now k.bytes.now) keys
-  list_any-hashed = list_any-agree (λ (k : Name). (name.hash == k.hash) && bytes_eq name.bytes.now k.bytes.now) (λ (k : Name). bytes_eq name.bytes.now k.bytes.now) keys same_tests
-
--- the names that are there after one was added, and their hashes
-pub hashed-added : (hasher : Seeded) (keys : List Name) (name : Name) (any : Bool) → name.hash ≡ hash_of hasher name.bytes.now → AreHashed hasher keys → AreHashed hasher (cond any keys (keys ++ (name ∷ [])))
-hashed-added hasher keys name true own hashed = hashed
-hashed-added hasher keys name false own hashed = All-push (λ (n : Name). n.hash ≡ hash_of hasher n.bytes.now) keys name hashed own
-
-pub names-added : (keys : List Name) (name : Name) (any added : Bool) → added ≡ not any → names_of (cond any keys (keys ++ (name ∷ []))) ≡ cond added (names_of keys ++ (name.bytes.now ∷ [])) (names_of keys)
-names-added keys name true added is = ap (λ (b : Bool). cond b (names_of keys ++ (name.bytes.now ∷ [])) (names_of keys)) (sym is)
-names-added keys name false added is =
-    map-append (λ (n : Name). n.bytes.now) keys (name ∷ []) ∙ ap (λ (b : Bool). cond b (names_of keys ++ (name.bytes.now ∷ [])) (names_of keys)) (sym is)
 
 -- ---- places by key
 
@@ -169,16 +192,35 @@ module _ (hasher : Seeded) (names : List Name) (lasts befores : List ℕ) (are :
       }
 
   -- the name at a place is that of the element there, and one test is the other
-  pub name-at : (p : ℕ) (x : Name) → p < length names → x ≡ get_or names p x → get_or (names_of names) p [] ≡ x.bytes.now
+  name-at : (p : ℕ) (x : Name) → p < length names → x ≡ get_or names p x → get_or (names_of names) p [] ≡ x.bytes.now
   name-at p x lt is = get_or-map (λ (n : Name). n.bytes.now) names p x [] lt ∙ ap (λ (n : Name). n.bytes.now) (sym is)
 
-  pub tested : (p : ℕ) (x : Name) → p < length names → x ≡ get_or names p x → ((x.hash == name.hash) && bytes_eq x.bytes.now name.bytes.now) ≡ bytes_eq x.bytes.now name.bytes.now
+  tested : (p : ℕ) (x : Name) → p < length names → x ≡ get_or names p x
+      → ((x.hash == name.hash) && bytes_eq x.bytes.now name.bytes.now) ≡ bytes_eq x.bytes.now name.bytes.now
   tested p x lt is = same-hashed hasher x name (subst (λ (n : Name). n.hash ≡ hash_of hasher n.bytes.now) (sym is) (are.hashed p x lt)) own
+
+  -- the test at a place tells whether the name is there
+  pub name-there : (p : ℕ) (d : Name) (r : Bool) → p < length names
+      → r ≡ (((get_or names p d).hash == name.hash) && bytes_eq (get_or names p d).bytes.now name.bytes.now) → r ≡ true
+      → get_or (names_of names) p [] ≡ name.bytes.now
+  name-there p d r lt test passed =
+      let x = get_or names p d in
+      let is : x ≡ get_or names p x = get_or_default names p d x lt in
+      name-at p x lt is ∙ (bytes_eq-Decides x.bytes.now name.bytes.now).0 (sym (tested p x lt is) ∙ sym test ∙ passed)
+
+  pub name-elsewhere : (p : ℕ) (d : Name) (r : Bool) → p < length names
+      → r ≡ (((get_or names p d).hash == name.hash) && bytes_eq (get_or names p d).bytes.now name.bytes.now) → r ≡ false
+      → get_or (names_of names) p [] ≢ name.bytes.now
+  name-elsewhere p d r lt test failed same =
+      let x = get_or names p d in
+      let is : x ≡ get_or names p x = get_or_default names p d x lt in
+      both_ways (bytes_eq x.bytes.now name.bytes.now) (sym (tested p x lt is) ∙ sym test ∙ failed)
+      ((bytes_eq-Decides x.bytes.now name.bytes.now).1 (sym (name-at p x lt is) ∙ same))
 
   pub place-within : (end place : ℕ) → end ≡ place + 1 → Leads (names_of names) (keys_of most names) name.bytes.now key end → place < length names
   place-within end place on so_far = omega (arith, on, so_far.within, length-names)
 
--- ---- a finished table
+-- ---- names and their places
 
 pub AreFound-none : (hasher : Seeded) (names : List Name) (lasts befores : List ℕ) → names ≡ [] → lasts ≡ [] → befores ≡ [] → AreFound hasher names lasts befores
 AreFound-none hasher names lasts befores no_names no_lasts no_befores =
@@ -189,4 +231,74 @@ AreFound-none hasher names lasts befores no_names no_lasts no_befores =
       distinct = λ i j d lt within. absurd (omega (arith, within));
       keyed = λ some. absurd (omega (arith, some));
       linked = AreLinked-none [] lasts befores 0 no_lasts no_befores;
+    }
+
+-- other places of the same names
+pub AreFound-moved : (hasher : Seeded) (names : List Name) (lasts befores new_lasts new_befores : List ℕ)
+    → 0 < length new_lasts
+    → AreLinked (keys_of (length new_lasts - 1) names) (length names) new_lasts new_befores
+    → AreFound hasher names lasts befores → AreFound hasher names new_lasts new_befores
+AreFound-moved hasher names lasts befores new_lasts new_befores some linked are = record {
+  few = are.few;
+  hashed = are.hashed;
+  distinct = are.distinct;
+  keyed = λ _. some;
+  linked = linked;
+}
+
+EndsAfterLast-append : (keys more : List ℕ) (k bound end : ℕ) → bound ≤ length keys → EndsAfterLast keys k bound end
+    → EndsAfterLast (keys ++ more) k bound end
+EndsAfterLast-append keys more k bound end le h = record {
+  within = h.within;
+  last = λ p lt e. h.last p lt (sym (get_or_append_left keys more 0 p (omega (arith, lt, le))) ∙ e);
+  of_key = λ p e. get_or_append_left keys more 0 p (omega (arith, h.within, e, le)) ∙ h.of_key p e;
+}
+
+-- places that are linked stay linked if there are more keys
+AreLinked-append : (keys more lasts befores : List ℕ) (n : ℕ) → n ≤ length keys → AreLinked keys n lasts befores
+    → AreLinked (keys ++ more) n lasts befores
+AreLinked-append keys more lasts befores n le h = record {
+  one_each = h.one_each;
+  lasts_lead = λ k lt. EndsAfterLast-append keys more k n (slice_index lasts k) le (h.lasts_lead k lt);
+  befores_lead = λ p lt.
+      subst (λ (k : ℕ). EndsAfterLast (keys ++ more) k p (slice_index befores p))
+      (sym (get_or_append_left keys more 0 p (omega (arith, lt, le))))
+      (EndsAfterLast-append keys more (slice_index keys p) p (slice_index befores p) (omega (arith, lt, le))
+      (h.befores_lead p lt));
+}
+
+-- one more name, which isn't there yet
+pub AreFound-more : (hasher : Seeded) (names : List Name) (lasts befores : List ℕ) (name : Name) (key : ℕ)
+    → length names < 4096 → name.hash ≡ hash_of hasher name.bytes.now
+    → item_named (names_of names) name.bytes.now ≡ None → key ≡ bit_and name.hash (length lasts - 1)
+    → key < length lasts → AreFound hasher names lasts befores
+    → AreFound hasher (names ++ (name ∷ [])) (set lasts key (length names + 1))
+    (befores ++ (slice_index lasts key ∷ []))
+AreFound-more hasher names lasts befores name key room own none key_is inside are =
+    let n = length names in
+    let most = length lasts - 1 in
+    let its_key = bit_and name.hash most in
+    let keys = keys_of most names in
+    let new_keys = keys ++ (its_key ∷ []) in
+    let new_lasts = set lasts key (n + 1) in
+    let new_befores = befores ++ (slice_index lasts key ∷ []) in
+    let long : length keys ≡ n = length-map names (λ (m : Name). bit_and m.hash most) in
+    let at : slice_index new_keys n ≡ key = get_or_push keys its_key 0 n long ∙ sym key_is in
+    let linked : AreLinked new_keys (n + 1) new_lasts new_befores =
+    AreLinked-more new_keys lasts befores n key inside at (AreLinked-append keys (its_key ∷ []) lasts befores n
+    (omega (arith, long)) are.linked) in
+    let are_keys : keys_of (length new_lasts - 1) (names ++ (name ∷ [])) ≡ new_keys =
+    ap (λ (m : ℕ). keys_of (m - 1) (names ++ (name ∷ []))) (length-set lasts key (n + 1))
+    ∙ map-append (λ (m : Name). bit_and m.hash most) names (name ∷ []) in
+    record {
+      few = omega (arith, room, length_push names name);
+      hashed = All-push (λ (m : Name). m.hash ≡ hash_of hasher m.bytes.now) names name are.hashed own;
+      distinct =
+          subst (AllPairs (λ (a b : List ℕ). a ≢ b)) (sym (map-append (λ (m : Name). m.bytes.now) names (name ∷ [])))
+          (all_pairs_push (λ (a b : List ℕ). a ≢ b) (names_of names) name.bytes.now are.distinct
+          (λ k d lt. differs-from-item_named (names_of names) name.bytes.now none k d lt));
+      keyed = λ _. omega (arith, inside, length-set lasts key (n + 1));
+      linked =
+          subst (λ (ks : List ℕ). AreLinked ks (length (names ++ (name ∷ []))) new_lasts new_befores) (sym are_keys)
+          (subst (λ (m : ℕ). AreLinked new_keys m new_lasts new_befores) (sym (length_push names name)) linked);
     }

@@ -1,5 +1,6 @@
 -- At once: what a line says before its words are known to be names.
 use Rattle.std.specs.Prelude.{◌≡◌, Bool, true, false, List, [], ◌∷◌, Option, Some, None, Result, Ok, IsOk, IsTrue}
+use Rattle.wq_text.specs.Lines.{LineView}
 use Rattle.wq_text.specs.Words.{WordView}
 use Rattle.wq_decl.specs.declared.directive.Directive.{Directive}
 use Rattle.wq_decl.specs.declared.directive.Directive.TheVariants.{Item, Flush, FlushWq, Unsure, Ordered}
@@ -8,6 +9,10 @@ use Rattle.wq_decl.specs.declared.keyword.Keyword.{Keyword}
 use Rattle.wq_decl.specs.declared.keyword.Keyword.TheVariants as keyword
 use Rattle.wq_decl.specs.Names.{is_name, are_names}
 use Rattle.wq_decl.specs.Keywords.{keyword_of}
+use Rattle.wq_decl.specs.Reading.{reading, is_ordered}
+use Rattle.wq_items.specs.Building.{declared}
+use Rattle.wq_items.specs.FirstFault.{DeclaresMore}
+use Rattle.wq_items.specs.Table.{Table}
 
 -- the words after `item` as a directive, if there is exactly one
 abbrev pub item_unjudged : List WordView → Option (Option Directive)
@@ -66,3 +71,22 @@ Foretells None said = ¬ IsOk said
 Foretells (Some None) said = said ≡ Ok None
 Foretells (Some (Some directive)) said =
     (IsTrue (is_whole directive) → said ≡ Ok (Some directive)) × (IsOk said → IsTrue (is_whole directive))
+
+-- the first of the lines has no fault and isn't `ordered`; its directive makes table u of table t, and the others are
+-- left
+pub record IsTaken (t : Table) (lines : List LineView) (u : Table) (left : List LineView) : Type 0 where
+  pub line : LineView
+  pub directive : Directive
+  pub first : lines ≡ line ∷ left
+  pub said : reading line ≡ Ok (Some directive)
+  pub other : is_ordered directive ≡ false
+  pub makes : declared t line.no directive ≡ Ok u
+
+-- the first of the lines has a fault, or it declares an item or a flush
+pub record IsRefused (lines : List LineView) : Type 0 where
+  pub line : LineView
+  pub directive : Directive
+  pub left : List LineView
+  pub first : lines ≡ line ∷ left
+  pub said : Foretells (Some (Some directive)) (reading line)
+  pub grows : DeclaresMore (line.no, directive)

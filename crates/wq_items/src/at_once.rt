@@ -1,9 +1,10 @@
 //! The table of a text without a fault, read in one pass.
 //!
 //! `DeclView::new` and `ItemTable::read` scan a declaration one after the other, since the faults of the first pass
-//! come before those of the second. Here both passes are made at once, and the words of a line are cut once. A word
-//! that is found in the table isn't judged, since the table holds only names; only the name on an `item` line is. If
-//! the text has a fault, there is no answer: which fault it is, the two passes tell.
+//! come before those of the second. Here both passes are made at once, and the words of a line are cut once. Most lines
+//! are `flush` or `item` and names with one space between them: these are cut without looking for the end of the line
+//! first. A word that is found in the table isn't judged, since the table holds only names; only the name on an `item`
+//! line is. If the text has a fault, there is no answer: which fault it is, the two passes tell.
 //!
 //! The view of the directives keeps where the `ordered` lines are, so that reading the groups skips most other lines.
 //! The items that these lines name are noted and returned, so that most of them needn't be looked up again.
@@ -19,7 +20,7 @@ ghost use Rattle.wq_decl.specs.declared.directive.Directive.TheVariants.{Item, F
 ghost use Rattle.wq_decl.specs.Names.{are_names};
 ghost use Rattle.wq_decl.specs.Reading.{reading, directives, first_fault};
 ghost use Rattle.wq_items.specs.AtOnce.{item_unjudged, flush_unjudged, flushwq_unjudged, unjudged_after, unjudged};
-ghost use Rattle.wq_items.specs.AtOnce.{unsure_unjudged, is_whole, Foretells};
+ghost use Rattle.wq_items.specs.AtOnce.{unsure_unjudged, is_whole, Foretells, IsTaken, IsRefused};
 ghost use Rattle.wq_items.specs.Table.{IsTable};
 ghost use Rattle.wq_items.specs.Building.{empty_table, table_of, declared, item_declared, flushes_declared};
 ghost use Rattle.wq_items.specs.Building.{items_ordered, items_named, of_item};
@@ -221,6 +222,30 @@ impl<'a, A: Allocator + Copy> Parts<'a, A> {
         push_one(&self.names, &mut self.waits, kind, name, target, place)
     }
 
+    /// Adds what the next line declares, if it is a plain line, as most are: `flush` and two words, or `item` and one.
+    /// Returns whether it is one. After `None` the parts can't be used any more.
+    #[inline(always)]
+    fn take_plain(&mut self, lines: &mut Lines<'a>) -> Option<bool>
+        requires { IsTable self.old }
+        ensures taken { IfSome result (λ taken. taken ≡ true → IsTaken self.old lines.old self.new lines.new) }
+        ensures other { IfSome result (λ taken. taken ≡ false → (self.new ≡ self.old) × (lines.new ≡ lines.old)) }
+        ensures memory { IfNone result (IsRefused lines.old) }
+    {
+        if let Some((name, target)) = lines.next_pair(b"flush") {
+            let kind = Kind {
+                whole: false,
+                unsure: false,
+            };
+            self.take_one(kind, name, target)?;
+            return Some(true);
+        }
+        if let Some(name) = lines.next_single(b"item") {
+            self.take_item(name)?;
+            return Some(true);
+        }
+        Some(false)
+    }
+
     /// Adds nothing; checks that there are words and each of them names an item.
     fn take_order(&mut self, names: Words<'a>) -> Option<()>
         requires { IsTable self.old }
@@ -353,6 +378,7 @@ pub fn read_at_once<'a, A: Allocator + Copy>(
             seen.note(&here, is_ordered);
             parts.take(directive)?;
         }
+        'plain: while parts.take_plain(&mut lines)? {}
         here = lines.again();
     }
     let (table, noted) = parts.finish(alloc)?;

@@ -17,7 +17,7 @@ ghost use Rattle.wq_items.specs.Hashing.{hash_of};
 ghost use Rattle.wq_items.specs.Short.{is_short, short_number};
 
 use crate::short::{are_same_short, are_same_tiny, is_short, is_tiny, short_number, tiny_number};
-use std::hash::{BuildHasher, FoldHasher, Hash, Hasher};
+use std::hash::{FoldHasher, Hasher};
 
 /// A name, as a slice of the text, and its hash.
 #[derive(Clone, Copy)]
@@ -35,6 +35,7 @@ fn are_same_long(a: &[u8], b: &[u8]) -> bool
 }
 
 /// Whether two names are equal.
+#[inline(always)]
 pub(crate) fn are_same(a: &[u8], b: &[u8]) -> bool
     ensures { result ≡ bytes_eq a.now b.now }
 {
@@ -62,16 +63,6 @@ impl<'a> PartialEq for Name<'a> {
 
 impl<'a> Eq for Name<'a> {
     ghost laws = { Prim.search (comparing, rules) };
-}
-
-impl<'a> Hash for Name<'a> {
-    ghost hash_input = { λ n. fed.u64 n.hash };
-
-    ghost respects_eq = { Prim.search (hashing, rules) };
-
-    fn hash<H: Hasher>(&self, state: &mut H) {
-        state.write_u64(self.hash);
-    }
 }
 
 /// Hashes a longer name. Kept out of line, so that looking up a short name is small.
@@ -116,45 +107,6 @@ impl Seeded {
         Name {
             bytes,
             hash: hasher.finish(),
-        }
-    }
-}
-
-/// A hasher that returns the hash that a name brings.
-#[derive(Clone, Copy)]
-pub(crate) struct Brought {
-    hash: u64,
-}
-
-impl Brought {
-    /// No hash yet.
-    pub(crate) fn new() -> Brought {
-        Brought { hash: 0 }
-    }
-}
-
-impl BuildHasher for Brought {
-    type Hasher = Brought;
-
-    ghost build_hasher = { λ b. b };
-
-    fn build_hasher(&self) -> Brought {
-        *self
-    }
-}
-
-impl Hasher for Brought {
-    ghost write = { λ b bytes. record { hash = if is_short bytes then short_number bytes else b.hash } };
-
-    ghost finish = { λ b. b.hash };
-
-    fn finish(&self) -> u64 {
-        self.hash
-    }
-
-    fn write(&mut self, bytes: &[u8]) {
-        if is_short(bytes) {
-            self.hash = short_number(bytes);
         }
     }
 }

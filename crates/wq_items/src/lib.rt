@@ -15,7 +15,6 @@ mod fault;
 mod flush;
 mod hashing;
 pub mod laws;
-mod named;
 mod names;
 mod readings;
 mod short;

@@ -24,7 +24,6 @@ ghost use Rattle.wq_items.specs.Building.{items_named, and_item, targets_from, e
 use crate::fault::ItemError;
 use crate::flush::Flushes;
 use crate::hashing::are_same;
-use crate::named::Named;
 use crate::names::Names;
 use crate::target::{ItemId, Kind, Target};
 use crate::waits::Waits;
@@ -45,7 +44,7 @@ const SEED: u64 = 0;
 /// The items of a declaration, by number. Contracts see the record of their names, spans and targets.
 #[derive(Drop)]
 pub struct ItemTable<'a, A: Allocator> {
-    names: Named<'a, A>,
+    names: Names<'a, A>,
     spans: Vec<Span, A>,
     waits: Waits<A>,
     flushes: u32,
@@ -416,7 +415,7 @@ impl<'a, A: Allocator + Copy> Building<'a, A> {
         } = self;
         let waits = waits.by_item(alloc)?;
         Ok(ItemTable {
-            names: names.finish(alloc)?,
+            names,
             spans,
             waits,
             flushes,

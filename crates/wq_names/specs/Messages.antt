@@ -245,6 +245,117 @@ waits_for_all_of_its_own item workqueue =
     ((item ++ codes ", on ") ++ workqueue)
     ++ codes ", waits for all of its workqueue"
 
+-- the first wait where an item that must go on is held up: it waits itself
+-- "{item} is held up: on {workqueue}, it {rest}"
+abbrev pub held_on : List ℕ → List ℕ → List ℕ → List ℕ
+held_on item workqueue rest = (((item ++ codes " is held up: on ") ++ workqueue) ++ codes ", it ") ++ rest
+
+-- the same, where the flush is unsure
+-- "{item} is held up, if this is so: on {workqueue}, it {rest}"
+abbrev pub held_on_if : List ℕ → List ℕ → List ℕ → List ℕ
+held_on_if item workqueue rest =
+    (((item ++ codes " is held up, if this is so: on ") ++ workqueue)
+    ++ codes ", it ") ++ rest
+
+-- the same, where another item waits in front of it
+-- "{item} is held up: it is behind {first} on {workqueue}, which {rest}"
+abbrev pub held_behind : List ℕ → List ℕ → List ℕ → List ℕ → List ℕ
+held_behind item first workqueue rest =
+    (((((item ++ codes " is held up: it is behind ") ++ first)
+    ++ codes " on ") ++ workqueue)
+    ++ codes ", which ") ++ rest
+
+-- the same, where the flush is unsure
+-- "{item} is held up, if this is so: it is behind {first} on {workqueue}, which {rest}"
+abbrev pub held_behind_if : List ℕ → List ℕ → List ℕ → List ℕ → List ℕ
+held_behind_if item first workqueue rest =
+    (((((item ++ codes " is held up, if this is so: it is behind ") ++ first)
+    ++ codes " on ") ++ workqueue)
+    ++ codes ", which ") ++ rest
+
+-- an item that must go on is on a workqueue without a rescuer
+-- "{item} is held up: nothing guarantees that it runs: {workqueue} has no rescuer"
+abbrev pub held_bare : List ℕ → List ℕ → List ℕ
+held_bare item workqueue =
+    ((item ++ codes " is held up: nothing guarantees that it runs: ") ++ workqueue)
+    ++ codes " has no rescuer"
+
+-- behind `held_behind`: the item in front waits for the one that must go on
+-- "waits for it"
+abbrev pub rest_for_it : List ℕ
+rest_for_it = codes "waits for it"
+
+-- behind these: an item waits for one on a workqueue without a rescuer
+-- "waits for {target}, which nothing guarantees to run: {other} has no rescuer"
+abbrev pub rest_bare : List ℕ → List ℕ → List ℕ
+rest_bare target other =
+    (((codes "waits for " ++ target)
+    ++ codes ", which nothing guarantees to run: ") ++ other)
+    ++ codes " has no rescuer"
+
+-- behind these: an item waits for a whole workqueue without a rescuer
+-- "waits for the workqueue of {target}, which nothing guarantees to run: {other} has no rescuer"
+abbrev pub rest_all_of_bare : List ℕ → List ℕ → List ℕ
+rest_all_of_bare target other =
+    (((codes "waits for the workqueue of " ++ target)
+    ++ codes ", which nothing guarantees to run: ") ++ other)
+    ++ codes " has no rescuer"
+
+-- behind these: an item waits for the one that waits next
+-- "waits for {target}, which waits on {other}"
+abbrev pub rest_next : List ℕ → List ℕ → List ℕ
+rest_next target other = ((codes "waits for " ++ target) ++ codes ", which waits on ") ++ other
+
+-- behind these: an item waits for itself
+-- "waits for itself"
+abbrev pub rest_itself : List ℕ
+rest_itself = codes "waits for itself"
+
+-- behind these: an item waits for one behind the one that waits next
+-- "waits for {target}, which is behind {next} on {other}"
+abbrev pub rest_behind : List ℕ → List ℕ → List ℕ → List ℕ
+rest_behind target next other =
+    ((((codes "waits for " ++ target)
+    ++ codes ", which is behind ") ++ next)
+    ++ codes " on ") ++ other
+
+-- behind these: an item waits for one behind itself
+-- "waits for {target}, which is behind it"
+abbrev pub rest_behind_it : List ℕ → List ℕ
+rest_behind_it target = (codes "waits for " ++ target) ++ codes ", which is behind it"
+
+-- behind these: an item waits for a whole workqueue, on which the next one waits
+-- "waits for all of {other}, where {next} waits"
+abbrev pub rest_all : List ℕ → List ℕ → List ℕ
+rest_all other next = (((codes "waits for all of " ++ other) ++ codes ", where ") ++ next) ++ codes " waits"
+
+-- behind these: an item waits for its own whole workqueue
+-- "waits for all of its workqueue"
+abbrev pub rest_all_of_its_own : List ℕ
+rest_all_of_its_own = codes "waits for all of its workqueue"
+
+-- the note beside `safe` of items that must go on: nothing on the workqueue of this one waits
+-- "{file}: note: nothing on the workqueue of {item} declares a flush. Does reclaim wait for its end, or for what
+-- another item does?"
+abbrev pub nothing_flushes_on : List ℕ → List ℕ → List ℕ
+nothing_flushes_on file item =
+    ((file ++ codes ": note: nothing on the workqueue of ") ++ item)
+    ++ codes " declares a flush. Does reclaim wait for its end, or for what another item does?"
+
+-- the same, of several items
+-- "{file}: note: nothing on the workqueues of {items} declares a flush. Does reclaim wait for their ends, or for
+-- what other items do?"
+abbrev pub nothing_flushes_on_these : List ℕ → List ℕ → List ℕ
+nothing_flushes_on_these file items =
+    ((file ++ codes ": note: nothing on the workqueues of ") ++ items)
+    ++ codes " declares a flush. Does reclaim wait for their ends, or for what other items do?"
+
+-- the same note, where other items can hang
+-- "{file}: note: nothing holds up what is named; other items can hang: ask without a NAME"
+abbrev pub others_can_hang : List ℕ → List ℕ
+others_can_hang file =
+    file ++ codes ": note: nothing holds up what is named; other items can hang: ask without a NAME"
+
 -- in words of groups: an item waits for the one that waits next
 -- "{item} waits for {target}, which waits"
 abbrev pub group_waits_for_next : List ℕ → List ℕ → List ℕ
@@ -435,6 +546,11 @@ on_these = codes "on these workqueues"
 -- "to whether there is a plan"
 abbrev pub to_a_plan : List ℕ
 to_a_plan = codes "to whether there is a plan"
+
+-- the same, where items must go on
+-- "to what is named"
+abbrev pub to_what_is_named : List ℕ
+to_what_is_named = codes "to what is named"
 
 -- beside a plan whose chain has an unsure flush
 -- "{file}: note: {count} workqueues are needed if these are so; without unsure lines {fewer} are enough:"

@@ -10,7 +10,10 @@ ghost use Rattle.wq_names.specs.Messages.{runner_waits_for_all, declares_no_flus
 ghost use Rattle.wq_names.specs.Messages.{has_made_all, doesnt_wait, is_unfinished, one_is_unfinished};
 ghost use Rattle.wq_names.specs.Messages.{has_no_rescuer, waits_for_bare, waits_for_all_of_bare, waits_for_next};
 ghost use Rattle.wq_names.specs.Messages.{waits_for_itself, waits_for_behind, waits_for_behind_it};
-ghost use Rattle.wq_names.specs.Messages.{waits_for_all, waits_for_all_of_its_own, group_waits_for_next};
+ghost use Rattle.wq_names.specs.Messages.{waits_for_all, waits_for_all_of_its_own, held_on, held_on_if};
+ghost use Rattle.wq_names.specs.Messages.{held_behind, held_behind_if, held_bare, rest_bare, rest_all_of_bare};
+ghost use Rattle.wq_names.specs.Messages.{rest_next, rest_behind, rest_behind_it, rest_all, nothing_flushes_on};
+ghost use Rattle.wq_names.specs.Messages.{nothing_flushes_on_these, others_can_hang, group_waits_for_next};
 ghost use Rattle.wq_names.specs.Messages.{group_waits_for_itself, group_waits_for_behind};
 ghost use Rattle.wq_names.specs.Messages.{group_waits_for_behind_it, group_waits_for_all};
 ghost use Rattle.wq_names.specs.Messages.{group_waits_for_all_of_its_own, is_given, moves, with_more, a_new_one};
@@ -581,6 +584,263 @@ pub fn waits_for_all_of_its_own<A: Allocator + Copy>(
     Ok(words)
 }
 
+/// The first wait where an item that must go on is held up: it waits itself.
+pub fn held_on<A: Allocator + Copy>(
+    alloc: A,
+    item: &[u8],
+    workqueue: &[u8],
+    rest: &[u8],
+) -> Result<Vec<u8, A>, AllocError>
+    ensures { IfOk result (λ words. words.items ≡ held_on item.now workqueue.now rest.now) }
+{
+    let mut words = Vec::with_capacity(alloc, 117)?;
+    put(&mut words, item)?;
+    put(&mut words, b" is held up: on ")?;
+    put(&mut words, workqueue)?;
+    put(&mut words, b", it ")?;
+    put(&mut words, rest)?;
+    Ok(words)
+}
+
+/// The same, where the flush is unsure.
+pub fn held_on_if<A: Allocator + Copy>(
+    alloc: A,
+    item: &[u8],
+    workqueue: &[u8],
+    rest: &[u8],
+) -> Result<Vec<u8, A>, AllocError>
+    ensures { IfOk result (λ words. words.items ≡ held_on_if item.now workqueue.now rest.now) }
+{
+    let mut words = Vec::with_capacity(alloc, 132)?;
+    put(&mut words, item)?;
+    put(&mut words, b" is held up, if this is so: on ")?;
+    put(&mut words, workqueue)?;
+    put(&mut words, b", it ")?;
+    put(&mut words, rest)?;
+    Ok(words)
+}
+
+/// The same, where another item waits in front of it.
+pub fn held_behind<A: Allocator + Copy>(
+    alloc: A,
+    item: &[u8],
+    first: &[u8],
+    workqueue: &[u8],
+    rest: &[u8],
+) -> Result<Vec<u8, A>, AllocError>
+    ensures { IfOk result (λ words. words.items ≡ held_behind item.now first.now workqueue.now rest.now) }
+{
+    let mut words = Vec::with_capacity(alloc, 166)?;
+    put(&mut words, item)?;
+    put(&mut words, b" is held up: it is behind ")?;
+    put(&mut words, first)?;
+    put(&mut words, b" on ")?;
+    put(&mut words, workqueue)?;
+    put(&mut words, b", which ")?;
+    put(&mut words, rest)?;
+    Ok(words)
+}
+
+/// The same, where the flush is unsure.
+pub fn held_behind_if<A: Allocator + Copy>(
+    alloc: A,
+    item: &[u8],
+    first: &[u8],
+    workqueue: &[u8],
+    rest: &[u8],
+) -> Result<Vec<u8, A>, AllocError>
+    ensures { IfOk result (λ words. words.items ≡ held_behind_if item.now first.now workqueue.now rest.now) }
+{
+    let mut words = Vec::with_capacity(alloc, 181)?;
+    put(&mut words, item)?;
+    put(&mut words, b" is held up, if this is so: it is behind ")?;
+    put(&mut words, first)?;
+    put(&mut words, b" on ")?;
+    put(&mut words, workqueue)?;
+    put(&mut words, b", which ")?;
+    put(&mut words, rest)?;
+    Ok(words)
+}
+
+/// An item that must go on is on a workqueue without a rescuer.
+pub fn held_bare<A: Allocator + Copy>(
+    alloc: A,
+    item: &[u8],
+    workqueue: &[u8],
+) -> Result<Vec<u8, A>, AllocError>
+    ensures { IfOk result (λ words. words.items ≡ held_bare item.now workqueue.now) }
+{
+    let mut words = Vec::with_capacity(alloc, 125)?;
+    put(&mut words, item)?;
+    put(
+        &mut words,
+        b" is held up: nothing guarantees that it runs: ",
+    )?;
+    put(&mut words, workqueue)?;
+    put(&mut words, b" has no rescuer")?;
+    Ok(words)
+}
+
+/// Behind `held_behind`: the item in front waits for the one that must go on.
+pub const REST_FOR_IT: &[u8] = b"waits for it";
+
+/// Behind these: an item waits for one on a workqueue without a rescuer.
+pub fn rest_bare<A: Allocator + Copy>(
+    alloc: A,
+    target: &[u8],
+    other: &[u8],
+) -> Result<Vec<u8, A>, AllocError>
+    ensures { IfOk result (λ words. words.items ≡ rest_bare target.now other.now) }
+{
+    let mut words = Vec::with_capacity(alloc, 124)?;
+    put(&mut words, b"waits for ")?;
+    put(&mut words, target)?;
+    put(&mut words, b", which nothing guarantees to run: ")?;
+    put(&mut words, other)?;
+    put(&mut words, b" has no rescuer")?;
+    Ok(words)
+}
+
+/// Behind these: an item waits for a whole workqueue without a rescuer.
+pub fn rest_all_of_bare<A: Allocator + Copy>(
+    alloc: A,
+    target: &[u8],
+    other: &[u8],
+) -> Result<Vec<u8, A>, AllocError>
+    ensures { IfOk result (λ words. words.items ≡ rest_all_of_bare target.now other.now) }
+{
+    let mut words = Vec::with_capacity(alloc, 141)?;
+    put(&mut words, b"waits for the workqueue of ")?;
+    put(&mut words, target)?;
+    put(&mut words, b", which nothing guarantees to run: ")?;
+    put(&mut words, other)?;
+    put(&mut words, b" has no rescuer")?;
+    Ok(words)
+}
+
+/// Behind these: an item waits for the one that waits next.
+pub fn rest_next<A: Allocator + Copy>(
+    alloc: A,
+    target: &[u8],
+    other: &[u8],
+) -> Result<Vec<u8, A>, AllocError>
+    ensures { IfOk result (λ words. words.items ≡ rest_next target.now other.now) }
+{
+    let mut words = Vec::with_capacity(alloc, 91)?;
+    put(&mut words, b"waits for ")?;
+    put(&mut words, target)?;
+    put(&mut words, b", which waits on ")?;
+    put(&mut words, other)?;
+    Ok(words)
+}
+
+/// Behind these: an item waits for itself.
+pub const REST_ITSELF: &[u8] = b"waits for itself";
+
+/// Behind these: an item waits for one behind the one that waits next.
+pub fn rest_behind<A: Allocator + Copy>(
+    alloc: A,
+    target: &[u8],
+    next: &[u8],
+    other: &[u8],
+) -> Result<Vec<u8, A>, AllocError>
+    ensures { IfOk result (λ words. words.items ≡ rest_behind target.now next.now other.now) }
+{
+    let mut words = Vec::with_capacity(alloc, 128)?;
+    put(&mut words, b"waits for ")?;
+    put(&mut words, target)?;
+    put(&mut words, b", which is behind ")?;
+    put(&mut words, next)?;
+    put(&mut words, b" on ")?;
+    put(&mut words, other)?;
+    Ok(words)
+}
+
+/// Behind these: an item waits for one behind itself.
+pub fn rest_behind_it<A: Allocator + Copy>(
+    alloc: A,
+    target: &[u8],
+) -> Result<Vec<u8, A>, AllocError>
+    ensures { IfOk result (λ words. words.items ≡ rest_behind_it target.now) }
+{
+    let mut words = Vec::with_capacity(alloc, 62)?;
+    put(&mut words, b"waits for ")?;
+    put(&mut words, target)?;
+    put(&mut words, b", which is behind it")?;
+    Ok(words)
+}
+
+/// Behind these: an item waits for a whole workqueue, on which the next one waits.
+pub fn rest_all<A: Allocator + Copy>(
+    alloc: A,
+    other: &[u8],
+    next: &[u8],
+) -> Result<Vec<u8, A>, AllocError>
+    ensures { IfOk result (λ words. words.items ≡ rest_all other.now next.now) }
+{
+    let mut words = Vec::with_capacity(alloc, 95)?;
+    put(&mut words, b"waits for all of ")?;
+    put(&mut words, other)?;
+    put(&mut words, b", where ")?;
+    put(&mut words, next)?;
+    put(&mut words, b" waits")?;
+    Ok(words)
+}
+
+/// Behind these: an item waits for its own whole workqueue.
+pub const REST_ALL_OF_ITS_OWN: &[u8] = b"waits for all of its workqueue";
+
+/// The note beside `safe` of items that must go on: nothing on the workqueue of this one waits.
+pub fn nothing_flushes_on<A: Allocator + Copy>(
+    alloc: A,
+    file: &[u8],
+    item: &[u8],
+) -> Result<Vec<u8, A>, AllocError>
+    ensures { IfOk result (λ words. words.items ≡ nothing_flushes_on file.now item.now) }
+{
+    let mut words = Vec::with_capacity(alloc, 180)?;
+    put(&mut words, file)?;
+    put(&mut words, b": note: nothing on the workqueue of ")?;
+    put(&mut words, item)?;
+    put(
+        &mut words,
+        b" declares a flush. Does reclaim wait for its end, or for what another item does?",
+    )?;
+    Ok(words)
+}
+
+/// The same, of several items.
+pub fn nothing_flushes_on_these<A: Allocator + Copy>(
+    alloc: A,
+    file: &[u8],
+    items: &[u8],
+) -> Result<Vec<u8, A>, AllocError>
+    ensures { IfOk result (λ words. words.items ≡ nothing_flushes_on_these file.now items.now) }
+{
+    let mut words = Vec::with_capacity(alloc, 181)?;
+    put(&mut words, file)?;
+    put(&mut words, b": note: nothing on the workqueues of ")?;
+    put(&mut words, items)?;
+    put(
+        &mut words,
+        b" declares a flush. Does reclaim wait for their ends, or for what other items do?",
+    )?;
+    Ok(words)
+}
+
+/// The same note, where other items can hang.
+pub fn others_can_hang<A: Allocator + Copy>(alloc: A, file: &[u8]) -> Result<Vec<u8, A>, AllocError>
+    ensures { IfOk result (λ words. words.items ≡ others_can_hang file.now) }
+{
+    let mut words = Vec::with_capacity(alloc, 112)?;
+    put(&mut words, file)?;
+    put(
+        &mut words,
+        b": note: nothing holds up what is named; other items can hang: ask without a NAME",
+    )?;
+    Ok(words)
+}
+
 /// In words of groups: an item waits for the one that waits next.
 pub fn group_waits_for_next<A: Allocator + Copy>(
     alloc: A,
@@ -997,6 +1257,9 @@ pub const ON_THESE: &[u8] = b"on these workqueues";
 
 /// What unsure lines make no difference to, if no workqueues are given.
 pub const TO_A_PLAN: &[u8] = b"to whether there is a plan";
+
+/// The same, where items must go on.
+pub const TO_WHAT_IS_NAMED: &[u8] = b"to what is named";
 
 /// Beside a plan whose chain has an unsure flush.
 pub fn are_needed<A: Allocator + Copy>(

@@ -2,7 +2,7 @@
 use Rattle.std.proofs.Common.{◌≡◌, ◌≢◌, ℕ, zero, suc, ◌+◌, ◌-◌, ◌<◌, ◌≤◌, ◌==◌, inl, inr, Bool, true, false, cond, List}
 use Rattle.std.proofs.Common.{[], ◌∷◌, ◌++◌, length, map, get_or, set, take, replicate, slice_index, slice_index_or}
 use Rattle.std.proofs.Common.{find, Option, Some, None, refl, sym, ap, ap₂, subst, ◌∙◌, eqb-true, eq-eqb, arith}
-use Rattle.std.specs.Prelude.{◌&&◌, filter, Contains}
+use Rattle.std.specs.Prelude.{◌&&◌, filter, Contains, fold, min}
 use Rattle.std.specs.List.{All, range_with_len}
 use Rattle.std.specs.Option.{option_map_or}
 use Rattle.std.proofs.lemmas.Bool.{cases_Bool, cases_eq, cases_lt}
@@ -282,3 +282,28 @@ at-place lane ps on lanes above k are within own fits =
       ap (slice_index lane) is ∙ eqb-true (slice_index lane (slice_index (places_of lane above) k)) above
           (filter_passes (λ p. slice_index lane p == above) (range_with_len 0 (length lane)) k 0 there),
     )
+
+-- ---- if no flush is unsure
+
+fold_min-zero : (ns : List ℕ) → fold min 0 ns ≡ 0
+fold_min-zero [] = refl
+fold_min-zero (n ∷ ns) = ap (λ (m : ℕ). fold min m ns) {x = min 0 n} {y = 0} (omega arith) ∙ fold_min-zero ns
+
+-- the least of sums that are all 0
+least_of-zeros : (unsure : ℕ → Bool) (f : WaitArc → ℕ) → ((place : ℕ) → unsure place ≡ false)
+    → ((a : WaitArc) → f a ≡ 0) → (arcs : List WaitArc)
+    → least_of (map (λ (a : WaitArc). f a + cond (unsure a.place) 1 0) arcs) ≡ 0
+least_of-zeros unsure f none zeros [] = refl
+least_of-zeros unsure f none zeros (a ∷ arcs) =
+    let rest = map (λ (b : WaitArc). f b + cond (unsure b.place) 1 0) arcs in
+    ap (λ (n : ℕ). fold min (n + cond (unsure a.place) 1 0) rest) (zeros a)
+    ∙ ap (λ (b : Bool). fold min (0 + cond b 1 0) rest) (none a.place) ∙ fold_min-zero rest
+
+-- no chain has an unsure flush
+pub least_doubts-sure : (unsure : ℕ → Bool) (graph : List (List WaitArc)) (lane : List ℕ)
+    → ((place : ℕ) → unsure place ≡ false) → (below v : ℕ) → least_doubts unsure graph lane below v ≡ 0
+least_doubts-sure unsure graph lane none zero v = refl
+least_doubts-sure unsure graph lane none (suc below) v =
+    least_of-zeros unsure (λ (a : WaitArc). least_doubts unsure graph lane below a.head) none
+    (λ (a : WaitArc). least_doubts-sure unsure graph lane none below a.head)
+    (filter (λ (a : WaitArc). slice_index lane a.head == below) (arcs_at graph v))

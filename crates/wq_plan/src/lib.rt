@@ -16,4 +16,4 @@ mod longest;
 mod solving;
 
 pub use answer::Answer;
-pub use solving::solve;
+pub use solving::{solve, unsure_flushes};

@@ -72,7 +72,14 @@ fn fewest_doubts(unsure: &[bool], doubts: &[u16], arcs: &[WaitArc], lane: &[u16]
     fewest.unwrap_or(0)
 }
 
-/// For each vertex, the fewest unsure flushes on a chain from it down to lane 0.
+/// Whether any flush is unsure.
+fn is_any(unsure: &[bool]) -> bool
+    ensures { result ≡ false → (place : ℕ) → slice_index_or unsure.now place false ≡ false }
+{
+    unsure.contains(&true)
+}
+
+/// For each vertex, the fewest unsure flushes on a chain from it down to lane 0. If no flush is unsure, there are none.
 fn all_doubts<A: Allocator + Copy>(
     alloc: A,
     graph: &WaitGraph<A>,
@@ -90,6 +97,9 @@ fn all_doubts<A: Allocator + Copy>(
     ensures few { IfOk result (λ doubts. All (λ n. n < 4096) doubts.items) }
 {
     let mut doubts = vec![in alloc; 0; lane.len()]?;
+    if !is_any(unsure) {
+        return Ok(doubts);
+    }
     let on = Buckets::new(alloc, lane, lanes)?;
     for above in 1..lanes {
         for vertex in on.places(above) {

@@ -48,7 +48,7 @@ fn assign<A: Allocator + Copy>(
 }
 
 /// For each place, whether the flush there is unsure.
-fn unsure_flushes<A: Allocator + Copy>(
+pub fn unsure_flushes<A: Allocator + Copy>(
     alloc: A,
     table: &ItemTable<'_, A>,
 ) -> Result<Vec<bool, A>, AllocError>

@@ -12,7 +12,7 @@ ghost use Rattle.wq_repair.specs.Marks.{IsMarked};
 ghost use Rattle.wq_repair.specs.Near.{IsAsked};
 ghost use Rattle.wq_repair.specs.Settled.{IsHomeOf, AreHomes, AreVertices, HaveRanks, AreInVain, IsSettled, IsWithin};
 
-use crate::listing::{either, is_marked, number_at};
+use crate::listing::{either, is_marked, rank_at, vertex_at};
 use crate::near::{home_of, near_homes};
 use crate::scope::but_not;
 use std::alloc::{AllocError, Allocator};
@@ -43,19 +43,20 @@ pub(crate) fn homes_of<A: Allocator + Copy>(
     alloc: A,
     assignment: &Assignment<A>,
     stays: &[bool],
-) -> Result<Vec<Option<u16>, A>, AllocError>
+) -> Result<Vec<Option<GroupId>, A>, AllocError>
     requires one_each { length stays.now ≡ length assignment.now.lane_of_group }
     requires few { length stays.now ≤ 4096 }
     ensures { IfOk result (λ homes. AreHomes assignment.now stays.now homes.items) }
 {
     let _lanes = assignment.lanes();
-    let mut homes: Vec<Option<u16>, A> = vec![in alloc; None; usize::from(assignment.lanes())]?;
+    let mut homes: Vec<Option<GroupId>, A> = vec![in alloc; None; usize::from(assignment.lanes())]?;
     for (group, does_stay) in stays.iter().enumerate() {
         if !*does_stay {
             continue;
         }
-        let lane = assignment.lane(GroupId::new(group as u16)).get();
-        homes[usize::from(lane)] = Some(group as u16);
+        let group = GroupId::new(group as u16);
+        let lane = assignment.lane(group).get();
+        homes[usize::from(lane)] = Some(group);
     }
     Ok(homes)
 }
@@ -65,22 +66,22 @@ pub(crate) fn vertices_of<A: Allocator + Copy>(
     alloc: A,
     assignment: &Assignment<A>,
     stays: &[bool],
-    homes: &[Option<u16>],
-) -> Result<Vec<u16, A>, AllocError>
+    homes: &[Option<GroupId>],
+) -> Result<Vec<GroupId, A>, AllocError>
     requires one_each { length stays.now ≡ length assignment.now.lane_of_group }
     requires few { length stays.now ≤ 4096 }
     requires homes { AreHomes assignment.now stays.now homes.now }
     ensures { IfOk result (λ at. AreVertices assignment.now stays.now homes.now at.items) }
 {
-    let _lanes = assignment.lanes();
     let mut vertices = Vec::with_capacity(alloc, stays.len())?;
     for (group, does_stay) in stays.iter().enumerate() {
+        let group = GroupId::new(group as u16);
         if !*does_stay {
-            vertices.push(group as u16)?;
+            vertices.push(group)?;
             continue;
         }
-        let lane = assignment.lane(GroupId::new(group as u16)).get();
-        let home = homes[usize::from(lane)];
+        let lane = assignment.lane(group).get();
+        let home = home_of(homes, usize::from(lane));
         vertices.push(home.unwrap())?;
     }
     Ok(vertices)
@@ -91,28 +92,29 @@ fn is_above(ranks: &[u16], arcs: &[WaitArc], rank: u16) -> bool
     ensures { IsTrue result → (h : ℕ) → Any (λ a. a.head ≡ h) arcs.now → slice_index ranks.now h < rank }
 {
     for arc in arcs {
-        if rank <= number_at(ranks, arc.head) {
+        if rank <= rank_at(ranks, GroupId::new(arc.head)) {
             return false;
         }
     }
     true
 }
 
-/// Whether ranks fall along all waits, are low, and are those of the vertices of their groups.
-fn have_ranks<A: Allocator + Copy>(graph: &WaitGraph<A>, vertices: &[u16], ranks: &[u16]) -> bool
-    ensures { IsTrue result → HaveRanks graph.now vertices.now ranks.now }
+/// Whether ranks fall along all waits, are low, and are those of the vertices at which their groups are.
+fn have_ranks<A: Allocator + Copy>(graph: &WaitGraph<A>, at: &[GroupId], ranks: &[u16]) -> bool
+    ensures { IsTrue result → HaveRanks graph.now at.now ranks.now }
 {
     let groups = graph.vertices();
     if ranks.len() != usize::from(groups) {
         return false;
     }
-    for group in 0..groups {
-        let rank = number_at(ranks, group);
-        let vertex = number_at(vertices, group);
-        if RANKS <= rank || number_at(ranks, vertex) != rank {
+    for number in 0..groups {
+        let group = GroupId::new(number);
+        let rank = rank_at(ranks, group);
+        let vertex = vertex_at(at, group);
+        if RANKS <= rank || rank_at(ranks, vertex) != rank {
             return false;
         }
-        if !is_above(ranks, graph.arcs(group), rank) {
+        if !is_above(ranks, graph.arcs(number), rank) {
             return false;
         }
     }
@@ -122,17 +124,17 @@ fn have_ranks<A: Allocator + Copy>(graph: &WaitGraph<A>, vertices: &[u16], ranks
 /// The home of the lane of a group, if there is one and the group is marked.
 fn home_asked<A: Allocator>(
     assignment: &Assignment<A>,
-    homes: &[Option<u16>],
+    homes: &[Option<GroupId>],
     marks: &[bool],
-    group: u16,
-) -> Option<u16>
+    group: GroupId,
+) -> Option<GroupId>
     ensures { (v : ℕ) → result ≡ Some v → IsHomeOf homes.now (group_lane assignment.now group) v }
 {
-    let place = usize::from(group);
+    let place = usize::from(group.get());
     if !is_marked(marks, place) || assignment.groups() <= place {
         return None;
     }
-    let lane = assignment.lane(GroupId::new(group)).get();
+    let lane = assignment.lane(group).get();
     home_of(homes, usize::from(lane))
 }
 
@@ -140,16 +142,16 @@ fn home_asked<A: Allocator>(
 fn homes_asked<A: Allocator + Copy>(
     alloc: A,
     assignment: &Assignment<A>,
-    homes: &[Option<u16>],
+    homes: &[Option<GroupId>],
     marks: &[bool],
     groups: u16,
-) -> Result<Vec<Option<u16>, A>, AllocError>
+) -> Result<Vec<Option<GroupId>, A>, AllocError>
     ensures { IfOk result (λ asked. (g v : ℕ) → IsAsked asked.items g v
         → IsHomeOf homes.now (group_lane assignment.now g) v) }
 {
     let mut asked = Vec::with_capacity(alloc, usize::from(groups))?;
     for group in 0..groups {
-        asked.push(home_asked(assignment, homes, marks, group))?;
+        asked.push(home_asked(assignment, homes, marks, GroupId::new(group)))?;
     }
     Ok(asked)
 }
@@ -183,8 +185,8 @@ fn are_in_vain<A: Allocator + Copy>(
     alloc: A,
     graph: &WaitGraph<A>,
     assignment: &Assignment<A>,
-    homes: &[Option<u16>],
-    vertices: &[u16],
+    homes: &[Option<GroupId>],
+    vertices: &[GroupId],
     ranks: &[u16],
     groups: &[bool],
 ) -> Result<bool, AllocError>
@@ -205,8 +207,8 @@ fn is_right<A: Allocator + Copy>(
     tried: &[bool],
     stays: &[bool],
     ranks: &[u16],
-    homes: &[Option<u16>],
-    vertices: &[u16],
+    homes: &[Option<GroupId>],
+    vertices: &[GroupId],
 ) -> Result<bool, AllocError>
     requires assigned { length assignment.now.lane_of_group ≡ length graph.now }
     requires tried { length tried.now ≡ length graph.now }

@@ -13,7 +13,7 @@ use wq_core::Workqueues;
 use wq_groups::{Assignment, GroupId, LaneId};
 
 /// Of these lanes, and then of new ones behind the `there` lanes that there are, the one with this number, from 0.
-pub(crate) fn nth_lane(free: &[u16], there: u16, nth: u16) -> u16
+pub(crate) fn nth_lane(free: &[LaneId], there: u16, nth: u16) -> LaneId
     requires there { there ≤ 4096 }
     requires few { nth ≤ 4096 }
     ensures { result ≡ nth_lane free.now there nth }
@@ -21,12 +21,12 @@ pub(crate) fn nth_lane(free: &[u16], there: u16, nth: u16) -> u16
     if usize::from(nth) < free.len() {
         free[usize::from(nth)]
     } else {
-        there + (nth - free.len() as u16)
+        LaneId::new(there + (nth - free.len() as u16))
     }
 }
 
 /// How many lanes there are once so many are taken.
-pub(crate) fn lanes_with(free: &[u16], there: u16, taken: u16) -> u16
+pub(crate) fn lanes_with(free: &[LaneId], there: u16, taken: u16) -> u16
     requires there { there ≤ 4096 }
     requires few { taken ≤ 4096 }
     ensures { result ≡ there + (taken - length free.now) }
@@ -43,7 +43,7 @@ pub(crate) fn own_lanes<A: Allocator + Copy>(
     alloc: A,
     old: &Assignment<A>,
     marks: &[bool],
-    free: &[u16],
+    free: &[LaneId],
 ) -> Result<(Vec<LaneId, A>, u16), AllocError>
     requires one_each { length marks.now ≡ length old.now.lane_of_group }
     requires few { length marks.now ≤ 4096 }
@@ -59,7 +59,7 @@ pub(crate) fn own_lanes<A: Allocator + Copy>(
             lane_of.push(old.lane(GroupId::new(group as u16)))?;
             continue;
         }
-        lane_of.push(LaneId::new(nth_lane(free, there, taken)))?;
+        lane_of.push(nth_lane(free, there, taken))?;
         taken += 1;
     }
     Ok((lane_of, taken))

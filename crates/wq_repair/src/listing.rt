@@ -6,12 +6,13 @@ ghost use Rattle.std.specs.Prelude.{◌≡◌, ◌≤◌, ◌↔◌, ◌⊎◌, 
 ghost use Rattle.wq_repair.specs.Together.{Lists};
 
 use std::alloc::{AllocError, Allocator};
+use wq_groups::{GroupId, LaneId};
 
-/// The numbers that are marked, upwards.
+/// The lanes that are marked, upwards.
 pub(crate) fn listed<A: Allocator + Copy>(
     alloc: A,
     marks: &[bool],
-) -> Result<Vec<u16, A>, AllocError>
+) -> Result<Vec<LaneId, A>, AllocError>
     requires { length marks.now ≤ 4096 }
     ensures { IfOk result (λ listed. Lists marks.now listed.items) }
 {
@@ -20,7 +21,7 @@ pub(crate) fn listed<A: Allocator + Copy>(
         if !*is_marked {
             continue;
         }
-        listed.push(number as u16)?;
+        listed.push(LaneId::new(number as u16))?;
     }
     Ok(listed)
 }
@@ -42,21 +43,31 @@ pub(crate) fn is_marked(marks: &[bool], number: usize) -> bool
     }
 }
 
-/// The number at a place, or 0 past the end of the list.
-pub(crate) fn number_at(numbers: &[u16], place: u16) -> u16
-    ensures { result ≡ slice_index numbers.now place }
+/// The rank of a group, or 0 past the end of the list.
+pub(crate) fn rank_at(ranks: &[u16], group: GroupId) -> u16
+    ensures { result ≡ slice_index ranks.now group }
 {
-    match numbers.get(usize::from(place)) {
-        Some(number) => *number,
+    match ranks.get(usize::from(group.get())) {
+        Some(rank) => *rank,
         None => 0,
     }
 }
 
-/// The word at a place, or 0 past the end of the list.
-pub(crate) fn word_at(words: &[u64], place: u16) -> u64
-    ensures { result ≡ slice_index words.now place }
+/// The vertex of a group, or that with number 0 past the end of the list.
+pub(crate) fn vertex_at(vertex_of: &[GroupId], group: GroupId) -> GroupId
+    ensures { result ≡ slice_index vertex_of.now group }
 {
-    match words.get(usize::from(place)) {
+    match vertex_of.get(usize::from(group.get())) {
+        Some(vertex) => *vertex,
+        None => GroupId::new(0),
+    }
+}
+
+/// The word of a vertex, or 0 past the end of the list.
+pub(crate) fn word_at(words: &[u64], vertex: GroupId) -> u64
+    ensures { result ≡ slice_index words.now vertex }
+{
+    match words.get(usize::from(vertex.get())) {
         Some(word) => *word,
         None => 0,
     }

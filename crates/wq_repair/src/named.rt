@@ -20,7 +20,9 @@ use wq_items::ItemId;
 /// Which groups may move, and which lanes may be given a rescuer.
 #[derive(Drop)]
 pub(crate) struct Named<A: Allocator> {
+    /// For each group whether it may move.
     pub(crate) groups: Vec<bool, A>,
+    /// For each lane whether it may be given a rescuer.
     pub(crate) lanes: Vec<bool, A>,
 }
 

@@ -26,8 +26,10 @@ use wq_items::ItemId;
 /// Which groups are found, and in which order.
 #[derive(Drop)]
 struct Found<A: Allocator> {
+    /// For each group whether it is found.
     marks: Vec<bool, A>,
-    list: Vec<u16, A>,
+    /// Those that are, in the order in which they were.
+    list: Vec<GroupId, A>,
 }
 
 impl<A: Allocator> Model for Found<A> {
@@ -40,11 +42,11 @@ impl<A: Allocator> Model for Found<A> {
 
 impl<A: Allocator + Copy> Found<A> {
     /// A group is found.
-    fn add(&mut self, group: u16) -> Result<(), AllocError>
+    fn add(&mut self, group: GroupId) -> Result<(), AllocError>
         requires { group < length self.old.marks }
         ensures { IfOk result (λ _. HasGrown self.old self.new (λ g. g ≡ group)) }
     {
-        let at = usize::from(group);
+        let at = usize::from(group.get());
         if self.marks[at] {
             return Ok(());
         }
@@ -59,7 +61,7 @@ impl<A: Allocator + Copy> Found<A> {
         ensures { IfOk result (λ _. HasGrown self.old self.new (λ h. Any (λ a. a.head ≡ h) arcs.now)) }
     {
         for arc in arcs {
-            self.add(arc.head)?;
+            self.add(GroupId::new(arc.head))?;
         }
         Ok(())
     }
@@ -71,7 +73,7 @@ impl<A: Allocator + Copy> Found<A> {
         ensures { IfOk result (λ _. HasGrown self.old self.new (Contains on.now)) }
     {
         for group in on {
-            self.add(*group as u16)?;
+            self.add(GroupId::new(*group as u16))?;
         }
         Ok(())
     }
@@ -83,7 +85,7 @@ impl<A: Allocator + Copy> Found<A> {
         on: &Buckets<A>,
         workqueues: &Workqueues<A>,
         named: &Named<A>,
-        group: u16,
+        group: GroupId,
     ) -> Result<(), AllocError>
         requires group { group < length workqueues.now.assignment.lane_of_group }
         requires can { CanFollow graph.now on.now workqueues.now self.old }
@@ -93,8 +95,7 @@ impl<A: Allocator + Copy> Found<A> {
         // Each arc leads to a group, and each lane is there.
         let _vertices = graph.vertices();
         let _lanes = workqueues.assignment().lanes();
-        self.add_awaited(graph.arcs(group))?;
-        let group = GroupId::new(group);
+        self.add_awaited(graph.arcs(group.get()))?;
         let lane = workqueues.assignment().lane(group);
         if named.has_group(group) {
             return Ok(());
@@ -127,7 +128,8 @@ fn on_rescuers<A: Allocator + Copy>(
         list: Vec::new(alloc),
     };
     for group in 0..groups {
-        let lane = workqueues.assignment().lane(GroupId::new(group));
+        let group = GroupId::new(group);
+        let lane = workqueues.assignment().lane(group);
         if workqueues.is_bare(lane) {
             continue;
         }

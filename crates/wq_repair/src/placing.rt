@@ -22,11 +22,11 @@ use wq_core::Workqueues;
 use wq_groups::{Assignment, GroupId, LaneId};
 
 /// Whether there is a lane, and it isn't above another.
-fn is_at_most(lane: Option<u16>, other: u16) -> bool
+fn is_at_most(lane: Option<LaneId>, other: LaneId) -> bool
     ensures { IsTrue result → IsSome lane }
 {
     match lane {
-        Some(lane) => lane <= other,
+        Some(lane) => lane.get() <= other.get(),
         None => false,
     }
 }
@@ -39,7 +39,7 @@ fn lanes_by_rank<A: Allocator + Copy>(
     named: &[bool],
     ranks: &[u16],
     most: usize,
-) -> Result<Vec<Option<u16>, A>, AllocError>
+) -> Result<Vec<Option<LaneId>, A>, AllocError>
     requires stays { length stays.now ≡ length old.now.assignment.lane_of_group }
     requires named { length named.now ≡ old.now.assignment.lanes }
     requires one_each { length ranks.now ≡ length old.now.assignment.lane_of_group }
@@ -49,13 +49,13 @@ fn lanes_by_rank<A: Allocator + Copy>(
         AreLanesOfRanks old.now stays.now named.now ranks.now most (length stays.now) lanes.items) }
 {
     let _lanes = old.assignment().lanes();
-    let mut lanes: Vec<Option<u16>, A> = vec![in alloc; None; most]?;
+    let mut lanes: Vec<Option<LaneId>, A> = vec![in alloc; None; most]?;
     for (group, does_stay) in stays.iter().enumerate() {
         if !*does_stay {
             continue;
         }
-        let lane = old.assignment().lane(GroupId::new(group as u16)).get();
-        if !named[usize::from(lane)] {
+        let lane = old.assignment().lane(GroupId::new(group as u16));
+        if !named[usize::from(lane.get())] {
             continue;
         }
         let rank = usize::from(ranks[group]);
@@ -93,7 +93,7 @@ fn rescued_of<A: Allocator + Copy>(
     alloc: A,
     workqueues: &Workqueues<A>,
     lanes: &[bool],
-) -> Result<Vec<u16, A>, AllocError>
+) -> Result<Vec<LaneId, A>, AllocError>
     requires { length lanes.now ≤ 4096 }
     ensures { IfOk result (λ listed. AreListed (λ q. IsMarked lanes.now q × IsRescued workqueues.now q) listed.items) }
 {
@@ -102,10 +102,11 @@ fn rescued_of<A: Allocator + Copy>(
         if !*is_one {
             continue;
         }
-        if workqueues.is_bare(LaneId::new(lane as u16)) {
+        let lane = LaneId::new(lane as u16);
+        if workqueues.is_bare(lane) {
             continue;
         }
-        listed.push(lane as u16)?;
+        listed.push(lane)?;
     }
     Ok(listed)
 }
@@ -114,8 +115,8 @@ fn rescued_of<A: Allocator + Copy>(
 fn with_bare_of<A: Allocator + Copy>(
     workqueues: &Workqueues<A>,
     lanes: &[bool],
-    mut listed: Vec<u16, A>,
-) -> Result<Vec<u16, A>, AllocError>
+    mut listed: Vec<LaneId, A>,
+) -> Result<Vec<LaneId, A>, AllocError>
     requires few { length lanes.now ≤ 4096 }
     requires listed { AreListed (λ q. IsMarked lanes.now q × IsRescued workqueues.now q) listed.items }
     ensures { IfOk result (λ all. Lists lanes.now all.items) }
@@ -124,10 +125,11 @@ fn with_bare_of<A: Allocator + Copy>(
         if !*is_one {
             continue;
         }
-        if !workqueues.is_bare(LaneId::new(lane as u16)) {
+        let lane = LaneId::new(lane as u16);
+        if !workqueues.is_bare(lane) {
             continue;
         }
-        listed.push(lane as u16)?;
+        listed.push(lane)?;
     }
     Ok(listed)
 }
@@ -137,7 +139,7 @@ fn empty_lanes<A: Allocator + Copy>(
     alloc: A,
     workqueues: &Workqueues<A>,
     groups: u16,
-) -> Result<Vec<u16, A>, AllocError>
+) -> Result<Vec<LaneId, A>, AllocError>
     requires assigned { length workqueues.now.assignment.lane_of_group ≡ groups }
     requires few { groups ≤ 4096 }
     ensures free { IfOk result (λ empty. AreFree workqueues.now.assignment.lanes empty.items) }
@@ -151,7 +153,7 @@ fn empty_lanes<A: Allocator + Copy>(
 }
 
 /// Takes a lane for each rank of which a group leaves and none stays. The answer says how many are taken.
-fn take_lanes(of_rank: &mut [Option<u16>], leave: &[bool], empty: &[u16], there: u16) -> u16
+fn take_lanes(of_rank: &mut [Option<LaneId>], leave: &[bool], empty: &[LaneId], there: u16) -> u16
     requires one_each { length of_rank.old ≡ length leave.now }
     requires few { length leave.now ≤ 4096 }
     requires there { there ≤ 4096 }
@@ -178,7 +180,7 @@ fn lanes_of_groups<A: Allocator + Copy>(
     old: &Workqueues<A>,
     leaves: &[bool],
     ranks: &[u16],
-    of_rank: &[Option<u16>],
+    of_rank: &[Option<LaneId>],
 ) -> Result<Vec<LaneId, A>, AllocError>
     requires leaves { length leaves.now ≡ length old.now.assignment.lane_of_group }
     requires one_each { length ranks.now ≡ length leaves.now }
@@ -195,7 +197,7 @@ fn lanes_of_groups<A: Allocator + Copy>(
             continue;
         }
         let lane = of_rank[usize::from(ranks[group])];
-        lane_of.push(LaneId::new(lane.unwrap()))?;
+        lane_of.push(lane.unwrap())?;
     }
     Ok(lane_of)
 }

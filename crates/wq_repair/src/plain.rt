@@ -18,6 +18,7 @@ ghost use Rattle.wq_repair.specs.Settled.{HasStaying, IsSettled, IsSettledBy, ve
 
 use crate::assigned::{with_workqueues, workqueues_of};
 use crate::checking::{Settled, homes_of, vertices_of};
+use crate::near::home_of;
 use crate::scope::{Scope, all_but};
 use std::alloc::{AllocError, Allocator};
 use wq_core::{Assigned, Workqueues};
@@ -28,7 +29,7 @@ use wq_levels::{Ranked, rank};
 /// The workqueues whose lanes are vertices, of which those have a rescuer whose groups need one.
 fn vertices_as_lanes<A: Allocator + Copy>(
     alloc: A,
-    vertices: &[u16],
+    vertices: &[GroupId],
     needed: &[bool],
 ) -> Result<Workqueues<A>, AllocError>
     requires one_each { length needed.now ≡ length vertices.now }
@@ -38,7 +39,7 @@ fn vertices_as_lanes<A: Allocator + Copy>(
 {
     let mut of_group = Vec::with_capacity(alloc, vertices.len())?;
     for vertex in vertices {
-        of_group.push(LaneId::new(*vertex))?;
+        of_group.push(LaneId::new(vertex.get()))?;
     }
     let bare = all_but(alloc, needed)?;
     let assignment = Assignment::new(vertices.len() as u16, of_group).unwrap();
@@ -139,14 +140,14 @@ fn ranks_of_start<A: Allocator + Copy>(
 fn with_group<A: Allocator + Copy>(
     alloc: A,
     groups: &[bool],
-    group: u16,
+    group: GroupId,
 ) -> Result<Vec<bool, A>, AllocError>
     requires { group < length groups.now }
     ensures { IfOk result (λ more. more.items ≡ slice_set groups.now group true) }
 {
     let mut more = Vec::new(alloc);
     more.extend_from_slice(groups)?;
-    more[usize::from(group)] = true;
+    more[usize::from(group.get())] = true;
     Ok(more)
 }
 
@@ -157,7 +158,7 @@ fn try_beside<A: Allocator + Copy>(
     assignment: &Assignment<A>,
     needed: &[bool],
     settled: &mut Settled<A>,
-    group: u16,
+    group: GroupId,
 ) -> Result<(), AllocError>
     requires assigned { length assignment.now.lane_of_group ≡ start.now.declared.partition.groups }
     requires needed { length needed.now ≡ start.now.declared.partition.groups }
@@ -189,7 +190,7 @@ fn try_group<A: Allocator + Copy>(
     assignment: &Assignment<A>,
     needed: &[bool],
     settled: &mut Settled<A>,
-    group: u16,
+    group: GroupId,
 ) -> Result<(), AllocError>
     requires assigned { length assignment.now.lane_of_group ≡ start.now.declared.partition.groups }
     requires needed { length needed.now ≡ start.now.declared.partition.groups }
@@ -202,13 +203,12 @@ fn try_group<A: Allocator + Copy>(
         IsSettled graph assignment.now fixed tried (group + 1) settled.new) }
 {
     let _few = workqueues_of(start);
-    let _lanes = assignment.lanes();
     let homes = homes_of(alloc, assignment, settled.stays.as_slice())?;
-    let lane = assignment.lane(GroupId::new(group)).get();
-    match homes[usize::from(lane)] {
+    let lane = assignment.lane(group).get();
+    match home_of(homes.as_slice(), usize::from(lane)) {
         Some(_) => try_beside(alloc, start, assignment, needed, settled, group),
         None => {
-            settled.stays[usize::from(group)] = true;
+            settled.stays[usize::from(group.get())] = true;
             Ok(())
         }
     }
@@ -246,7 +246,7 @@ pub(crate) fn settle<A: Allocator + Copy>(
             old.assignment(),
             scope.needed.as_slice(),
             &mut settled,
-            group as u16,
+            GroupId::new(group as u16),
         )?;
     }
     Ok(settled)

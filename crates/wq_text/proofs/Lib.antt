@@ -11,4 +11,5 @@ pub mod PieceLemmas
 pub mod SliceLaws
 pub mod WordLaws
 pub mod WordLemmas
+mod PlainLines
 mod RunLemmas

@@ -59,6 +59,14 @@ abbrev pub EndsAtOnce : List ℕ → Type 0
 EndsAtOnce [] = ⊤
 EndsAtOnce (b ∷ bs) = in_word b ≡ false
 
+-- ---- lines that begin with a word that is known
+
+-- the first of the lines holds `keyword` at its beginning and then these words, and the others are left
+pub record BeginsWithWords (keyword : List ℕ) (others : List WordView) (lines left : List LineView) : Type 0 where
+  pub line : LineView
+  pub first : lines ≡ line ∷ left
+  pub holds : words_of line ≡ record { start = line.start; bytes = keyword } ∷ others
+
 -- ---- the same without recursion over the bytes
 
 -- each byte is a blank

@@ -12,12 +12,13 @@ ghost use Rattle.std.specs.Prelude.{option_map, IfSome, IfNone};
 ghost use Rattle.std.specs.Iterator.{YieldsFirst, item_count};
 ghost use Rattle.wq_text.specs.Lines.{LineView, pieces, taken, line_bytes, lines_of};
 ghost use Rattle.wq_text.specs.Comments.{before_comment};
-ghost use Rattle.wq_text.specs.Words.{words_of, AllInWord};
+ghost use Rattle.wq_text.specs.Runs.{AllGreater};
+ghost use Rattle.wq_text.specs.Words.{words_of, AllInWord, BeginsWithWords};
 ghost use Rattle.wq_text.specs.Limits.{first_long_line};
 
-use crate::run::first_feed;
+use crate::run::{cut_at, first_feed};
 use crate::span::Span;
-use crate::word::Words;
+use crate::word::{Word, Words};
 use memchr::memchr;
 use std::marker::Model;
 
@@ -153,6 +154,18 @@ pub(crate) fn line_bytes(piece: &[u8], ended: bool) -> &[u8]
     }
 }
 
+/// What follows a word and one space, if the text begins with them.
+fn after_word<'a>(text: &'a [u8], word: &[u8]) -> Option<&'a [u8]>
+    ensures { IfSome result (λ after. text.now ≡ word.now ++ (32 ∷ after.now)) }
+{
+    let after = text.strip_prefix(word)?;
+    let (first, rest) = after.split_first()?;
+    if *first != b' ' {
+        return None;
+    }
+    Some(rest)
+}
+
 /// The lines of a text, in order. Contracts see the list of the lines that are left.
 #[derive(Drop)]
 pub struct Lines<'a> {
@@ -195,6 +208,47 @@ impl<'a> Lines<'a> {
             start: self.start,
             rest: self.rest,
         }
+    }
+
+    /// The two words after `keyword`, if the next line is `keyword` and two words, with one space between them and no
+    /// other byte before its line feed; then the line has been yielded. Otherwise, and perhaps even then, `None`, and
+    /// no line has been yielded: `next` yields any line.
+    ///
+    /// All bytes of the words are greater than `#`, so the line is cut in one pass, sixteen bytes at a time.
+    #[inline(always)]
+    pub fn next_pair(&mut self, keyword: &[u8]) -> Option<(Word<'a>, Word<'a>)>
+        requires plain { AllGreater keyword.now }
+        requires some { 0 < length keyword.now }
+        ensures pair { IfSome result
+            (λ words. BeginsWithWords keyword.now (words.0 ∷ words.1 ∷ []) self.old self.new) }
+        ensures none { IfNone result (self.new ≡ self.old) }
+    {
+        let after = after_word(self.rest, keyword)?;
+        let (name, behind) = cut_at(after, b' ')?;
+        let (target, rest) = cut_at(behind, b'\n')?;
+        let first = self.start + (keyword.len() as u32 + 1);
+        let second = first + (name.len() as u32 + 1);
+        self.before += 1;
+        self.start = second + (target.len() as u32 + 1);
+        self.rest = rest;
+        Some((Word::of(first, name), Word::of(second, target)))
+    }
+
+    /// The word after `keyword`, if the next line is `keyword` and one word; otherwise the same as `next_pair`.
+    #[inline(always)]
+    pub fn next_single(&mut self, keyword: &[u8]) -> Option<Word<'a>>
+        requires plain { AllGreater keyword.now }
+        requires some { 0 < length keyword.now }
+        ensures single { IfSome result (λ word. BeginsWithWords keyword.now (word ∷ []) self.old self.new) }
+        ensures none { IfNone result (self.new ≡ self.old) }
+    {
+        let after = after_word(self.rest, keyword)?;
+        let (name, rest) = cut_at(after, b'\n')?;
+        let first = self.start + (keyword.len() as u32 + 1);
+        self.before += 1;
+        self.start = first + (name.len() as u32 + 1);
+        self.rest = rest;
+        Some(Word::of(first, name))
     }
 
     /// The number of the first line with more than `limit` bytes, including its comment.

@@ -3,9 +3,10 @@
 //! All bytes of a name are greater than `#`, and so are those of most words. A space, a TAB, a line feed and the `#`
 //! itself aren't (docs/FORMAT.md, "Lines, words and numbers"). A run of n bytes takes n / 16 steps.
 
-ghost use Rattle.std.specs.Prelude.{◌≡◌, ◌+◌, ◌<◌, ◌≤◌, ◌==◌, ℕ, true, false, nat_le, length, slice_index};
+ghost use Rattle.std.specs.Prelude.{◌≡◌, ◌+◌, ◌<◌, ◌≤◌, ◌==◌, ◌∷◌, ◌++◌, ℕ, true, false, nat_le, length};
+ghost use Rattle.std.specs.Prelude.{take, slice_index, IfSome};
 ghost use Rattle.memchr.specs.Find.{IsFirstByte, is_byte};
-ghost use Rattle.wq_text.specs.Runs.{first_set};
+ghost use Rattle.wq_text.specs.Runs.{first_set, AllGreater};
 
 use std::simd::prelude::*;
 
@@ -55,6 +56,37 @@ pub(crate) fn greater_at(text: &[u8], at: usize) -> usize
         return 0;
     }
     greater_of_sixteen(text, at)
+}
+
+/// How many bytes at the front are greater than `#`, if one that isn't comes before the last fifteen bytes.
+fn greater_in_front(text: &[u8]) -> Option<usize>
+    ensures within { IfSome result (λ len. len < length text.now) }
+    ensures greater { IfSome result (λ len. AllGreater (take len text.now)) }
+{
+    let mut len = 0;
+    while LANES <= text.len() - len {
+        let run = greater_of_sixteen(text, len);
+        len += run;
+        if run < LANES {
+            return Some(len);
+        }
+    }
+    None
+}
+
+/// The bytes before the first that isn't greater than `#`, and those after it, if it is `end` and isn't the first byte.
+/// `None` also if fewer than sixteen bytes are left where it is looked for.
+#[inline(always)]
+pub(crate) fn cut_at(text: &[u8], end: u8) -> Option<(&[u8], &[u8])>
+    ensures whole { IfSome result (λ parts. text.now ≡ parts.0.now ++ (end ∷ parts.1.now)) }
+    ensures greater { IfSome result (λ parts. AllGreater parts.0.now) }
+    ensures some { IfSome result (λ parts. 0 < length parts.0.now) }
+{
+    let len = greater_in_front(text)?;
+    if len == 0 || text[len] != end {
+        return None;
+    }
+    Some((&text[..len], &text[len + 1..]))
 }
 
 /// The index of the first line feed.

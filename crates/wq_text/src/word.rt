@@ -33,6 +33,14 @@ impl<'a> Model for Word<'a> {
 }
 
 impl<'a> Word<'a> {
+    /// The word of these bytes, at this offset.
+    pub(crate) fn of(start: u32, bytes: &'a [u8]) -> Word<'a>
+        requires { start + length bytes.now < 2 ^ 32 }
+        ensures { result ≡ record { start = start; bytes = bytes.now } }
+    {
+        Word { start, bytes }
+    }
+
     /// The bytes of the word.
     pub fn bytes(&self) -> &'a [u8]
         ensures { result.now ≡ self.now.bytes }

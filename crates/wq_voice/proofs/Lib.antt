@@ -2,6 +2,8 @@ pub mod BareNotes
 pub mod Blocks
 pub mod ChainNotes
 pub mod Circled
+pub mod HeldNotes
+pub mod NamedRead
 pub mod UnsureNotes
 pub mod WasRead
 pub mod Rounded

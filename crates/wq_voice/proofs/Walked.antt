@@ -11,7 +11,9 @@ use Rattle.wq_core.proofs.Wirings.{IsWiring-wiring, IsWiring-with_bare}
 use Rattle.wq_hang.specs.declared.hop.Hop.{Hop}
 use Rattle.wq_hang.specs.Answer.{IsHangOf}
 use Rattle.wq_hang.specs.Walk.{IsPath, IsRound, IsWalk}
+use Rattle.wq_hang.specs.AnswerFor.{IsHeldBy}
 use Rattle.wq_hang.proofs.Declared.{declared-item, declared-target}
+use Rattle.wq_hang.proofs.FewestFor.{walk_for_items, walk_for_targets}
 
 abbrev AreItems : ℕ → List Hop → Type 0
 AreItems n hops = All (λ (h : Hop). h.item < n) hops
@@ -55,3 +57,17 @@ module _ (d : Declaration) (ws : Workqueues) (declaration : IsDeclaration d) whe
 
   pub hang_targets : (hops : List Hop) (steps : List Step) → IsHangOf d ws hops steps → AreTargets (length d.group_of) hops
   hang_targets hops steps hang = subst (λ n. AreTargets n hops) declaration.one_list_each (walk_targets (wiring_of d ws) (IsWiring-of hang.assignment) hops hang.beside hang.walk)
+
+  -- the same of a walk that holds up item x, which is an item
+  module _ (named : List ℕ) (x : ℕ) (hops : List Hop) (steps : List Step)
+      (held : IsHeldBy d ws named x hops steps) where
+    pub held_item : x < length d.group_of
+    held_item = subst (λ n. x < n) declaration.one_list_each held.walk.item
+
+    pub held_items : AreItems (length d.group_of) hops
+    held_items = subst (λ n. AreItems n hops) declaration.one_list_each
+        (walk_for_items (wiring_of d ws) x hops held.walk.holds_up)
+
+    pub held_targets : AreTargets (length d.group_of) hops
+    held_targets = subst (λ n. AreTargets n hops) declaration.one_list_each
+        (walk_for_targets (wiring_of d ws) x hops (IsWiring-of held.assignment) held.walk.holds_up)

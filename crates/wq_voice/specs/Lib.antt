@@ -4,5 +4,8 @@ pub mod Waits
 pub mod Reasons
 pub mod Components
 pub mod Unsure
+pub mod Unknown
+pub mod Held
+pub mod VoiceFor
 pub mod Chain
 pub mod Voice

@@ -7,7 +7,7 @@ use crate::block::Spot;
 use std::alloc::{AllocError, Allocator};
 use wq_diagnosis::lines_of;
 use wq_findings::flush_at;
-use wq_text::{Line, Span};
+use wq_text::{Line, Span, Words};
 
 /// A line that declares flushes.
 #[derive(Clone, Copy)]
@@ -31,15 +31,25 @@ pub struct FlushLines<'a, A: Allocator> {
 /// The first words of lines that declare flushes.
 static FLUSHES: [&[u8]; 4] = [b"flush", b"flushwq", b"flush?", b"flushwq?"];
 
+/// The words after the first one of a line that declares flushes. Most begin with `flush` and a space.
+fn after_flush<'a>(line: &Line<'a>) -> Option<Words<'a>> {
+    if let Some(words) = line.words_after(b"flush") {
+        return Some(words);
+    }
+    let mut words = line.words();
+    let first = words.next()?;
+    if FLUSHES.contains(&first.bytes()) {
+        Some(words)
+    } else {
+        None
+    }
+}
+
 /// How many flushes a line declares: one for each name after the item's.
 fn flushes_on(line: &Line<'_>) -> usize {
-    let mut words = line.words();
-    let Some(first) = words.next() else {
+    let Some(words) = after_flush(line) else {
         return 0;
     };
-    if !FLUSHES.contains(&first.bytes()) {
-        return 0;
-    }
     let mut flushes: usize = 0;
     for _ in words.skip(1) {
         flushes = flushes.saturating_add(1);

@@ -46,7 +46,7 @@ fn say_unlawful<A: Allocator + Copy>(
 }
 
 /// Why a step of a run isn't lawful, if the run was made in a reading, or with all flushes.
-fn say_unlawful_in_reading<A: Allocator + Copy>(
+pub(crate) fn say_unlawful_in_reading<A: Allocator + Copy>(
     alloc: A,
     assigned: &Assigned<'_, '_, A>,
     assignment: &[u8],

@@ -146,8 +146,24 @@ fn put_wait<A: Allocator + Copy>(
     put(out, &block)
 }
 
+/// Adds the block of lines of a wait that says this.
+pub(crate) fn put_first<A: Allocator + Copy>(
+    alloc: A,
+    out: &mut Vec<u8, A>,
+    subject: &Subject<'_, '_, '_, A>,
+    hop: &Hop,
+    what: &[u8],
+) -> Result<(), AllocError>
+    requires target { hop.now.flush.item < length subject.now.assigned.now.declared.partition.group_of }
+    ensures { OnOk result
+        (AddsSaid subject.now.declaration.file.now (what.now ∷ []) out.old.items out.new.items) }
+{
+    let block = block_of(alloc, subject, hop, what)?;
+    put(out, &block)
+}
+
 /// Adds the blocks of lines of further waits of a walk.
-fn put_further<A: Allocator + Copy>(
+pub(crate) fn put_further<A: Allocator + Copy>(
     alloc: A,
     out: &mut Vec<u8, A>,
     subject: &Subject<'_, '_, '_, A>,

@@ -349,7 +349,7 @@ fn undecided_words<A: Allocator + Copy>(
 }
 
 /// The note that this many waits aren't decided.
-fn undecided_note<A: Allocator + Copy>(
+pub(crate) fn undecided_note<A: Allocator + Copy>(
     alloc: A,
     file: &str,
     count: usize,
@@ -361,7 +361,7 @@ fn undecided_note<A: Allocator + Copy>(
 }
 
 /// The note that these workqueues hang for sure.
-fn sure_note<A: Allocator + Copy>(alloc: A, file: &str) -> Result<Vec<u8, A>, AllocError>
+pub(crate) fn sure_note<A: Allocator + Copy>(alloc: A, file: &str) -> Result<Vec<u8, A>, AllocError>
     ensures { IfOk result (λ note. note.items ≡ shown_lines (hangs_for_sure file.now ∷ [])) }
 {
     let words = messages::hangs_for_sure(alloc, file.as_bytes())?;

@@ -26,7 +26,7 @@ pub enum Wording {
 }
 
 /// The workqueue of an item.
-fn home_words<A: Allocator + Copy>(
+pub(crate) fn home_words<A: Allocator + Copy>(
     alloc: A,
     assigned: &Assigned<'_, '_, A>,
     names: &[&[u8]],

@@ -4,6 +4,8 @@ mod AskedLemmas
 mod CauseLemmas
 mod EndedLemmas
 mod FileLemmas
+mod NamedLemmas
+mod NamedTaking
 mod NumberLemmas
 mod HelperLemmas
 mod PromiseLemmas

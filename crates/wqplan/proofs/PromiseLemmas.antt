@@ -1,5 +1,5 @@
 -- What the program promises follows from how it ends.
-use Rattle.std.proofs.Common.{◌≡◌, Bool, false, true, ℕ, List, Option, Result, Ok, Err, subst}
+use Rattle.std.proofs.Common.{◌≡◌, Bool, false, true, ℕ, List, [], ◌∷◌, Option, Result, Ok, Err, subst}
 use Rattle.std.specs.Prelude.{IfOk}
 use Rattle.clap.specs.Words.{Text}
 use Rattle.wq_meter.specs.Meter.{Meter, WritesWhole}
@@ -9,34 +9,41 @@ use Rattle.wq_commands.specs.declared.end.End.TheVariants.{Good}
 use Rattle.wq_commands.specs.Checking.{Checks}
 use Rattle.wq_commands.specs.YesIsTrue.{YesIsTrue}
 use Rattle.wq_commands.proofs.PromiseLemmas.{KeepsPromise-answers, YesIsTrue-checks}
-use Rattle.wq_circles.specs.Circling.{AnswersCircles}
+use Rattle.wq_circles.proofs.HeldPromised.{KeepsHeldCircles-answers}
 use Rattle.wq_circles.proofs.Promised.{KeepsCircles-answers, KeepsOwnCircles-answers}
 use Rattle.wq_commands.proofs.VerdictPromises.{KeepsVerdict-judges}
+use Rattle.wq_hang_command.proofs.HoldPromised.{KeepsHold-holds}
 use Rattle.wq_hang_command.proofs.Promised.{KeepsHang-hangs}
 use Rattle.wq_run.specs.declared.fault.CommandFault.{CommandFault}
-use Rattle.wqplan.specs.CommandLine.{Asked, Behind}
-use Rattle.wqplan.specs.Ended.{EndedBy, EndsAsAsked, EndsOn, has_second}
-use Rattle.wqplan.specs.Promised.{Keeps, KeepsAllCircles, PromisesAsAsked}
+use Rattle.wqplan.specs.CommandLine.{Asked, Behind, names_asked}
+use Rattle.wqplan.specs.Ended.{EndedBy, EndsAsAsked, EndsCircles, EndsHang, EndsOn, has_second}
+use Rattle.wqplan.specs.Promised.{Keeps, KeepsAllCircles, KeepsAllHangs, PromisesAsAsked}
 use Rattle.wqplan.specs.declared.command_line.Files.{Files}
 use Rattle.wqplan.specs.declared.commands.Verb.{Verb}
 use Rattle.wqplan.specs.declared.commands.Verb.TheVariants.{Check, Circles, Deadlock, Hang, Plan}
 
 module _ (end : End) (out : List ℕ) where
-  of_circles : (assigned : Bool) (texts : Given) → AnswersCircles assigned texts end out
-      → KeepsAllCircles assigned texts end out
-  of_circles false texts h = KeepsOwnCircles-answers texts.first end out h
-  of_circles true texts h = KeepsCircles-answers texts.first texts.second end out h
+  of_circles : (assigned : Bool) (names : List Text) (texts : Given) → EndsCircles assigned names texts end out
+      → KeepsAllCircles assigned names texts end out
+  of_circles false names texts h = KeepsOwnCircles-answers texts.first end out h
+  of_circles true [] texts h = KeepsCircles-answers texts.first texts.second end out h
+  of_circles true (name ∷ names) texts h =
+      KeepsHeldCircles-answers (name ∷ names) texts.first texts.second end out h
+
+  of_hang : (names : List Text) (texts : Given) → EndsHang names texts end out → KeepsAllHangs names texts end out
+  of_hang [] texts h = KeepsHang-hangs texts.first texts.second end out h
+  of_hang (name ∷ names) texts h = KeepsHold-holds (name ∷ names) texts.first texts.second end out h
 
   of_check : (text claim : List ℕ) → Checks text claim end out → end ≡ Good → YesIsTrue text claim out
   of_check text claim h is = YesIsTrue-checks text claim out (subst (λ e. Checks text claim e out) is h)
 
   Keeps-ends : (verb : Verb) (files : Files Text) (behind : Behind) (texts : Given)
-      → EndsOn verb files behind texts end out → Keeps verb files texts end out
+      → EndsOn verb files behind texts end out → Keeps verb files behind texts end out
   Keeps-ends Plan files behind texts h = KeepsPromise-answers texts.first end out h
   Keeps-ends Check files behind texts h = of_check texts.first texts.second h
   Keeps-ends Deadlock files behind texts h = KeepsVerdict-judges texts.first texts.second end out h
-  Keeps-ends Hang files behind texts h = KeepsHang-hangs texts.first texts.second end out h
-  Keeps-ends Circles files behind texts h = of_circles (has_second files) texts h
+  Keeps-ends Hang files behind texts h = of_hang (names_asked behind) texts h
+  Keeps-ends Circles files behind texts h = of_circles (has_second files) (names_asked behind) texts h
   Keeps-ends verb files behind texts h = tt
 
 -- a command that has ended promises this

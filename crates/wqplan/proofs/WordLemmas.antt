@@ -1,8 +1,8 @@
 -- The words of the program's commands, as `clap` reads them.
 use Rattle.std.proofs.Common.{refl, ap, ap₂, sym, subst, arith, ℕ, zero, suc, ◌≤◌, inl, inr, ◌∙◌, Bool, true}
 use Rattle.std.proofs.Common.{false}
-use Rattle.std.proofs.Common.{not, ◌==◌, ◌&&◌, [], ◌∷◌, List, Some, None, ◌≡◌, ◌++◌}
-use Rattle.std.specs.Prelude.{fold, is_some, pos}
+use Rattle.std.proofs.Common.{not, ◌==◌, ◌&&◌, [], ◌∷◌, List, Option, Some, None, ◌≡◌, ◌++◌, codes}
+use Rattle.std.specs.Prelude.{fold, is_some, option_and_then, option_map, pos}
 use Rattle.std.specs.List.{list_all}
 use Rattle.std.specs.Str.{bytes_eq}
 use Rattle.clap.specs.Lexer.{long_of, short_of, without_minus}
@@ -12,7 +12,7 @@ use Rattle.clap.specs.Takes.{default_passes, entered_passes, is_valid, level_pas
 use Rattle.clap.specs.ValueTests.{accepts}
 use Rattle.clap.specs.Walk.{Names, Walk, finished, nothing_held, rows_after, walked}
 use Rattle.clap.specs.Walk.Waiting.{idle}
-use Rattle.clap.specs.Words.{Text, is_simple, subcommand_of, takes}
+use Rattle.clap.specs.Words.{Text, first_of, is_simple, subcommand_of, takes}
 use Rattle.clap.specs.declared.builder.value_parser.ValueParser.TheVariants.{Signed, Unsigned}
 use Rattle.clap.proofs.OnLiterals.{clap_on_literals}
 use Rattle.clap.proofs.ValueTestLemmas.{accepts-Accepts}
@@ -28,8 +28,8 @@ use Rattle.wqplan.specs.declared.command_line.TailForm.TheVariants as tail_forms
 use Rattle.wqplan.specs.declared.commands.Verb.{Verb}
 use Rattle.wqplan.specs.declared.commands.Verb.TheVariants.{Plan}
 use Rattle.wqplan.specs.Commands.{command_name, file_form, tail_form}
-use Rattle.wqplan.specs.CommandLine.{Asked, Asks, Behind, Calls, Fits, IsHelpers, IsRead, Spells, behind_in, digit}
-use Rattle.wqplan.specs.CommandLine.{files_in, formed, helpers_in, is_no_option, listed, wqplan}
+use Rattle.wqplan.specs.CommandLine.{Asked, Asks, Behind, Calls, Fits, Follows, IsHelpers, IsRead, Spells, behind_in}
+use Rattle.wqplan.specs.CommandLine.{digit, files_in, formed, helpers_in, is_no_option, listed, wqplan}
 use Rattle.wqplan.specs.CommandLine.Behind.{nothing, names, helpers, word}
 
 -- ---- words are read
@@ -191,6 +191,14 @@ digit_said (suc (suc (suc (suc (suc (suc (suc (suc zero)))))))) few =
     (refl, accepts-Accepts false (Unsigned 0 8) (digit 8) refl)
 digit_said (suc (suc (suc (suc (suc (suc (suc (suc (suc n))))))))) few = absurd (omega (arith, few))
 
+-- three files, if each is given
+three_of : (x y z : Option Text) (a b d : Text) → x ≡ Some a → y ≡ Some b → z ≡ Some d
+    → option_and_then (λ f. option_and_then (λ s. option_map (λ r. Three f s r) z) y) x ≡ Some (Three a b d)
+three_of None y z a b d p q r = absurd cc
+three_of (Some f) None z a b d p q r = absurd cc
+three_of (Some f) (Some s) None a b d p q r = absurd cc
+three_of (Some f) (Some s) (Some t) a b d p q r = cc
+
 module _ (name : Text) where
   reads_input : (a : Text) → is_no_option a ≡ true
       → Reads name file_forms.Input tail_forms.Nothing (One a) nothing (a ∷ [])
@@ -247,13 +255,110 @@ module _ (name : Text) where
       rw (bytes_eq-no_option a p, long_of-no_option a p, short_of-no_option a p)
       (rw (bytes_eq-no_option b q, long_of-no_option b q, short_of-no_option b q) (refl, refl, refl, tt))
 
-  reads_three : (a b d : Text) → is_no_option a ≡ true → is_no_option b ≡ true → is_no_option d ≡ true
-      → Reads name file_forms.Three tail_forms.Nothing (Three a b d) nothing (a ∷ b ∷ d ∷ [])
+  reads_first_alone : (a : Text) → is_no_option a ≡ true
+      → Reads name file_forms.OneOrTwo tail_forms.Names (One a) (names []) (a ∷ [])
   unfolding clap_on_literals
-  reads_three a b d p q r =
+  reads_first_alone a p =
+      rw (bytes_eq-no_option a p, long_of-no_option a p, short_of-no_option a p) (refl, refl, refl, tt)
+
+  reads_both_alone : (a b : Text) → is_no_option a ≡ true → is_no_option b ≡ true
+      → Reads name file_forms.OneOrTwo tail_forms.Names (Two a b) (names []) (a ∷ b ∷ [])
+  unfolding clap_on_literals
+  reads_both_alone a b p q =
+      rw (bytes_eq-no_option a p, long_of-no_option a p, short_of-no_option a p)
+      (rw (bytes_eq-no_option b q, long_of-no_option b q, short_of-no_option b q) (refl, refl, refl, tt))
+
+  reads_both_named : (a b n : Text) → is_no_option a ≡ true → is_no_option b ≡ true → is_no_option n ≡ true
+      → Reads name file_forms.OneOrTwo tail_forms.Names (Two a b) (names (n ∷ [])) (a ∷ b ∷ n ∷ [])
+  unfolding clap_on_literals
+  reads_both_named a b n p q r =
+      rw (bytes_eq-no_option a p, long_of-no_option a p, short_of-no_option a p)
+      (rw (bytes_eq-no_option b q, long_of-no_option b q, short_of-no_option b q)
+      (rw (bytes_eq-no_option n r, long_of-no_option n r, short_of-no_option n r) (refl, refl, refl, tt)))
+
+  reads_three_alone : (a b d : Text) → is_no_option a ≡ true → is_no_option b ≡ true → is_no_option d ≡ true
+      → Reads name file_forms.Three tail_forms.Names (Three a b d) (names []) (a ∷ b ∷ d ∷ [])
+  unfolding clap_on_literals
+  reads_three_alone a b d p q r =
       rw (bytes_eq-no_option a p, long_of-no_option a p, short_of-no_option a p)
       (rw (bytes_eq-no_option b q, long_of-no_option b q, short_of-no_option b q)
       (rw (bytes_eq-no_option d r, long_of-no_option d r, short_of-no_option d r) (refl, refl, refl, tt)))
+
+  -- of four words, part by part
+  three_named-passes : (a b d n : Text) → is_no_option a ≡ true → is_no_option b ≡ true → is_no_option d ≡ true
+      → is_no_option n ≡ true
+      → level_passes (leaf name file_forms.Three tail_forms.Names) [] nothing_held (a ∷ b ∷ d ∷ n ∷ []) false ≡ true
+  unfolding clap_on_literals
+  three_named-passes a b d n p q r o =
+      rw (bytes_eq-no_option a p, long_of-no_option a p, short_of-no_option a p)
+      (rw (bytes_eq-no_option b q, long_of-no_option b q, short_of-no_option b q)
+      (rw (bytes_eq-no_option d r, long_of-no_option d r, short_of-no_option d r)
+      (rw (bytes_eq-no_option n o, long_of-no_option n o, short_of-no_option n o) refl)))
+
+  three_named-decl : (a b d n : Text) → is_no_option a ≡ true → is_no_option b ≡ true → is_no_option d ≡ true
+      → is_no_option n ≡ true
+      → first_of (codes "DECL")
+      (rows_after (leaf name file_forms.Three tail_forms.Names).rules [] (a ∷ b ∷ d ∷ n ∷ [])) ≡ Some a
+  unfolding clap_on_literals
+  three_named-decl a b d n p q r o =
+      rw (bytes_eq-no_option a p, long_of-no_option a p, short_of-no_option a p)
+      (rw (bytes_eq-no_option b q, long_of-no_option b q, short_of-no_option b q)
+      (rw (bytes_eq-no_option d r, long_of-no_option d r, short_of-no_option d r)
+      (rw (bytes_eq-no_option n o, long_of-no_option n o, short_of-no_option n o) refl)))
+
+  three_named-assign : (a b d n : Text) → is_no_option a ≡ true → is_no_option b ≡ true → is_no_option d ≡ true
+      → is_no_option n ≡ true
+      → first_of (codes "ASSIGN")
+      (rows_after (leaf name file_forms.Three tail_forms.Names).rules [] (a ∷ b ∷ d ∷ n ∷ [])) ≡ Some b
+  unfolding clap_on_literals
+  three_named-assign a b d n p q r o =
+      rw (bytes_eq-no_option a p, long_of-no_option a p, short_of-no_option a p)
+      (rw (bytes_eq-no_option b q, long_of-no_option b q, short_of-no_option b q)
+      (rw (bytes_eq-no_option d r, long_of-no_option d r, short_of-no_option d r)
+      (rw (bytes_eq-no_option n o, long_of-no_option n o, short_of-no_option n o) refl)))
+
+  three_named-run : (a b d n : Text) → is_no_option a ≡ true → is_no_option b ≡ true → is_no_option d ≡ true
+      → is_no_option n ≡ true
+      → first_of (codes "RUN")
+      (rows_after (leaf name file_forms.Three tail_forms.Names).rules [] (a ∷ b ∷ d ∷ n ∷ [])) ≡ Some d
+  unfolding clap_on_literals
+  three_named-run a b d n p q r o =
+      rw (bytes_eq-no_option a p, long_of-no_option a p, short_of-no_option a p)
+      (rw (bytes_eq-no_option b q, long_of-no_option b q, short_of-no_option b q)
+      (rw (bytes_eq-no_option d r, long_of-no_option d r, short_of-no_option d r)
+      (rw (bytes_eq-no_option n o, long_of-no_option n o, short_of-no_option n o) refl)))
+
+  three_named-files : (a b d n : Text) → is_no_option a ≡ true → is_no_option b ≡ true → is_no_option d ≡ true
+      → is_no_option n ≡ true
+      → files_in file_forms.Three
+      (rows_after (leaf name file_forms.Three tail_forms.Names).rules [] (a ∷ b ∷ d ∷ n ∷ []))
+      ≡ Some (Three a b d)
+  three_named-files a b d n p q r o =
+      let rows = rows_after (leaf name file_forms.Three tail_forms.Names).rules [] (a ∷ b ∷ d ∷ n ∷ []) in
+      three_of (first_of (codes "DECL") rows) (first_of (codes "ASSIGN") rows) (first_of (codes "RUN") rows) a b d
+      (three_named-decl a b d n p q r o) (three_named-assign a b d n p q r o) (three_named-run a b d n p q r o)
+
+  three_named-behind : (a b d n : Text) → is_no_option a ≡ true → is_no_option b ≡ true → is_no_option d ≡ true
+      → is_no_option n ≡ true
+      → behind_in tail_forms.Names
+      (rows_after (leaf name file_forms.Three tail_forms.Names).rules [] (a ∷ b ∷ d ∷ n ∷ []))
+      ≡ names (n ∷ [])
+  unfolding clap_on_literals
+  three_named-behind a b d n p q r o =
+      rw (bytes_eq-no_option a p, long_of-no_option a p, short_of-no_option a p)
+      (rw (bytes_eq-no_option b q, long_of-no_option b q, short_of-no_option b q)
+      (rw (bytes_eq-no_option d r, long_of-no_option d r, short_of-no_option d r)
+      (rw (bytes_eq-no_option n o, long_of-no_option n o, short_of-no_option n o) refl)))
+
+  reads_three_named : (a b d n : Text) → is_no_option a ≡ true → is_no_option b ≡ true → is_no_option d ≡ true
+      → is_no_option n ≡ true
+      → Reads name file_forms.Three tail_forms.Names (Three a b d) (names (n ∷ [])) (a ∷ b ∷ d ∷ n ∷ [])
+  reads_three_named a b d n p q r o = (
+    three_named-passes a b d n p q r o,
+    three_named-files a b d n p q r o,
+    three_named-behind a b d n p q r o,
+    tt,
+  )
 
   reads_no_helpers : (a : Text) → is_no_option a ≡ true
       → Reads name file_forms.One tail_forms.Helpers (One a) (helpers 0) (a ∷ [])
@@ -332,7 +437,8 @@ is_form file_forms.One tail_forms.Helpers = true
 is_form (file_forms.Two kind) tail_forms.Nothing = true
 is_form (file_forms.Two kind) tail_forms.Names = true
 is_form file_forms.OneOrTwo tail_forms.Nothing = true
-is_form file_forms.Three tail_forms.Nothing = true
+is_form file_forms.OneOrTwo tail_forms.Names = true
+is_form file_forms.Three tail_forms.Names = true
 is_form _ _ = false
 
 formed_so : (verb : Verb) → is_form (file_form verb) (tail_form verb) ≡ true
@@ -340,51 +446,68 @@ formed_so Plan = refl
 formed_so _ = refl
 
 read : (name : Text) (fs : FileForm) (ts : TailForm) (files : Files Text) (behind : Behind) (rest : List Text)
-    → is_form fs ts ≡ true → Fits fs files → Spells ts behind rest → ReadsBehind name fs ts files behind rest
-read name file_forms.Nothing tail_forms.Word Unnamed behind rest form fit spell =
+    → is_form fs ts ≡ true → Fits fs files → Follows fs files behind → Spells ts behind rest
+    → ReadsBehind name fs ts files behind rest
+read name file_forms.Nothing tail_forms.Word Unnamed behind rest form fit follow spell =
     with_word (ReadsBehind name file_forms.Nothing tail_forms.Word Unnamed) behind rest spell
     (λ plain. reads_no_word name)
     (λ w plain. reads_word name w (first_plain w [] plain).0)
-read name file_forms.Nothing tail_forms.Word _ behind rest form fit spell = absurd fit
-read name file_forms.Input tail_forms.Nothing Unnamed behind rest form fit spell =
+read name file_forms.Nothing tail_forms.Word _ behind rest form fit follow spell = absurd fit
+read name file_forms.Input tail_forms.Nothing Unnamed behind rest form fit follow spell =
     with_nothing (ReadsBehind name file_forms.Input tail_forms.Nothing Unnamed) behind rest spell
     (λ plain. reads_no_input name)
-read name file_forms.Input tail_forms.Nothing (One a) behind rest form fit spell =
+read name file_forms.Input tail_forms.Nothing (One a) behind rest form fit follow spell =
     with_nothing (ReadsBehind name file_forms.Input tail_forms.Nothing (One a)) behind rest spell
     (λ plain. reads_input name a (first_plain a [] plain).0)
-read name file_forms.Input tail_forms.Nothing _ behind rest form fit spell = absurd fit
-read name file_forms.One tail_forms.Helpers (One a) behind rest form fit spell =
+read name file_forms.Input tail_forms.Nothing _ behind rest form fit follow spell = absurd fit
+read name file_forms.One tail_forms.Helpers (One a) behind rest form fit follow spell =
     with_helpers (ReadsBehind name file_forms.One tail_forms.Helpers (One a)) behind rest spell
     (λ plain. reads_no_helpers name a (first_plain a [] plain).0)
     (λ n few plain. reads_number name a (digit n) n (first_plain a (digit n ∷ []) plain).0 (digit_plain n few)
     (digit_passes n few) (digit_said n few))
-read name file_forms.One tail_forms.Helpers _ behind rest form fit spell = absurd fit
-read name (file_forms.Two kind) tail_forms.Nothing (Two a b) behind rest form fit spell =
+read name file_forms.One tail_forms.Helpers _ behind rest form fit follow spell = absurd fit
+read name (file_forms.Two kind) tail_forms.Nothing (Two a b) behind rest form fit follow spell =
     with_nothing (ReadsBehind name (file_forms.Two kind) tail_forms.Nothing (Two a b)) behind rest spell
     (λ plain. let more = first_plain a (b ∷ []) plain in
     reads_two name kind a b more.0 (first_plain b [] more.1).0)
-read name (file_forms.Two kind) tail_forms.Nothing _ behind rest form fit spell = absurd fit
-read name (file_forms.Two kind) tail_forms.Names (Two a b) behind rest form fit spell =
+read name (file_forms.Two kind) tail_forms.Nothing _ behind rest form fit follow spell = absurd fit
+read name (file_forms.Two kind) tail_forms.Names (Two a b) behind rest form fit follow spell =
     with_names (ReadsBehind name (file_forms.Two kind) tail_forms.Names (Two a b)) behind rest spell
     (λ plain. let more = first_plain a (b ∷ []) plain in
     reads_no_name name kind a b more.0 (first_plain b [] more.1).0)
     (λ n plain. let more = first_plain a (b ∷ n ∷ []) plain in let last = first_plain b (n ∷ []) more.1 in
     reads_name name kind a b n more.0 last.0 (first_plain n [] last.1).0)
-read name (file_forms.Two kind) tail_forms.Names _ behind rest form fit spell = absurd fit
-read name file_forms.OneOrTwo tail_forms.Nothing (One a) behind rest form fit spell =
+read name (file_forms.Two kind) tail_forms.Names _ behind rest form fit follow spell = absurd fit
+read name file_forms.OneOrTwo tail_forms.Nothing (One a) behind rest form fit follow spell =
     with_nothing (ReadsBehind name file_forms.OneOrTwo tail_forms.Nothing (One a)) behind rest spell
     (λ plain. reads_first name a (first_plain a [] plain).0)
-read name file_forms.OneOrTwo tail_forms.Nothing (Two a b) behind rest form fit spell =
+read name file_forms.OneOrTwo tail_forms.Nothing (Two a b) behind rest form fit follow spell =
     with_nothing (ReadsBehind name file_forms.OneOrTwo tail_forms.Nothing (Two a b)) behind rest spell
     (λ plain. let more = first_plain a (b ∷ []) plain in
     reads_both name a b more.0 (first_plain b [] more.1).0)
-read name file_forms.OneOrTwo tail_forms.Nothing _ behind rest form fit spell = absurd fit
-read name file_forms.Three tail_forms.Nothing (Three a b d) behind rest form fit spell =
-    with_nothing (ReadsBehind name file_forms.Three tail_forms.Nothing (Three a b d)) behind rest spell
+read name file_forms.OneOrTwo tail_forms.Nothing _ behind rest form fit follow spell = absurd fit
+read name file_forms.OneOrTwo tail_forms.Names (One a) behind rest form fit follow spell =
+    with_names
+    (λ behind rest. Follows file_forms.OneOrTwo (One a) behind
+    → ReadsBehind name file_forms.OneOrTwo tail_forms.Names (One a) behind rest) behind rest spell
+    (λ alone plain. reads_first_alone name a (first_plain a [] plain).0)
+    (λ n never. absurd never) follow
+read name file_forms.OneOrTwo tail_forms.Names (Two a b) behind rest form fit follow spell =
+    with_names (ReadsBehind name file_forms.OneOrTwo tail_forms.Names (Two a b)) behind rest spell
+    (λ plain. let more = first_plain a (b ∷ []) plain in
+    reads_both_alone name a b more.0 (first_plain b [] more.1).0)
+    (λ n plain. let more = first_plain a (b ∷ n ∷ []) plain in let last = first_plain b (n ∷ []) more.1 in
+    reads_both_named name a b n more.0 last.0 (first_plain n [] last.1).0)
+read name file_forms.OneOrTwo tail_forms.Names _ behind rest form fit follow spell = absurd fit
+read name file_forms.Three tail_forms.Names (Three a b d) behind rest form fit follow spell =
+    with_names (ReadsBehind name file_forms.Three tail_forms.Names (Three a b d)) behind rest spell
     (λ plain. let more = first_plain a (b ∷ d ∷ []) plain in let last = first_plain b (d ∷ []) more.1 in
-    reads_three name a b d more.0 last.0 (first_plain d [] last.1).0)
-read name file_forms.Three tail_forms.Nothing _ behind rest form fit spell = absurd fit
-read name _ _ files behind rest form fit spell = absurd cc
+    reads_three_alone name a b d more.0 last.0 (first_plain d [] last.1).0)
+    (λ n plain. let more = first_plain a (b ∷ d ∷ n ∷ []) plain in
+    let last = first_plain b (d ∷ n ∷ []) more.1 in let end = first_plain d (n ∷ []) last.1 in
+    reads_three_named name a b d n more.0 last.0 end.0 (first_plain n [] end.1).0)
+read name file_forms.Three tail_forms.Names _ behind rest form fit follow spell = absurd fit
+read name _ _ files behind rest form fit follow spell = absurd cc
 
 -- ---- the words of a call
 
@@ -393,7 +516,7 @@ called_words : (words : List Text) (wanted : Asked) (c : Calls words wanted)
     (listed wanted.files ++ c.behind)
 called_words words wanted c =
     read (command_name wanted.verb) (file_form wanted.verb) (tail_form wanted.verb) wanted.files wanted.behind c.behind
-    (formed_so wanted.verb) c.fit c.spell c.plain
+    (formed_so wanted.verb) c.fit c.follow c.spell c.plain
 
 -- the words of a call are taken, and ask for what they call
 pub takes_Calls : (words : List Text) (wanted : Asked) → Calls words wanted → takes wqplan words ≡ true

@@ -138,6 +138,10 @@ spelled request =
 abbrev pub run_asked : Files Text → ℕ → Asked
 run_asked files count = record { verb = Run; files = files; behind = helpers count }
 
+-- this command, on these files, with these names
+abbrev pub named_asked : Verb → Files Text → List Text → Asked
+named_asked verb files given = record { verb = verb; files = files; behind = names given }
+
 -- the files, in the order in which they are opened
 abbrev pub listed : Files Text → List Text
 listed Unnamed = []
@@ -256,6 +260,11 @@ Fits file_forms.OneOrTwo (Two first second) = Unit {0}
 Fits file_forms.Three (Three first second third) = Unit {0}
 Fits _ _ = ⊥
 
+-- names come behind all files that the command can have: a name behind the first of two would be the second
+abbrev pub Follows : FileForm → Files Text → Behind → Type 0
+Follows file_forms.OneOrTwo (One first) (names (name ∷ more)) = ⊥
+Follows _ _ _ = Unit {0}
+
 -- the words behind the files: one name at most, maybe the number of helpers, or the word to explain
 abbrev pub Spells : TailForm → Behind → List Text → Type 0
 Spells tail_forms.Nothing nothing words = words ≡ []
@@ -274,5 +283,6 @@ pub record Calls (words : List Text) (asked : Asked) : Type 0 where
   pub behind : List Text
   pub are : words ≡ program ∷ command_name asked.verb ∷ listed asked.files ++ behind
   pub fit : Fits (file_form asked.verb) asked.files
+  pub follow : Follows (file_form asked.verb) asked.files asked.behind
   pub spell : Spells (tail_form asked.verb) asked.behind behind
   pub plain : list_all is_no_option (listed asked.files ++ behind) ≡ true

@@ -51,10 +51,10 @@ abbrev pub tail_form : Verb → TailForm
 tail_form Plan = tails.Nothing
 tail_form Check = tails.Nothing
 tail_form Deadlock = tails.Nothing
-tail_form Hang = tails.Nothing
+tail_form Hang = tails.Names
 tail_form Repair = tails.Names
-tail_form Replay = tails.Nothing
-tail_form Circles = tails.Nothing
+tail_form Replay = tails.Names
+tail_form Circles = tails.Names
 tail_form Dot = tails.Nothing
 tail_form Run = tails.Helpers
 tail_form Explain = tails.Word

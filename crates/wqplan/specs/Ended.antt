@@ -1,5 +1,5 @@
 -- How a command ends, and what it prints, in terms of what its files have.
-use Rattle.std.specs.Prelude.{◌≡◌, Bool, false, true, ℕ, List, [], Option, Some, None, Result, Ok, Err}
+use Rattle.std.specs.Prelude.{◌≡◌, Bool, false, true, ℕ, List, [], ◌∷◌, Option, Some, None, Result, Ok, Err}
 use Rattle.wq_meter.specs.declared.fault.Fault.{Fault}
 use Rattle.wq_meter.specs.declared.fault.Fault.TheVariants.{Memory, Read, Write}
 use Rattle.wq_meter.specs.Input.{IsInput}
@@ -12,9 +12,12 @@ use Rattle.wq_commands.specs.Answer.{Answers}
 use Rattle.wq_commands.specs.Checking.{Checks}
 use Rattle.wq_commands.specs.Deadlocking.{Judges}
 use Rattle.wq_hang_command.specs.Hanging.{Hangs}
+use Rattle.wq_hang_command.specs.Holding.{Holds}
 use Rattle.wq_repair_command.specs.Repairing.{Repairs}
 use Rattle.wq_commands.specs.Replaying.{ReplaysRun}
+use Rattle.wq_commands.specs.ReplayingFor.{ReplaysRunFor}
 use Rattle.wq_circles.specs.Circling.{AnswersCircles}
+use Rattle.wq_circles.specs.HeldText.{CirclesNamed}
 use Rattle.wq_dot.specs.Dotting.{AnswersDot}
 use Rattle.wq_run.specs.declared.fault.CommandFault.{CommandFault}
 use Rattle.wq_run.specs.declared.fault.CommandFault.TheVariants.{Common, Tally, Thread}
@@ -63,15 +66,36 @@ limits_of Explain files = one_text
 abbrev pub EndsExplain : Option Text → End → List ℕ → Type 0
 EndsExplain code end out = (end ≡ explain_end (explained_end code)) × (out ≡ explained_text code)
 
+-- `hang`, and where items with these names must go on
+abbrev pub EndsHang : List Text → Given → End → List ℕ → Type 0
+EndsHang [] texts end out = Hangs texts.first texts.second end out
+EndsHang (name ∷ names) texts end out = Holds (name ∷ names) texts.first texts.second end out
+
+-- `replay`, and where items with these names must go on
+abbrev pub EndsReplay : List Text → Given → End → List ℕ → Type 0
+EndsReplay [] texts end out = ReplaysRun texts.first texts.second texts.third end out
+EndsReplay (name ∷ names) texts end out = ReplaysRunFor (name ∷ names) texts.first texts.second texts.third end out
+
+-- these names, if they stand behind an assignment; else none
+abbrev pub names_behind : Bool → List Text → List Text
+names_behind false names = []
+names_behind true names = names
+
+-- `circles`: without an assignment; with one; and where items with these names must go on, which stand behind it
+abbrev pub EndsCircles : Bool → List Text → Given → End → List ℕ → Type 0
+EndsCircles false names texts end out = AnswersCircles false texts end out
+EndsCircles true [] texts end out = AnswersCircles true texts end out
+EndsCircles true (name ∷ names) texts end out = CirclesNamed (name ∷ names) texts.first texts.second end out
+
 -- a command ends like this with this answer to its texts
 abbrev pub EndsOn : Verb → Files Text → Behind → Given → End → List ℕ → Type 0
 EndsOn Plan files behind texts end out = Answers texts.first end out
 EndsOn Check files behind texts end out = Checks texts.first texts.second end out
 EndsOn Deadlock files behind texts end out = Judges texts.first texts.second end out
-EndsOn Hang files behind texts end out = Hangs texts.first texts.second end out
+EndsOn Hang files behind texts end out = EndsHang (names_asked behind) texts end out
 EndsOn Repair files behind texts end out = Repairs (names_asked behind) texts.first texts.second end out
-EndsOn Replay files behind texts end out = ReplaysRun texts.first texts.second texts.third end out
-EndsOn CirclesVerb files behind texts end out = AnswersCircles (has_second files) texts end out
+EndsOn Replay files behind texts end out = EndsReplay (names_asked behind) texts end out
+EndsOn CirclesVerb files behind texts end out = EndsCircles (has_second files) (names_asked behind) texts end out
 EndsOn Dot files behind texts end out = AnswersDot (has_second files) texts end out
 EndsOn Run files behind texts end out = RunsPlan (helpers_asked behind) texts.first end out
 EndsOn Explain files behind texts end out = EndsExplain (word_asked behind) end out

@@ -1,24 +1,30 @@
 -- What the program says on standard error of the answer that it prints.
-use Rattle.std.specs.Prelude.{◌≡◌, ℕ, List, [], Option, Some, None, Result, codes, if◌then◌else◌}
+use Rattle.std.specs.Prelude.{◌≡◌, Bool, false, true, ℕ, List, [], ◌∷◌, Option, Some, None, Result, codes}
+use Rattle.std.specs.Prelude.{if◌then◌else◌}
 use Rattle.std.specs.Str.{bytes_eq}
 use Rattle.clap.specs.Words.{Text}
 use Rattle.wq_text.specs.Refusal.{Refusal}
 use Rattle.wq_meter.specs.Shell.{Given, kept}
 use Rattle.wq_commands.specs.declared.end.End.{End}
 use Rattle.wq_commands.specs.Commands.{ChecksText, FindsPlan, JudgesText, ReplaysTexts}
+use Rattle.wq_commands.specs.ReplayingFor.{ReplaysTextsFor}
 use Rattle.wq_groups.specs.DeclaredGroups.{Declared}
 use Rattle.wq_commands.specs.Shell.{AnswersTexts, SaysOfTexts}
 use Rattle.wq_circles.specs.Circling.{CirclesTexts}
+use Rattle.wq_circles.specs.HeldText.{CirclesTextFor}
 use Rattle.wq_dot.specs.Dotting.{DrawsTexts}
 use Rattle.wq_dot.specs.Saying.{SaysDot}
 use Rattle.wq_hang_command.specs.Hanging.{HangsText}
+use Rattle.wq_hang_command.specs.Holding.{HoldsText}
 use Rattle.wq_hang_command.specs.Saying.{SaysHangOf}
+use Rattle.wq_hang_command.specs.Telling.{SaysHoldOf}
 use Rattle.wq_repair_command.specs.Repairing.{RepairsText}
 use Rattle.wq_changes.specs.Voice.{SaysRepair}
 use Rattle.wq_run.specs.Running.{FindsRun, SaysRun}
 use Rattle.wq_diagnosis.specs.Refused.{Diagnoses}
 use Rattle.wq_voice.specs.declared.file_names.FileNames.{FileNames}
 use Rattle.wq_voice.specs.Voice.{SaysCheck, SaysCirclesOf, SaysEndOf, SaysPlan, SaysVerdictOf}
+use Rattle.wq_voice.specs.VoiceFor.{SaysCirclesOfFor, SaysEndOfFor}
 use Rattle.wqplan.specs.declared.command_line.Files.{Files}
 use Rattle.wqplan.specs.declared.command_line.Files.TheVariants.{One, Three, Two, Unnamed}
 use Rattle.wqplan.specs.declared.commands.Verb.{Verb}
@@ -62,6 +68,38 @@ IsSaidOf {F} first Answers Says texts end out said = (found : Result F Refusal)
     × AnswersTexts Answers texts found end out
     × SaysOfTexts Says (λ _ r words. Diagnoses first (Some r) words) texts found said
 
+-- of `hang`, and where items with these names must go on
+abbrev pub SaysHangNamed : Type 0 → Names → List Text → Given → End → List ℕ → Option (List ℕ) → Type 0
+SaysHangNamed A n [] = IsSaidOf n.declaration
+    (λ s t found end out. HangsText {A = A} s t.second found end out)
+    (λ s t found said. SaysHangOf n.declaration n.second n.run s t found said)
+SaysHangNamed A n (name ∷ names) = IsSaidOf n.declaration
+    (λ s t found end out. HoldsText {A = A} s (name ∷ names) t.second found end out)
+    (λ s t found said. SaysHoldOf n.declaration n.second n.run (name ∷ names) s t found said)
+
+-- of `replay`, and where items with these names must go on
+abbrev pub SaysReplayNamed : Type 0 → Names → List Text → Given → End → List ℕ → Option (List ℕ) → Type 0
+SaysReplayNamed A n [] = IsSaidOf n.declaration
+    (λ s t found end out. ReplaysTexts {A = A} s t.second t.third found end out)
+    (λ s t found said. SaysEndOf n.declaration n.second n.run s t found said)
+SaysReplayNamed A n (name ∷ names) = IsSaidOf n.declaration
+    (λ s t found end out. ReplaysTextsFor {A = A} s (name ∷ names) t.second t.third found end out)
+    (λ s t found said. SaysEndOfFor n.declaration n.second n.run (name ∷ names) s t found said)
+
+-- of `circles`, with an assignment or without one
+abbrev pub SaysAllCircles : Type 0 → Names → Bool → Given → End → List ℕ → Option (List ℕ) → Type 0
+SaysAllCircles A n assigned = IsSaidOf n.declaration
+    (λ s t found end out. CirclesTexts {A = A} assigned s t found end out)
+    (λ s t found said. SaysCirclesOf n.declaration n.second n.run assigned s t found said)
+
+-- of `circles`: without an assignment; with one; and where items with these names must go on, which stand behind it
+abbrev pub SaysCirclesNamed : Type 0 → Names → Bool → List Text → Given → End → List ℕ → Option (List ℕ) → Type 0
+SaysCirclesNamed A n false names = SaysAllCircles A n false
+SaysCirclesNamed A n true [] = SaysAllCircles A n true
+SaysCirclesNamed A n true (name ∷ names) = IsSaidOf n.declaration
+    (λ s t found end out. CirclesTextFor {A = A} s (name ∷ names) t.second found end out)
+    (λ s t found said. SaysCirclesOfFor n.declaration n.second n.run (name ∷ names) s t found said)
+
 -- what is said of the answer of a command to these texts; `A` is the allocator of the vectors in what the command
 -- found. Nothing is said beside `explain`
 abbrev pub SaysOn : Type 0 → Names → Verb → Files Text → Behind → Given → End → List ℕ → Option (List ℕ) → Type 0
@@ -72,18 +110,12 @@ SaysOn A n Check files behind = IsSaidOf n.declaration (λ s t found end out. Ch
 SaysOn A n Deadlock files behind = IsSaidOf n.declaration
     (λ s t found end out. JudgesText {A = A} s t.second found end out)
     (λ s t found said. SaysVerdictOf n.declaration n.second n.run s t found said)
-SaysOn A n Hang files behind = IsSaidOf n.declaration
-    (λ s t found end out. HangsText {A = A} s t.second found end out)
-    (λ s t found said. SaysHangOf n.declaration n.second n.run s t found said)
+SaysOn A n Hang files behind = SaysHangNamed A n (names_asked behind)
 SaysOn A n Repair files behind = IsSaidOf n.declaration
     (λ s t found end out. RepairsText {A = A} (names_asked behind) s t.second found end out)
     (λ s t found said. SaysRepair n.declaration n.second n.run (names_asked behind) s t found said)
-SaysOn A n Replay files behind = IsSaidOf n.declaration
-    (λ s t found end out. ReplaysTexts {A = A} s t.second t.third found end out)
-    (λ s t found said. SaysEndOf n.declaration n.second n.run s t found said)
-SaysOn A n Circles files behind = IsSaidOf n.declaration
-    (λ s t found end out. CirclesTexts {A = A} (has_second files) s t found end out)
-    (λ s t found said. SaysCirclesOf n.declaration n.second n.run (has_second files) s t found said)
+SaysOn A n Replay files behind = SaysReplayNamed A n (names_asked behind)
+SaysOn A n Circles files behind = SaysCirclesNamed A n (has_second files) (names_asked behind)
 SaysOn A n Dot files behind = IsSaidOf n.declaration
     (λ s t found end out. DrawsTexts {A = A} (has_second files) s t found end out)
     (λ s t found said. SaysDot n.declaration n.second n.run s found said)

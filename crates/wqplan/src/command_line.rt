@@ -198,12 +198,12 @@ fn optional<'a>(alloc: Global, name: &'a str, help: &'a str) -> Arg<'a>
     Arg::new(alloc, name).help(help)
 }
 
-/// The argument NAME, which may come any number of times.
-fn names<'a>(alloc: Global) -> Arg<'a>
+/// The argument NAME, which may come any number of times. `items` is what help says of it.
+fn names<'a>(alloc: Global, items: &'a str) -> Arg<'a>
     ensures rule { rule_of result ≡ many_rule (codes "NAME") }
     ensures own { result.global ≡ false }
 {
-    Arg::new(alloc, "NAME").help(help::NAME).num_args(1..)
+    Arg::new(alloc, "NAME").help(items).num_args(1..)
 }
 
 /// The argument HELPERS.
@@ -242,17 +242,18 @@ fn with_files<'a>(
     }
 }
 
-/// A command with what may stand behind its files, too.
+/// A command with what may stand behind its files, too. `items` is what help says of names.
 fn with_tail<'a>(
     alloc: Global,
     command: Command<'a>,
     form: TailForm,
+    items: &'a str,
 ) -> Result<Command<'a>, AllocError>
     ensures { IfOk result (λ r. app_of r ≡ with_rules (app_of command.entry) (tail_rules form)) }
 {
     match form {
         TailForm::Nothing => Ok(command),
-        TailForm::Names => command.arg(names(alloc)),
+        TailForm::Names => command.arg(names(alloc, items)),
         TailForm::Helpers => command.arg(helpers(alloc)),
         TailForm::Word => command.arg(optional(alloc, "CODE", help::CODE)),
     }
@@ -266,7 +267,7 @@ fn command<'a>(alloc: Global, verb: Verb) -> Result<Command<'a>, AllocError>
         .about(verb.about())
         .after_long_help(verb.statuses());
     let filed = with_files(alloc, named, verb.files(), verb.assignment())?;
-    with_tail(alloc, filed, verb.tail())
+    with_tail(alloc, filed, verb.tail(), verb.items())
 }
 
 /// The program without its commands. One of them is required.

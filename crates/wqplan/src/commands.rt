@@ -88,14 +88,8 @@ impl Verb {
         ensures { result ≡ tail_form self }
     {
         match self {
-            Verb::Plan
-            | Verb::Check
-            | Verb::Deadlock
-            | Verb::Hang
-            | Verb::Replay
-            | Verb::Circles
-            | Verb::Dot => TailForm::Nothing,
-            Verb::Repair => TailForm::Names,
+            Verb::Plan | Verb::Check | Verb::Deadlock | Verb::Dot => TailForm::Nothing,
+            Verb::Hang | Verb::Repair | Verb::Replay | Verb::Circles => TailForm::Names,
             Verb::Run => TailForm::Helpers,
             Verb::Explain => TailForm::Word,
         }
@@ -130,6 +124,22 @@ impl Verb {
             | Verb::Explain => help::ASSIGN,
             Verb::Circles => "As for `deadlock`. Without it each group has its own workqueue",
             Verb::Dot => "As for `deadlock`. Without it the plan's workqueues are drawn",
+        }
+    }
+
+    /// What help says of its names.
+    pub(crate) fn items<'a>(self) -> &'a str {
+        match self {
+            Verb::Plan
+            | Verb::Check
+            | Verb::Deadlock
+            | Verb::Repair
+            | Verb::Dot
+            | Verb::Run
+            | Verb::Explain => help::NAME,
+            Verb::Hang => "An item that must go on: can one of them be held up?",
+            Verb::Replay => "An item that must go on: is one of them held up?",
+            Verb::Circles => "An item that must go on: what can hold one of them up?",
         }
     }
 

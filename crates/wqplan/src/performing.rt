@@ -7,21 +7,22 @@
 //! drawn. The running time is that of the command.
 
 ghost use Rattle.std.specs.Prelude.{◌≡◌, ◌≢◌, ◌≤◌, ◌+◌, ℕ, List, Result, Err, IfErr, IfOk, IfSome, None, OnErr, Some};
-ghost use Rattle.std.specs.Prelude.{option_map};
+ghost use Rattle.std.specs.Prelude.{map, option_map};
 ghost use Rattle.std.specs.List.{Any};
 ghost use Rattle.wq_meter.specs.Input.{HasFailed, IsInput};
 ghost use Rattle.wq_meter.specs.Meter.{count_after, LosesPrefix, WritesPrefix, WritesWhole};
 ghost use Rattle.wq_meter.specs.Shell.{AreFrom, Tells};
 ghost use Rattle.wq_commands.specs.Declaration.{max_declaration};
 ghost use Rattle.wq_commands.specs.Shell.{AnswersTexts, IsAnswered, SaysOfTexts};
-ghost use Rattle.wqplan.specs.CommandLine.{HasFewHelpers, listed, paths, run_asked, spelled};
+ghost use Rattle.wqplan.specs.CommandLine.{HasFewHelpers, listed, named_asked, paths, run_asked, spelled};
 ghost use Rattle.wqplan.specs.Cause.{EndsAlone, EndsReady, IsCaused, MayFail, ReadsInput, TakesInput};
 ghost use Rattle.wqplan.specs.Files.{AreOpened, EndsIn, HaveTexts, first_if};
 ghost use Rattle.wqplan.specs.Promised.{PromisesAsAsked};
 ghost use Rattle.wqplan.specs.Status.{end_or_common, explained_or_common, unheld};
-ghost use Rattle.wqplan.specs.Ended.{EndedBy, EndsAsAsked, EndsExplain, Has, IsInputIf, has_second};
+ghost use Rattle.wqplan.specs.Ended.{EndedBy, EndsAsAsked, EndsExplain, Has, IsInputIf, has_second, names_behind};
 ghost use Rattle.wqplan.specs.Told.{IsToldAsAsked, names_given, names_of_files};
 ghost use Rattle.wqplan.specs.declared.command_line.Files.TheVariants.{Unnamed};
+ghost use Rattle.wqplan.specs.declared.commands.Verb.TheVariants.{Circles, Hang, Replay};
 
 use crate::command_line::{Files, Request};
 use crate::commands::Verb;
@@ -31,13 +32,14 @@ use std::io::{self, Read, Write};
 use std::sync::Wait;
 use std::thread::Threads;
 use wq_changes::RepairVoice;
-use wq_circles::CirclesCommand;
+use wq_circles::{CirclesCommand, CirclesForCommand};
 use wq_commands::{
-    CheckCommand, Command, DeadlockCommand, End, PlanCommand, ReplayCommand, Voice, carry_out,
+    CheckCommand, Command, DeadlockCommand, End, PlanCommand, ReplayCommand, ReplayForCommand,
+    Voice, carry_out,
 };
 use wq_dot::DotCommand;
 use wq_explain::{Explained, explain_cmd};
-use wq_hang_command::HangCommand;
+use wq_hang_command::{HangCommand, HoldCommand};
 use wq_meter::{Fault, Metered, write_text};
 use wq_repair_command::RepairCommand;
 use wq_run::{CommandFault, RunCommand, carry_out_run, end_of_run};
@@ -317,6 +319,141 @@ fn has_second(files: &Files<&str>) -> bool
     }
 }
 
+/// These names, if they stand behind an assignment; else none.
+fn names_behind<'n, 'a>(assigned: bool, named: &'n [&'a str]) -> &'n [&'a str]
+    ensures { map (λ n. n.now) result.now ≡ names_behind assigned (map (λ n. n.now) named.now) }
+{
+    if assigned { named } else { &[] }
+}
+
+/// Carries out `hang` on these files. If names are given, the items with these must go on.
+fn hang<'a, O: World<'a>, I: Read, W: Write, E: Write>(
+    world: &O,
+    alloc: Global,
+    seed: u64,
+    names: &FileNames<'_>,
+    named: &[&str],
+    files: &Files<&'a str>,
+    input: &mut Metered<I>,
+    writer: &mut Metered<W>,
+    teller: &mut Metered<E>,
+) -> Result<End, CommandFault>
+    requires drawn { O.seeds world.now (Some seed) }
+    requires names { names_given names.now ≡ names_of_files (paths files.now) }
+    ensures ended { EndedBy W.contents writer.old writer.new
+        (EndsAsAsked (Has (O.opens world.now) O.File.Read.remaining) (IsInput (I.remaining input.old.device))
+        (named_asked Hang (paths files.now) (map (λ n. n.now) named.now))) result }
+    ensures told { IfOk result (λ end. IsToldAsAsked Global (Has (O.opens world.now) O.File.Read.remaining)
+        (IsInput (I.remaining input.old.device)) (named_asked Hang (paths files.now) (map (λ n. n.now) named.now)) end
+        (WritesWhole W.contents writer.old writer.new) (Tells E.contents teller.old teller.new)) }
+    ensures caused { IsCaused (O.seeds world.now) (O.opens world.now) (HasFailed input.old input.new)
+        (named_asked Hang (paths files.now) (map (λ n. n.now) named.now)) result }
+    ensures input { TakesInput I.remaining input.old input.new max_declaration (paths files.now) }
+    ensures unsaid { OnErr result (teller.new ≡ teller.old) }
+{
+    if named.is_empty() {
+        return carry_out_files(
+            world,
+            alloc,
+            seed,
+            &HangCommand,
+            names,
+            files,
+            input,
+            writer,
+            teller,
+        );
+    }
+    let command = HoldCommand { names: named };
+    carry_out_files(
+        world, alloc, seed, &command, names, files, input, writer, teller,
+    )
+}
+
+/// Carries out `replay` on these files. If names are given, the items with these must go on.
+fn replay<'a, O: World<'a>, I: Read, W: Write, E: Write>(
+    world: &O,
+    alloc: Global,
+    seed: u64,
+    names: &FileNames<'_>,
+    named: &[&str],
+    files: &Files<&'a str>,
+    input: &mut Metered<I>,
+    writer: &mut Metered<W>,
+    teller: &mut Metered<E>,
+) -> Result<End, CommandFault>
+    requires drawn { O.seeds world.now (Some seed) }
+    requires names { names_given names.now ≡ names_of_files (paths files.now) }
+    ensures ended { EndedBy W.contents writer.old writer.new
+        (EndsAsAsked (Has (O.opens world.now) O.File.Read.remaining) (IsInput (I.remaining input.old.device))
+        (named_asked Replay (paths files.now) (map (λ n. n.now) named.now))) result }
+    ensures told { IfOk result (λ end. IsToldAsAsked Global (Has (O.opens world.now) O.File.Read.remaining)
+        (IsInput (I.remaining input.old.device)) (named_asked Replay (paths files.now) (map (λ n. n.now) named.now)) end
+        (WritesWhole W.contents writer.old writer.new) (Tells E.contents teller.old teller.new)) }
+    ensures caused { IsCaused (O.seeds world.now) (O.opens world.now) (HasFailed input.old input.new)
+        (named_asked Replay (paths files.now) (map (λ n. n.now) named.now)) result }
+    ensures input { TakesInput I.remaining input.old input.new max_declaration (paths files.now) }
+    ensures unsaid { OnErr result (teller.new ≡ teller.old) }
+{
+    if named.is_empty() {
+        return carry_out_files(
+            world,
+            alloc,
+            seed,
+            &ReplayCommand,
+            names,
+            files,
+            input,
+            writer,
+            teller,
+        );
+    }
+    let command = ReplayForCommand { names: named };
+    carry_out_files(
+        world, alloc, seed, &command, names, files, input, writer, teller,
+    )
+}
+
+/// Carries out `circles` on these files. If names are given behind an assignment, the items with these must go on.
+fn circles<'a, O: World<'a>, I: Read, W: Write, E: Write>(
+    world: &O,
+    alloc: Global,
+    seed: u64,
+    names: &FileNames<'_>,
+    named: &[&str],
+    files: &Files<&'a str>,
+    input: &mut Metered<I>,
+    writer: &mut Metered<W>,
+    teller: &mut Metered<E>,
+) -> Result<End, CommandFault>
+    requires drawn { O.seeds world.now (Some seed) }
+    requires names { names_given names.now ≡ names_of_files (paths files.now) }
+    ensures ended { EndedBy W.contents writer.old writer.new
+        (EndsAsAsked (Has (O.opens world.now) O.File.Read.remaining) (IsInput (I.remaining input.old.device))
+        (named_asked Circles (paths files.now) (map (λ n. n.now) named.now))) result }
+    ensures told { IfOk result (λ end. IsToldAsAsked Global (Has (O.opens world.now) O.File.Read.remaining)
+        (IsInput (I.remaining input.old.device))
+        (named_asked Circles (paths files.now) (map (λ n. n.now) named.now)) end
+        (WritesWhole W.contents writer.old writer.new) (Tells E.contents teller.old teller.new)) }
+    ensures caused { IsCaused (O.seeds world.now) (O.opens world.now) (HasFailed input.old input.new)
+        (named_asked Circles (paths files.now) (map (λ n. n.now) named.now)) result }
+    ensures input { TakesInput I.remaining input.old input.new max_declaration (paths files.now) }
+    ensures unsaid { OnErr result (teller.new ≡ teller.old) }
+{
+    let assigned = has_second(files);
+    let named = names_behind(assigned, named);
+    if named.is_empty() {
+        let command = CirclesCommand { assigned };
+        return carry_out_files(
+            world, alloc, seed, &command, names, files, input, writer, teller,
+        );
+    }
+    let command = CirclesForCommand { names: named };
+    carry_out_files(
+        world, alloc, seed, &command, names, files, input, writer, teller,
+    )
+}
+
 /// Carries out the command that is asked for, with a seed that was drawn. `explain` doesn't use it.
 fn carry_out_seeded<'a, O: World<'a>, R: Threads + Wait + Sync, I: Read, W: Write, E: Write>(
     world: &O,
@@ -344,6 +481,7 @@ fn carry_out_seeded<'a, O: World<'a>, R: Threads + Wait + Sync, I: Read, W: Writ
     let verb = request.verb;
     let files = &request.files;
     let names = names_of(files);
+    let named = request.tail.names();
     match verb {
         Verb::Plan => carry_out_files(
             world,
@@ -378,45 +516,22 @@ fn carry_out_seeded<'a, O: World<'a>, R: Threads + Wait + Sync, I: Read, W: Writ
             writer,
             teller,
         ),
-        Verb::Hang => carry_out_files(
-            world,
-            alloc,
-            seed,
-            &HangCommand,
-            &names,
-            files,
-            input,
-            writer,
-            teller,
+        Verb::Hang => hang(
+            world, alloc, seed, &names, named, files, input, writer, teller,
         ),
         Verb::Repair => {
-            let command = RepairCommand {
-                names: request.tail.names(),
-            };
+            let command = RepairCommand { names: named };
             let voice = RepairVoice { files: names };
             carry_out_files(
                 world, alloc, seed, &command, &voice, files, input, writer, teller,
             )
         }
-        Verb::Replay => carry_out_files(
-            world,
-            alloc,
-            seed,
-            &ReplayCommand,
-            &names,
-            files,
-            input,
-            writer,
-            teller,
+        Verb::Replay => replay(
+            world, alloc, seed, &names, named, files, input, writer, teller,
         ),
-        Verb::Circles => {
-            let command = CirclesCommand {
-                assigned: has_second(files),
-            };
-            carry_out_files(
-                world, alloc, seed, &command, &names, files, input, writer, teller,
-            )
-        }
+        Verb::Circles => circles(
+            world, alloc, seed, &names, named, files, input, writer, teller,
+        ),
         Verb::Dot => {
             let command = DotCommand {
                 assigned: has_second(files),
@@ -491,7 +606,8 @@ pub(crate) fn perform<'a, O: World<'a>, R: Threads + Wait + Sync, I: Read, W: Wr
     // exactly the flushes on circles, and those to no rescuer, are printed, and `safe` exactly if no run ends stuck.
     // Of `deadlock` and `hang`: `safe` holds in every reading; else the printed run ends stuck in the reading that
     // keeps the printed lines, no reading that keeps fewer hangs, and of `hang` no run of one that keeps as few is
-    // shorter. The other commands end as they promise.
+    // shorter. With names `hang` promises this of runs that end stuck for the items with these names, and `circles`
+    // that what isn't printed makes no difference to them. The other commands end as they promise.
     ensures promised { IfOk result (λ end. (out : List ℕ)
         × PromisesAsAsked (Has (O.opens world.now) O.File.Read.remaining) (IsInput (I.remaining input.old.device))
         (spelled request.entry) end out

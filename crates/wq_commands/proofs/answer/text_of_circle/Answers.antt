@@ -7,18 +7,12 @@ use Rattle.wq_core.specs.Runs.{HasNoHelp}
 use Rattle.wq_core.specs.Wiring.{own_lanes}
 use Rattle.wq_cert.specs.CircleText.{circle_text}
 use Rattle.wq_cert.specs.RunText.{step_item}
-use Rattle.wq_deadlock.proofs.OwnLanes.{IsAssignment-own_lanes}
 use Rattle.wq_commands.specs.Answer.{ends_of}
 use Rattle.wq_groups.specs.DeclaredGroups.{Declared, IsSound}
 use Rattle.wq_commands.proofs.AnswerLemmas.{ArePrintable, ArePrintable-walked}
-use Rattle.wq_commands.proofs.CircleRuns.{IsCircleRun-deadlock, IsAssignmentOf-own_lanes}
+use Rattle.wq_commands.proofs.CircleRuns.{IsAssignmentOf-own_lanes}
 use Rattle.wq_commands.proofs.NamedSteps.{step_item-deadlock, length-deadlock}
 use Rattle.wq_commands.proofs.answer.text_of_circle.Goals as goal
-
-pub run_of_groups-requires : goal.run_of_groups-requires
-run_of_groups-requires g c =
-    let groups = c.args.declared.now.partition.groups in
-    c.requires.circled.deadlocks (own_lanes groups) (IsAssignment-own_lanes groups)
 
 pub circle_text-requires-clause-few : goal.circle_text-requires-clause-few
 circle_text-requires-clause-few g c =
@@ -57,7 +51,8 @@ circle_text-requires-clause-step_items g c =
     c.in_ok-steps.steps.items c.in_ok-steps.ensures.deadlocks))
 
 pub circle_text-requires-clause-no_help : goal.circle_text-requires-clause-no_help
-circle_text-requires-clause-no_help g c = subst HasNoHelp (sym c.as_slice.ensures.value) c.in_ok-steps.ensures.deadlocks.no_help
+circle_text-requires-clause-no_help g c =
+    subst HasNoHelp (sym c.as_slice.ensures.value) c.in_ok-steps.ensures.deadlocks.no_help
 
 pub returns : goal.returns
 returns g c =
@@ -71,7 +66,7 @@ returns g c =
       circle = circle;
       walked = c.requires.circled.walked;
       steps = steps;
-      is_run = IsCircleRun-deadlock s sound circle steps c.requires.circled.walked c.in_ok-steps.ensures;
+      is_run = c.in_ok-steps.ensures.run;
       text =
           printed
           ∙ ap (λ (t : Table). circle_text t.names c.deref.result.now (Some c.as_slice.result.now)) same

@@ -43,7 +43,8 @@ returns g c =
     let s = c.search_from.new.search in
     let hops = c.in_ok-hops.hops.items in
     let less : slice_index s.costs c.args.first < c.args.least = omega (arith, c.if-cost-least.false, c.cost-cost.ensures) in
-    let better = IsBetter-searched w c.args.first c.args.least s hops c.in_ok-search_from.ensures less c.in_ok-hops.ensures.round c.in_ok-hops.ensures.cost in
+    let better = IsBetter-searched w c.args.first c.args.least s hops c.in_ok-search_from.ensures less
+    c.in_ok-hops.ensures.round c.in_ok-hops.ensures.path c.in_ok-hops.ensures.cost in
     record { some = subst (λ (n : ℕ). IsBetter w c.args.first c.args.least n hops) (sym c.cost-cost.ensures) better; none = tt }
 
 pub returns-then-is_empty-clause-none : goal.returns-then-is_empty-clause-none

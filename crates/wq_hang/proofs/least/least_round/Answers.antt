@@ -1,5 +1,5 @@
 use Rattle.std.proofs.Common.{◌≡◌, ◌+◌, ◌-◌, ◌<◌, ◌⊎◌, min, ℕ, List, length, take, drop, get_or, sym, ap, subst, ◌∙◌}
-use Rattle.std.proofs.Common.{arith}
+use Rattle.std.proofs.Common.{refl, arith}
 use Rattle.std.specs.Prelude.{Contains}
 use Rattle.std.specs.Option.{option_map}
 use Rattle.std.proofs.lemmas.List.{get_or-take, get_or-drop, length-take, length-drop}
@@ -70,7 +70,7 @@ loop-i-preserved g c =
       | then-not-are_made+then-saturating_sub-items+in_ok-bounds-2 w ↦
           subst (λ b. ServeAll c.args.waits.now few b.items) (sym w.bounds-is)
           (ServeAll-made c.args.waits.now few w.in_ok-bounds-2.bounds.items w.in_ok-bounds-2.ensures.len
-          w.in_ok-bounds-2.ensures.bounds)
+          (λ i there. w.in_ok-bounds-2.ensures.bounds i i there refl))
       | else-not-are_made w ↦ subst (λ b. ServeAll c.args.waits.now few b.items) (sym w.bounds-is) c.loop-i.invariant.0
     ] in (
       served,
@@ -113,7 +113,7 @@ better_round-requires-clause-bounds g c = λ rescuer.
       | then-not-are_made+then-saturating_sub-items+in_ok-bounds-2 w ↦
           subst (λ b. ServeAll c.args.waits.now few b.items) (sym w.bounds-is)
           (ServeAll-made c.args.waits.now few w.in_ok-bounds-2.bounds.items w.in_ok-bounds-2.ensures.len
-          w.in_ok-bounds-2.ensures.bounds)
+          (λ i there. w.in_ok-bounds-2.ensures.bounds i i there refl))
       | else-not-are_made w ↦ subst (λ b. ServeAll c.args.waits.now few b.items) (sym w.bounds-is) c.loop-i.invariant.0
     ] in
     let there : Contains few c.new-first.result = subst (Contains few) (sym c.new-first.ensures)
@@ -128,7 +128,7 @@ better_round-requires-clause-one_each g c =
       | then-not-are_made+then-saturating_sub-items+in_ok-bounds-2 w ↦
           subst (λ b. ServeAll c.args.waits.now few b.items) (sym w.bounds-is)
           (ServeAll-made c.args.waits.now few w.in_ok-bounds-2.bounds.items w.in_ok-bounds-2.ensures.len
-          w.in_ok-bounds-2.ensures.bounds)
+          (λ i there. w.in_ok-bounds-2.ensures.bounds i i there refl))
       | else-not-are_made w ↦ subst (λ b. ServeAll c.args.waits.now few b.items) (sym w.bounds-is) c.loop-i.invariant.0
     ] in
     ap (λ (l : List ℕ). length l) c.deref.ensures.value ∙ served.len

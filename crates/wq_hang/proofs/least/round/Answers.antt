@@ -2,9 +2,9 @@ use Rattle.std.proofs.Common.{◌≡◌, ◌≢◌, ◌≤◌, eqb, List, [], �
 use Rattle.std.specs.Prelude.{slice_index}
 use Rattle.std.proofs.lemmas.Bool.{eqb-true, eqb-false, not-true, not-false}
 use Rattle.wq_hang.specs.declared.hop.Hop.{Hop}
-use Rattle.wq_hang.specs.Walk.{IsRound}
+use Rattle.wq_hang.specs.Walk.{IsPath, IsRound}
 use Rattle.wq_hang.specs.Search.{IsReachedBy, hops_cost}
-use Rattle.wq_hang.proofs.RoundsFound.{IsTrace, IsTrace-first, IsTrace-next, trace_left, IsRound-traced}
+use Rattle.wq_hang.proofs.RoundsFound.{IsTrace, IsTrace-first, IsTrace-next, trace_left, path_traced, IsRound-traced}
 use Rattle.wq_hang.proofs.least.round.Goals as goal
 
 pub loop-first-init : goal.loop-first-init
@@ -54,3 +54,14 @@ returns-clause-cost g c =
     let same : c.loop-first.hop.item ≡ c.args.first = eqb-true c.loop-first.hop.item c.args.first (not-false (eqb c.loop-first.hop.item c.args.first) (sym c.ne.ensures ∙ c.loop-first-test.false)) in
     let traced = IsRound-traced w c.args.first c.args.limit c.args.search.now c.requires.reach c.loop-first.hop c.loop-first.hops.items c.loop-first.invariant same in
     subst (λ (l : List Hop). hops_cost l ≤ slice_index c.args.search.now.costs c.args.first) (sym c.reverse.ensures.items) traced.1
+
+pub returns-clause-path : goal.returns-clause-path
+returns-clause-path g c =
+    let w = c.args.waits.now in
+    let first = c.args.first in
+    let same : c.loop-first.hop.item ≡ first =
+    eqb-true c.loop-first.hop.item first
+    (not-false (eqb c.loop-first.hop.item first) (sym c.ne.ensures ∙ c.loop-first-test.false)) in
+    subst (λ (l : List Hop). IsPath w first l first) (sym c.reverse.ensures.items)
+    (path_traced w first c.args.limit c.args.search.now c.requires.reach c.loop-first.hop c.loop-first.hops.items
+    c.loop-first.invariant same)

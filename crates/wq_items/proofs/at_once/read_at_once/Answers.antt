@@ -1,11 +1,29 @@
-use Rattle.std.proofs.Common.{rules, ◌≡◌, ◌||◌, Bool, Option, Ok, Some, None, sym, ap, subst, ◌∙◌}
-use Rattle.wq_text.specs.Lines.{lines_of}
+use Rattle.std.proofs.Common.{rules, arith, List, length, ◌≡◌, ◌||◌, Bool, Option, Ok, Some, None, sym, ap, subst, ◌∙◌}
+use Rattle.wq_text.specs.Lines.{LineView, lines_of}
 use Rattle.wq_decl.specs.declared.directive.Directive.{Directive}
 use Rattle.wq_decl.specs.Reading.{reading, is_ordered}
 use Rattle.wq_items.specs.AtOnce.{Foretells}
 use Rattle.wq_items.specs.Table.{Table}
 use Rattle.wq_items.specs.declared.at_once.Orders.{Orders}
-use Rattle.wq_items.proofs.AtOnceLemmas.{SoFar, SoFar-none, SoFar-blank, SoFar-more, SoFar-ran_out, SoFar-out_at_end, IfNone-always, IsTable-SoFar, OrdersSoFar, OrdersSoFar-none, OrdersSoFar-blank, OrdersSoFar-noted, IsNoted}
+use Rattle.wq_items.proofs.AtOnceLemmas.{
+  SoFar,
+  SoFar-none,
+  SoFar-blank,
+  SoFar-more,
+  SoFar-ran_out,
+  SoFar-out_at_end,
+  IfNone-always,
+  IsTable-SoFar,
+  OrdersSoFar,
+  OrdersSoFar-none,
+  OrdersSoFar-blank,
+  OrdersSoFar-noted,
+  IsNoted,
+  SoFar-taken,
+  OrdersSoFar-taken,
+  SoFar-refused,
+  length-taken,
+}
 use Rattle.wq_items.proofs.at_once.read_at_once.Goals as goal
 use Rattle.wq_items.proofs.at_once.read_at_once.Goals.{in-Some-2+in_ok-take, in_default-2}
 
@@ -19,8 +37,8 @@ loop-line-init g c =
       at = c.lines-here.ensures ∙ sym start;
     }
 
-pub loop-line-preserved : goal.loop-line-preserved
-loop-line-preserved g c =
+pub plain-init : goal.plain-init
+plain-init g c =
     let line = c.in-Some.line in
     let before = c.loop-line in
     let rest = c.next.new.self in
@@ -53,7 +71,7 @@ loop-line-preserved g c =
                 subst (λ (o : Orders). OrdersSoFar o.any o.lines o.count rest all) (sym w.seen-is) (
                 OrdersSoFar-noted before.seen.any before.seen.lines before.seen.count before.here noted.any noted.lines noted.count line d before.lines rest all step is before.invariant.at before.invariant.made.sound notes before.invariant.ordered
                 );
-            at = c.again-here.ensures;
+            fewer = omega arith;
           }
       | in_default-2 w ↦
           let blank : reading line ≡ Ok None = subst (λ (o : Option Directive). Foretells (Some o) (reading line)) w.in_default-2.is c.in_ok-directive.ensures in
@@ -68,9 +86,64 @@ loop-line-preserved g c =
                 subst (λ (o : Orders). OrdersSoFar o.any o.lines o.count rest all) (sym w.seen-is) (
                 OrdersSoFar-blank before.seen.any before.seen.lines before.seen.count line before.lines rest all step blank before.invariant.ordered
                 );
-            at = c.again-here.ensures;
+            fewer = omega arith;
           }
     ]
+
+pub plain-preserved : goal.plain-preserved
+plain-preserved g c =
+    let all = lines_of c.args.text.now in
+    let before = c.plain in
+    let taken = c.in_ok-take_plain.ensures.taken c.if-branch.true in
+    record {
+      made = SoFar-taken before.parts c.take_plain.new.self _ before.lines c.take_plain.new.lines all taken
+          before.invariant.made;
+      ordered = OrdersSoFar-taken before.parts c.take_plain.new.self _ _ _ before.lines c.take_plain.new.lines all taken
+          before.invariant.ordered;
+      fewer = omega (
+        arith,
+        length-taken before.parts c.take_plain.new.self before.lines c.take_plain.new.lines taken,
+        before.invariant.fewer,
+      );
+    }
+
+pub plain-smaller : goal.plain-smaller
+plain-smaller g c = length-taken c.plain.parts c.take_plain.new.self c.plain.lines c.take_plain.new.lines
+    (c.in_ok-take_plain.ensures.taken c.if-branch.true)
+
+pub loop-line-preserved : goal.loop-line-preserved
+loop-line-preserved g c =
+    let all = lines_of c.args.text.now in
+    let same = c.in_ok-take_plain.ensures.other c.if-branch.false in
+    record {
+      made =
+          subst (λ (t : Table). SoFar t c.match-branch-2.seen.any c.take_plain.new.lines all) (sym same.0)
+          (subst (λ (ls : List LineView). SoFar c.plain.parts c.match-branch-2.seen.any ls all) (sym same.1)
+          c.plain.invariant.made);
+      ordered =
+          subst (λ (ls : List LineView). OrdersSoFar c.match-branch-2.seen.any c.match-branch-2.seen.lines
+          c.match-branch-2.seen.count ls all) (sym same.1) c.plain.invariant.ordered;
+      at = c.again-here.ensures;
+    }
+
+pub loop-line-smaller : goal.loop-line-smaller
+loop-line-smaller g c =
+    let same = c.in_ok-take_plain.ensures.other c.if-branch.false in
+    omega (
+      arith,
+      ap (λ (ls : List LineView). length ls) same.1,
+      c.plain.invariant.fewer,
+      ap (λ (ls : List LineView). length ls) c.in-Some.ensures.steps,
+    )
+
+pub returns-in_err-take_plain-clause-memory : goal.returns-in_err-take_plain-clause-memory
+returns-in_err-take_plain-clause-memory g c =
+    IfNone-always c.from_residual-in_err-take_plain.result _
+    (SoFar-refused c.plain.parts _ c.plain.lines (lines_of c.args.text.now) c.in_err-take_plain.ensures.memory
+    c.plain.invariant.made)
+
+pub take_plain-requires : goal.take_plain-requires
+take_plain-requires g c = IsTable-SoFar c.plain.parts _ c.plain.lines (lines_of c.args.text.now) c.plain.invariant.made
 
 pub returns-in_err-take-clause-memory : goal.returns-in_err-take-clause-memory
 returns-in_err-take-clause-memory g c =

@@ -1,8 +1,9 @@
 use Rattle.std.proofs.Common.{◌≡◌, ◌-◌, ◌<◌, ℕ, Bool, false, List, length, take}
-use Rattle.std.proofs.Common.{slice_index, slice_index_or, ap, subst, ◌∙◌, arith}
+use Rattle.std.proofs.Common.{slice_index, slice_index_or, get_or, replicate, ap, sym, subst, ◌∙◌, arith}
 use Rattle.std.specs.List.{All}
-use Rattle.std.proofs.lemmas.List.{take_all}
-use Rattle.std.proofs.lemmas.List.FromFn.{length-map-range_with_len}
+use Rattle.std.proofs.lemmas.List.{take_all, length-replicate, get_or-replicate}
+use Rattle.std.proofs.lemmas.List.Elements.{All-replicate}
+use Rattle.std.proofs.lemmas.List.FromFn.{length-map-range_with_len, fill_by_all}
 use Rattle.wq_buckets.specs.Places.{places_of}
 use Rattle.wq_buckets.proofs.Picking.{places-at}
 use Rattle.wq_graph.specs.declared.arc.WaitArc.{WaitArc}
@@ -10,7 +11,7 @@ use Rattle.wq_levels.proofs.Graphs.{arcs_at-below}
 use Rattle.wq_plan.specs.Plan.{least_doubts}
 use Rattle.wq_plan.proofs.Lanes.{lanes_of-above}
 use Rattle.wq_plan.proofs.Doubts.{AreKnownSoFar, AreKnownSoFar-next, AreKnownSoFar-lane, AreKnownSoFar-all}
-use Rattle.wq_plan.proofs.Doubts.{doubts-found, at-place}
+use Rattle.wq_plan.proofs.Doubts.{doubts-found, at-place, least_doubts-sure}
 use Rattle.wq_plan.proofs.longest.all_doubts.Goals as goal
 
 pub new-requires-clause-keys : goal.new-requires-clause-keys
@@ -104,3 +105,23 @@ returns-clause-doubts g c =
     let unsure : ℕ → Bool = λ place. slice_index_or c.args.unsure.now place false in
     AreKnownSoFar-all unsure c.args.graph.now c.args.lane.now c.loop-above.above c.loop-above.doubts.items
     (omega (arith, c.loop-above-test.false, c.requires.lanes)) c.loop-above.invariant
+
+pub returns-then-not-is_any-clause-doubts : goal.returns-then-not-is_any-clause-doubts
+returns-then-not-is_any-clause-doubts g c =
+    let lane : List ℕ = c.args.lane.now in
+    let unsure : ℕ → Bool = λ place. slice_index_or c.args.unsure.now place false in
+    let doubts : List ℕ = c.in_ok-doubts.doubts.items in
+    let zeros : doubts ≡ replicate (length lane) 0 = c.in_ok-doubts.ensures.items_if_clones_equal (λ y e. e) in
+    let size : length doubts ≡ length lane = ap (λ (l : List ℕ). length l) zeros
+    ∙ length-replicate {A = ℕ} (length lane) 0 in
+    let none : (place : ℕ) → unsure place ≡ false = c.is_any.ensures c.if-not-is_any.true in
+    fill_by_all (λ v. least_doubts unsure c.args.graph.now lane (slice_index lane v) v) doubts (length lane) 0 size
+    (λ k lt.
+    ap (λ (l : List ℕ). get_or l k 0) zeros ∙ get_or-replicate {A = ℕ} (length lane) k 0 0 lt
+    ∙ sym (least_doubts-sure unsure c.args.graph.now lane none (slice_index lane k) k))
+
+pub returns-then-not-is_any-clause-few : goal.returns-then-not-is_any-clause-few
+returns-then-not-is_any-clause-few g c =
+    let zeros : c.in_ok-doubts.doubts.items ≡ replicate (length c.args.lane.now) 0 =
+    c.in_ok-doubts.ensures.items_if_clones_equal (λ y e. e) in
+    subst (All (λ n. n < 4096)) (sym zeros) (All-replicate (λ n. n < 4096) (length c.args.lane.now) 0 (omega arith))

@@ -18,7 +18,7 @@ loop-group-preserved g c =
       homes = λ k v asked. elim (asked-cases xs o c.loop-group.group is.one_each k v
           (subst (λ (ys : List (Option ℕ)). IsAsked ys k v) pushed asked)) [
             | inl was ↦ is.homes k v was
-            | inr last ↦ subst (λ (x : ℕ). IsHomeOf c.args.homes.now (group_lane a x) v) (sym last.0)
+            | inr last ↦ subst (λ (x : ℕ). IsHomeOf c.args.homes.now (group_lane a x) v) (c.new.ensures ∙ sym last.0)
                 (c.home_asked.ensures v last.1)
           ];
     }

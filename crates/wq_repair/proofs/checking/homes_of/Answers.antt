@@ -1,8 +1,9 @@
-use Rattle.std.proofs.Common.{◌≡◌, ℕ, ◌<◌, Option, None, length, replicate, sym, ap, ◌∙◌, refl, arith, rules}
+use Rattle.std.proofs.Common.{◌≡◌, ℕ, ◌+◌, ◌<◌, Option, None, Some, length, set, replicate, sym, ap, subst, ◌∙◌, refl}
+use Rattle.std.proofs.Common.{arith, rules}
 use Rattle.std.proofs.Math.ListN.{length-replicate}
 use Rattle.std.proofs.lemmas.Bool.{false≢true}
 use Rattle.wq_groups.specs.Assignment.{group_lane}
-use Rattle.wq_repair.proofs.Homes.{no_home, AreHomesBelow-skip, AreHomesBelow-set}
+use Rattle.wq_repair.proofs.Homes.{no_home, AreHomesBelow, AreHomesBelow-skip, AreHomesBelow-set}
 use Rattle.wq_repair.proofs.Marks.{IsMarked-below}
 use Rattle.wq_repair.proofs.LaneReads.{lane-read, lane-within}
 use Rattle.wq_repair.proofs.checking.homes_of.Goals as goal
@@ -34,7 +35,7 @@ index_mut-requires g c =
     let a = c.args.assignment.now in
     let i = c.loop-group.group in
     let read : group_lane a i ≡ c.lane.result =
-    lane-read a a i c.new.result c.lane.result refl (omega (arith, c.new.ensures)) c.lane.ensures in
+    lane-read a a i c.new-group.result c.lane.result refl c.new-group.ensures c.lane.ensures in
     let within : group_lane a i < a.lanes = lane-within a a i refl
     c.lanes-lanes.ensures.within (omega (arith, c.loop-group-test.true, c.requires.one_each)) in
     omega (arith, read, within, c.get-lane.ensures, c.from-in-loop-group.ensures, c.loop-group.invariant.one_each)
@@ -45,13 +46,14 @@ loop-group-preserved g c =
     let i = c.loop-group.group in
     let homes = c.loop-group.homes.items in
     let read : group_lane a i ≡ c.lane.result =
-    lane-read a a i c.new.result c.lane.result refl (omega (arith, c.new.ensures)) c.lane.ensures in
+    lane-read a a i c.new-group.result c.lane.result refl c.new-group.ensures c.lane.ensures in
     let within : group_lane a i < a.lanes = lane-within a a i refl
     c.lanes-lanes.ensures.within (omega (arith, c.loop-group-test.true, c.requires.one_each)) in
-    AreHomesBelow-set a c.args.stays.now i homes c.loop-group.invariant c.if-not-does_stay.false
-    c.from-in-loop-group.result
+    let lane = c.from-in-loop-group.result in
+    subst (λ (v : ℕ). AreHomesBelow a c.args.stays.now (i + 1) (set homes lane (Some v))) (sym c.new-group.ensures)
+    (AreHomesBelow-set a c.args.stays.now i homes c.loop-group.invariant c.if-not-does_stay.false lane
     (omega (arith, read, c.get-lane.ensures, c.from-in-loop-group.ensures))
-    (omega (arith, read, within, c.get-lane.ensures, c.from-in-loop-group.ensures, c.loop-group.invariant.one_each))
+    (omega (arith, read, within, c.get-lane.ensures, c.from-in-loop-group.ensures, c.loop-group.invariant.one_each)))
 
 pub returns : goal.returns
 returns g c =

@@ -1,4 +1,4 @@
-use Rattle.std.proofs.Common.{ℕ, ◌<◌, inl, inr, sym, subst, arith}
+use Rattle.std.proofs.Common.{ℕ, ◌<◌, inl, inr, sym, ap, subst, arith}
 use Rattle.std.specs.Prelude.{slice_index}
 use Rattle.wq_graph.specs.declared.arc.WaitArc.{WaitArc}
 use Rattle.wq_repair.proofs.NeededFound.{HeadBelow-last}
@@ -13,7 +13,7 @@ loop-arc-preserved c =
     elim (HeadBelow-last arcs c.loop-arc.arc-index a c.loop-arc-test.true c.arc-item.is h below) [
       | inl before ↦ c.loop-arc.invariant h before
       | inr same ↦ subst (λ (x : ℕ). slice_index ranks x < c.args.rank) (sym same)
-          (omega (arith, c.if-rank-number_at.false, c.number_at.ensures))
+          (omega (arith, c.if-rank-rank_at.false, c.rank_at.ensures, ap (slice_index ranks) c.new.ensures))
     ]
 
 pub returns : goal.returns

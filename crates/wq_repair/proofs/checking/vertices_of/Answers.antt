@@ -21,8 +21,8 @@ loop-group-preserved-then-not-does_stay g c =
     let stays = c.args.stays.now in
     let homes = c.args.homes.now in
     subst (AreVerticesBelow old stays homes (i + 1)) (sym c.in_ok-push.ensures.items)
-    (AreVerticesBelow-push old stays homes i i c.loop-group.vertices.items c.loop-group.invariant
-    (λ marked. absurd (false≢true (sym c.if-not-does_stay.true ∙ marked))) (λ out. refl))
+    (AreVerticesBelow-push old stays homes i c.new-group.result c.loop-group.vertices.items c.loop-group.invariant
+    (λ marked. absurd (false≢true (sym c.if-not-does_stay.true ∙ marked))) (λ out. c.new-group.ensures))
 
 pub loop-group-preserved : goal.loop-group-preserved
 loop-group-preserved g c =
@@ -31,11 +31,11 @@ loop-group-preserved g c =
     let stays = c.args.stays.now in
     let homes = c.args.homes.now in
     let read : group_lane a i ≡ c.lane.result =
-    lane-read a a i c.new.result c.lane.result refl (omega (arith, c.new.ensures)) c.lane.ensures in
+    lane-read a a i c.new-group.result c.lane.result refl c.new-group.ensures c.lane.ensures in
     let at : c.from.result ≡ group_lane a i = omega (arith, read, c.get-lane.ensures, c.from.ensures) in
     subst (AreVerticesBelow a stays homes (i + 1)) (sym c.in_ok-push-2.ensures.items)
     (AreVerticesBelow-push a stays homes i c.unwrap.result c.loop-group.vertices.items c.loop-group.invariant
-    (λ marked. ap (λ (q : ℕ). slice_index_or homes q None) (sym at) ∙ c.unwrap.ensures)
+    (λ marked. ap (λ (q : ℕ). slice_index_or homes q None) (sym at) ∙ sym c.home_of-home.ensures ∙ c.unwrap.ensures)
     (λ out. absurd (out c.if-not-does_stay.false)))
 
 pub returns : goal.returns

@@ -18,9 +18,9 @@ loop-group-preserved g c =
     let old = c.args.old.now in
     let i = c.loop-group.group in
     let free = c.args.free.now in
-    let lane = c.new-in-loop-group.result in
+    let lane = c.nth_lane.result in
     let is : lane ≡ nth_lane free old.lanes c.loop-group.taken =
-    c.new-in-loop-group.ensures ∙ c.nth_lane.ensures ∙ ap (λ (t : ℕ). nth_lane free t c.loop-group.taken) c.lanes-there.ensures.lanes in
+    c.nth_lane.ensures ∙ ap (λ (t : ℕ). nth_lane free t c.loop-group.taken) c.lanes-there.ensures.lanes in
     subst (λ (xs : List ℕ). AreOwnLanes old c.args.marks.now free (i + 1) xs (c.loop-group.taken + 1)) (sym c.in_ok-push-2.ensures.items)
     (AreOwnLanes-taken old c.args.marks.now free i c.loop-group.lane_of.items c.loop-group.taken c.loop-group.invariant lane c.requires.free c.if-not-is_marked.false is)
 

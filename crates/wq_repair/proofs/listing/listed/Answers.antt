@@ -1,4 +1,4 @@
-use Rattle.std.proofs.Common.{◌≡◌, ◌≢◌, ℕ, ◌+◌, ◌<◌, List, inl, inr, sym, subst, ◌∙◌, arith}
+use Rattle.std.proofs.Common.{◌≡◌, ◌≢◌, ℕ, ◌+◌, ◌<◌, List, [], ◌∷◌, ◌++◌, inl, inr, sym, ap, subst, ◌∙◌, arith}
 use Rattle.std.specs.Prelude.{◌↔◌, ◌⊎◌, Contains, AllPairs}
 use Rattle.std.proofs.lemmas.Bool.{cases_eq, false≢true}
 use Rattle.wq_repair.specs.Marks.{IsMarked}
@@ -25,7 +25,8 @@ pub loop-number-preserved : goal.loop-number-preserved
 loop-number-preserved g c =
     let n = c.loop-number.number in
     let marks = c.args.marks.now in
-    let xs = c.loop-number.listed.items in
+    let xs : List ℕ = c.loop-number.listed.items in
+    let pushed = c.in_ok-push.ensures.items ∙ ap (λ (q : ℕ). xs ++ q ∷ []) c.new.ensures in
     let more : (k : ℕ) → ((k < n + 1) × IsMarked marks k) ↔ (((k < n) × IsMarked marks k) ⊎ (k ≡ n)) = λ k. (
       λ is. elim (cases_eq k n) [ inl last ↦ inr last | inr other ↦ inl (omega (arith, is.0, other), is.1) ],
       λ either. elim either [
@@ -34,9 +35,9 @@ loop-number-preserved g c =
       ],
     ) in
     record {
-      exactly = λ k. subst (λ (ys : List ℕ). Contains ys k ↔ ((k < n + 1) × IsMarked marks k)) (sym c.in_ok-push.ensures.items)
+      exactly = λ k. subst (λ (ys : List ℕ). Contains ys k ↔ ((k < n + 1) × IsMarked marks k)) (sym pushed)
           (list-one_more (λ (k : ℕ). (k < n) × IsMarked marks k) (λ (k : ℕ). (k < n + 1) × IsMarked marks k) xs n c.loop-number.invariant.exactly more k);
-      once = subst (λ (ys : List ℕ). AllPairs (λ (j k : ℕ). j ≢ k) ys) (sym c.in_ok-push.ensures.items)
+      once = subst (λ (ys : List ℕ). AllPairs (λ (j k : ℕ). j ≢ k) ys) (sym pushed)
           (list-once_more (λ (k : ℕ). (k < n) × IsMarked marks k) xs n c.loop-number.invariant.exactly (λ is. omega (arith, is.0)) c.loop-number.invariant.once);
     }
 

@@ -23,8 +23,7 @@ loop-done-init g c =
     let names : List ℕ = c.args.names.now in
     let d : Declaration = declared_waits c.args.assigned.now.declared in
     let n : Named = c.in_ok-named.named in
-    let are : AreNamed d ws names n = subst (λ (old : Workqueues). AreNamed d old names n) (sym known.is)
-    c.in_ok-named.ensures in
+    let are : AreNamed d ws names n = rw (← known.is) at c.in_ok-named.ensures in
     let number : c.len-groups.result ≡ d.groups =
     c.len-groups.ensures.len ∙ ap (λ (p : Partition). p.groups) c.groups.ensures.is in
     IsFollowed-first d ws names known.declaration known.assignment.assignment n are c.in_ok-found.found
@@ -38,8 +37,7 @@ follow-requires-clause-group g c =
     let names : List ℕ = c.args.names.now in
     let d : Declaration = declared_waits c.args.assigned.now.declared in
     let n : Named = c.in_ok-named.named in
-    let are : AreNamed d ws names n = subst (λ (old : Workqueues). AreNamed d old names n) (sym known.is)
-    c.in_ok-named.ensures in
+    let are : AreNamed d ws names n = rw (← known.is) at c.in_ok-named.ensures in
     let f : FoundGroups = c.loop-done.found in
     let done : ℕ = c.loop-done.done in
     let lt : done < length f.list =
@@ -80,8 +78,7 @@ loop-done-smaller g c =
     let names : List ℕ = c.args.names.now in
     let d : Declaration = declared_waits c.args.assigned.now.declared in
     let n : Named = c.in_ok-named.named in
-    let are : AreNamed d ws names n = subst (λ (old : Workqueues). AreNamed d old names n) (sym known.is)
-    c.in_ok-named.ensures in
+    let are : AreNamed d ws names n = rw (← known.is) at c.in_ok-named.ensures in
     let f : FoundGroups = c.loop-done.found in
     let lt : c.loop-done.done < length f.list =
     omega (arith, c.loop-done-test.true, c.len.ensures, ap (λ (s : FoundGroups). length s.list) c.found.view_is) in
@@ -94,8 +91,7 @@ loop-done-preserved g c =
     let names : List ℕ = c.args.names.now in
     let d : Declaration = declared_waits c.args.assigned.now.declared in
     let n : Named = c.in_ok-named.named in
-    let are : AreNamed d ws names n = subst (λ (old : Workqueues). AreNamed d old names n) (sym known.is)
-    c.in_ok-named.ensures in
+    let are : AreNamed d ws names n = rw (← known.is) at c.in_ok-named.ensures in
     let f : FoundGroups = c.loop-done.found in
     let done : ℕ = c.loop-done.done in
     let lt : done < length f.list =
@@ -119,8 +115,7 @@ returns g c =
     let names : List ℕ = c.args.names.now in
     let d : Declaration = declared_waits c.args.assigned.now.declared in
     let n : Named = c.in_ok-named.named in
-    let are : AreNamed d ws names n = subst (λ (old : Workqueues). AreNamed d old names n) (sym known.is)
-    c.in_ok-named.ensures in
+    let are : AreNamed d ws names n = rw (← known.is) at c.in_ok-named.ensures in
     let f : FoundGroups = c.loop-done.found in
     let done : ℕ = c.loop-done.done in
     let all : length f.list ≤ done =

@@ -19,7 +19,8 @@ loop-group-preserved-then-is_bare g c =
     let ws = c.args.workqueues.now in
     let i = c.loop-group.group in
     let here : lane_in ws i ≡ c.lane-lane.result =
-    lane-read ws.assignment c.assignment.result.now i c.new-in-loop-group.result c.lane-lane.result c.assignment.ensures (omega (arith, c.new-in-loop-group.ensures)) c.lane-lane.ensures in
+    lane-read ws.assignment c.assignment.result.now i c.new-group.result c.lane-lane.result c.assignment.ensures
+    c.new-group.ensures c.lane-lane.ensures in
     AreOnRescuers-skip ws c.args.groups i c.loop-group.found c.loop-group.invariant
     (λ rescued. false≢true (sym rescued ∙ ap (λ (q : ℕ). slice_index_or ws.bare q false) here ∙ sym c.is_bare.ensures ∙ c.if-is_bare.true))
 
@@ -28,9 +29,11 @@ loop-group-preserved g c =
     let ws = c.args.workqueues.now in
     let i = c.loop-group.group in
     let here : lane_in ws i ≡ c.lane-lane.result =
-    lane-read ws.assignment c.assignment.result.now i c.new-in-loop-group.result c.lane-lane.result c.assignment.ensures (omega (arith, c.new-in-loop-group.ensures)) c.lane-lane.ensures in
+    lane-read ws.assignment c.assignment.result.now i c.new-group.result c.lane-lane.result c.assignment.ensures
+    c.new-group.ensures c.lane-lane.ensures in
     let rescued : IsRescued ws (lane_in ws i) = ap (λ (q : ℕ). slice_index_or ws.bare q false) here ∙ sym c.is_bare.ensures ∙ c.if-is_bare.false in
-    AreOnRescuers-add ws c.args.groups i c.loop-group.found c.add.new.self c.loop-group.invariant rescued c.in_ok-add.ensures
+    AreOnRescuers-add ws c.args.groups i c.loop-group.found c.add.new.self c.loop-group.invariant rescued
+    (rw c.new-group.ensures at c.in_ok-add.ensures)
 
 pub returns-clause-exactly : goal.returns-clause-exactly
 returns-clause-exactly g c k below =

@@ -1,9 +1,8 @@
-use Rattle.std.proofs.Common.{ℕ, ◌+◌, ◌<◌, sym, subst, ◌∙◌, arith}
+use Rattle.std.proofs.Common.{ℕ, sym, ◌∙◌, arith}
 use Rattle.std.specs.Prelude.{true, false}
 use Rattle.std.proofs.lemmas.Bool.{false≢true}
 use Rattle.wq_repair.specs.Changes.{IsRescued}
 use Rattle.wq_repair.specs.Marks.{IsMarked}
-use Rattle.wq_repair.specs.Together.{AreListed}
 use Rattle.wq_repair.proofs.Marks.{IsMarked-below}
 use Rattle.wq_repair.proofs.PlacedSteps.{AreListed-skip, AreListed-next}
 use Rattle.wq_repair.proofs.LaneReads.{bare-read}
@@ -16,14 +15,18 @@ loop-lane-preserved-then-not-is_one g c =
 
 pub loop-lane-preserved-then-is_bare : goal.loop-lane-preserved-then-is_bare
 loop-lane-preserved-then-is_bare g c =
-    let bare = bare-read c.args.workqueues.now c.loop-lane.lane c.new.result c.is_bare.result true (omega (arith, c.new.ensures)) c.is_bare.ensures c.if-is_bare.true in
+    let bare =
+    bare-read c.args.workqueues.now c.loop-lane.lane c.new-lane.result c.is_bare.result true c.new-lane.ensures
+    c.is_bare.ensures c.if-is_bare.true in
     AreListed-skip (λ (q : ℕ). IsMarked c.args.lanes.now q × IsRescued c.args.workqueues.now q) c.loop-lane.lane c.loop-lane.listed.items c.loop-lane.invariant
     (λ both. false≢true (sym both.1 ∙ bare))
 
 pub loop-lane-preserved : goal.loop-lane-preserved
 loop-lane-preserved g c =
-    let rescued = bare-read c.args.workqueues.now c.loop-lane.lane c.new.result c.is_bare.result false (omega (arith, c.new.ensures)) c.is_bare.ensures c.if-is_bare.false in
-    subst (AreListed (λ (q : ℕ). (q < c.loop-lane.lane + 1) × (IsMarked c.args.lanes.now q × IsRescued c.args.workqueues.now q))) (sym c.in_ok-push.ensures.items)
+    let rescued =
+    bare-read c.args.workqueues.now c.loop-lane.lane c.new-lane.result c.is_bare.result false c.new-lane.ensures
+    c.is_bare.ensures c.if-is_bare.false in
+    rw (c.in_ok-push.ensures.items, c.new-lane.ensures)
     (AreListed-next (λ (q : ℕ). IsMarked c.args.lanes.now q × IsRescued c.args.workqueues.now q) c.loop-lane.lane c.loop-lane.listed.items c.loop-lane.invariant (c.if-not-is_one.false, rescued))
 
 pub returns : goal.returns

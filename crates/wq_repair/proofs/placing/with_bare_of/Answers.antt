@@ -1,9 +1,7 @@
-use Rattle.std.proofs.Common.{ℕ, ◌+◌, ◌<◌, inl, sym, subst, ◌∙◌, arith}
-use Rattle.std.specs.Prelude.{◌⊎◌, true}
+use Rattle.std.proofs.Common.{inl, sym, ◌∙◌, arith}
+use Rattle.std.specs.Prelude.{true}
 use Rattle.std.proofs.lemmas.Bool.{false≢true}
 use Rattle.wq_repair.specs.Changes.{IsRescued}
-use Rattle.wq_repair.specs.Marks.{IsMarked}
-use Rattle.wq_repair.specs.Together.{AreListed}
 use Rattle.wq_repair.proofs.Marks.{IsMarked-below}
 use Rattle.wq_repair.proofs.PlacedSteps.{AreListed-behind}
 use Rattle.wq_repair.proofs.LaneReads.{bare-read}
@@ -11,8 +9,10 @@ use Rattle.wq_repair.proofs.placing.with_bare_of.Goals as goal
 
 pub loop-lane-preserved : goal.loop-lane-preserved
 loop-lane-preserved g c =
-    let bare = bare-read c.args.workqueues.now c.loop-lane.lane c.new.result c.is_bare.result true (omega (arith, c.new.ensures)) c.is_bare.ensures c.if-not-is_bare.false in
-    subst (AreListed (λ (q : ℕ). IsMarked c.args.lanes.now q × ((q < c.loop-lane.lane + 1) ⊎ IsRescued c.args.workqueues.now q))) (sym c.in_ok-push.ensures.items)
+    let bare =
+    bare-read c.args.workqueues.now c.loop-lane.lane c.new-lane.result c.is_bare.result true c.new-lane.ensures
+    c.is_bare.ensures c.if-not-is_bare.false in
+    rw (c.in_ok-push.ensures.items, c.new-lane.ensures)
     (AreListed-behind c.args.lanes.now (IsRescued c.args.workqueues.now) c.loop-lane.lane c.loop-lane.listed.items c.loop-lane.invariant c.if-not-is_one.false (λ rescued. false≢true (sym rescued ∙ bare)))
 
 pub returns : goal.returns

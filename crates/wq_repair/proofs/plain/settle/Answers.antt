@@ -56,7 +56,7 @@ try_group-requires-clause-needed g c =
     ∙ c.requires.ready.1.scope.one_each
 
 pub try_group-requires-clause-group : goal.try_group-requires-clause-group
-try_group-requires-clause-group g c = omega (arith, c.loop-group-test.true, c.requires.tried)
+try_group-requires-clause-group g c = omega (arith, c.new.ensures, c.loop-group-test.true, c.requires.tried)
 
 pub loop-group-preserved : goal.loop-group-preserved
 loop-group-preserved g c =
@@ -64,11 +64,12 @@ loop-group-preserved g c =
     let i = c.loop-group.group in
     let tried = c.args.tried.now in
     let fixed = c.args.fixed.now in
+    let next = rw c.new.ensures at c.in_ok-try_group.ensures.settled in
     record {
       one_each = c.in_ok-try_group.ensures.stays;
       settled = λ graph trial.
           subst (λ (a : Assignment). IsSettled graph a fixed tried (i + 1) c.try_group.new.settled) c.assignment.ensures
-          (c.in_ok-try_group.ensures.settled graph fixed tried
+          (next graph fixed tried
           (subst (λ (xs : List Bool). IsTrial d xs fixed tried graph)
           (sym (c.as_slice.ensures.value ∙ ap (λ (x : Scope). x.needed) c.scope.view_is)) trial)
           c.if-not-is_tried.false

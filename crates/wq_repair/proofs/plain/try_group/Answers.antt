@@ -1,11 +1,10 @@
-use Rattle.std.proofs.Common.{◌≡◌, ◌+◌, ◌∙◌, ◌<◌, ℕ, Bool, List, true, length, set, refl, sym, ap, subst, arith}
+use Rattle.std.proofs.Common.{◌≡◌, ◌+◌, ◌∙◌, ℕ, Bool, List, true, length, set, refl, sym, ap, subst, arith}
 use Rattle.std.specs.Prelude.{None, Some, slice_index_or}
-use Rattle.std.proofs.lemmas.List.{get_or_default}
 use Rattle.std.proofs.lemmas.Option.{none-some}
 use Rattle.std.proofs.lemmas.Result.{IfOk-weaker}
 use Rattle.wq_groups.specs.Assignment.{group_lane}
 use Rattle.wq_repair.specs.Settled.{Settled, AreHomes, IsHomeOf, IsSettled}
-use Rattle.wq_repair.proofs.LaneReads.{lane-read, lane-within}
+use Rattle.wq_repair.proofs.LaneReads.{lane-read}
 use Rattle.wq_repair.proofs.Settling.{IsSettled-first}
 use Rattle.wq_repair.proofs.plain.try_group.Goals as goal
 
@@ -32,20 +31,16 @@ returns-clause-settled g c =
     let are : AreHomes a s.stays homes = subst (λ (xs : List Bool). AreHomes a xs homes)
     (c.as_slice.ensures.value ∙ ap (λ (x : Settled). x.stays) c.settled.view_is) c.in_ok-homes.ensures in
     let read : group_lane a i ≡ c.lane.result =
-    lane-read a a i c.new.result c.lane.result refl c.new.ensures c.lane.ensures in
+    lane-read a a i i c.lane.result refl refl c.lane.ensures in
     let lane : c.from.result ≡ group_lane a i = omega (arith, read, c.get-lane.ensures, c.from.ensures) in
-    let within : group_lane a i < a.lanes = lane-within a a i refl
-    c.lanes-lanes.ensures.within (omega (arith, c.requires.group, c.requires.assigned)) in
-    let at : slice_index_or homes c.from.result None ≡ c.index.result.now =
-    get_or_default homes c.from.result None c.index.result.now (omega (arith, lane, within, are.one_each))
-    ∙ sym c.index.ensures in
+    let at = sym (rw c.as_slice-2.ensures.value at c.home_of.ensures) in
     let none : slice_index_or homes (group_lane a i) None ≡ None =
     subst (λ (q : ℕ). slice_index_or homes q None ≡ None) lane (at ∙ c.in-None.is) in
     λ graph fixed tried trial marked is.
     subst (λ (x : Settled). IsSettled graph a fixed tried (i + 1)
     (record { stays = set x.stays c.from-in-None.result true; ranks = x.ranks })) (sym c.settled.view_is)
     (subst (λ (n : ℕ). IsSettled graph a fixed tried (i + 1) (record { stays = set s.stays n true; ranks = s.ranks }))
-    (sym c.from-in-None.ensures)
+    (sym (c.from-in-None.ensures ∙ c.get.ensures))
     (IsSettled-first graph a fixed tried i s is (omega (arith, c.requires.group, trial.of.long)) marked
     (λ h stay same. (
     let home = are.all h stay in
@@ -61,13 +56,9 @@ returns-in-Some-clause-settled g c =
     let are : AreHomes a s.stays homes = subst (λ (xs : List Bool). AreHomes a xs homes)
     (c.as_slice.ensures.value ∙ ap (λ (x : Settled). x.stays) c.settled.view_is) c.in_ok-homes.ensures in
     let read : group_lane a i ≡ c.lane.result =
-    lane-read a a i c.new.result c.lane.result refl c.new.ensures c.lane.ensures in
+    lane-read a a i i c.lane.result refl refl c.lane.ensures in
     let lane : c.from.result ≡ group_lane a i = omega (arith, read, c.get-lane.ensures, c.from.ensures) in
-    let within : group_lane a i < a.lanes = lane-within a a i refl
-    c.lanes-lanes.ensures.within (omega (arith, c.requires.group, c.requires.assigned)) in
-    let at : slice_index_or homes c.from.result None ≡ c.index.result.now =
-    get_or_default homes c.from.result None c.index.result.now (omega (arith, lane, within, are.one_each))
-    ∙ sym c.index.ensures in
+    let at = sym (rw c.as_slice-2.ensures.value at c.home_of.ensures) in
     let home : IsHomeOf homes (group_lane a i) c.in-Some.field-0 =
     subst (λ (q : ℕ). slice_index_or homes q None ≡ Some c.in-Some.field-0) lane (at ∙ c.in-Some.is) in
     let on = are.on (group_lane a i) c.in-Some.field-0 home in

@@ -1,37 +1,34 @@
 -- In each arm: the command ended on its files, and this was told of it, as of what is asked for.
 use Rattle.std.proofs.Common.{◌≡◌, ◌≤◌, List, Option, map, refl, subst, sym, ℕ}
+use Rattle.std.specs.Prelude.{IfOk}
 use Rattle.std.specs.Borrow.{Bor}
+use Rattle.std.proofs.lemmas.Result.{IfOk-weaker}
 use Rattle.std.specs.declared.alloc.Global.{Global}
 use Rattle.wq_meter.specs.Input.{HasFailed, IsInput}
-use Rattle.wq_meter.specs.Shell.{kept}
-use Rattle.wq_commands.specs.Commands.{ChecksText, FindsPlan, JudgesText, ReplaysTexts, one_or_two_texts, one_text}
-use Rattle.wq_commands.specs.Commands.{three_texts, two_texts}
+use Rattle.wq_meter.specs.Meter.{WritesWhole}
+use Rattle.wq_meter.specs.Shell.{Tells, kept}
+use Rattle.wq_commands.specs.Commands.{ChecksText, FindsPlan, JudgesText, one_or_two_texts, one_text}
+use Rattle.wq_commands.specs.Commands.{two_texts}
 use Rattle.wq_commands.specs.declared.deadlocking.Verdict.{Verdict}
 use Rattle.wq_commands.specs.declared.found.Found.{Found}
-use Rattle.wq_commands.specs.declared.replaying.Replayed.{Replayed}
-use Rattle.wq_commands.proofs.FoundLemmas.{check-kept, deadlock-kept, plan-kept, replay-kept}
-use Rattle.wq_circles.specs.Circling.{AnswersCircles, CirclesTexts}
-use Rattle.wq_circles.proofs.Found.{circles-kept}
+use Rattle.wq_commands.proofs.FoundLemmas.{check-kept, deadlock-kept, plan-kept}
 use Rattle.wq_dot.specs.Dotting.{AnswersDot, DrawsTexts}
 use Rattle.wq_dot.specs.Saying.{SaysDot}
 use Rattle.wq_dot.proofs.Found.{dot-kept}
-use Rattle.wq_hang_command.specs.Hanging.{HangsText}
-use Rattle.wq_hang_command.specs.Saying.{SaysHangOf}
-use Rattle.wq_hang_command.specs.declared.hanging.Hanging.{Hanging}
-use Rattle.wq_hang_command.proofs.Taking.{hang-kept}
 use Rattle.wq_repair_command.specs.Repairing.{Repairs, RepairsText}
 use Rattle.wq_repair_command.specs.declared.repairing.Repairing.{Repairing}
 use Rattle.wq_repair_command.proofs.Taking.{Repairs-kept}
 use Rattle.wq_changes.specs.Voice.{SaysRepair}
-use Rattle.wq_voice.specs.Voice.{SaysCheck, SaysCirclesOf, SaysEndOf, SaysPlan, SaysVerdictOf}
+use Rattle.wq_voice.specs.Voice.{SaysCheck, SaysPlan, SaysVerdictOf}
 use Rattle.wqplan.specs.Cause.{EndsReady, IsCaused, MayFail, ReadsBy, TakesInput}
-use Rattle.wqplan.specs.CommandLine.{listed, paths, tail_spelled}
-use Rattle.wqplan.specs.Ended.{EndedBy, EndsExplain, Has, has_second}
+use Rattle.wqplan.specs.CommandLine.{listed, named_asked, paths, tail_spelled}
+use Rattle.wqplan.specs.Ended.{EndedBy, EndsAsAsked, EndsExplain, Has, has_second}
 use Rattle.wqplan.specs.Files.{HaveTexts}
-use Rattle.wqplan.specs.Told.{IsSaidOf, names_given, names_of_files}
+use Rattle.wqplan.specs.Told.{IsSaidOf, IsToldAsAsked, names_given, names_of_files}
 use Rattle.wqplan.specs.declared.commands.Verb.TheVariants.{Check, Circles, Deadlock, Dot, Hang, Plan, Repair}
 use Rattle.wqplan.specs.declared.commands.Verb.TheVariants.{Replay}
 use Rattle.wqplan.proofs.AskedLemmas.{ended_as, explain_ended, explain_told, few_helpers, first_limit, told_as}
+use Rattle.wqplan.proofs.NamedLemmas.{circles_told, hang_told, replay_told}
 use Rattle.wqplan.proofs.RunLemmas.{asked_ended, asked_told}
 use Rattle.wqplan.proofs.performing.carry_out_seeded.Goals as goal
 
@@ -196,11 +193,12 @@ returns-in-Hang-clause-ended g c =
     let I = IsInput (g.I.Read.remaining c.args.input.now.device) in
     let files = paths c.args.request.files in
     let behind = tail_spelled c.args.request.tail in
-    let on = c.carry_out_files-in-Hang in
-    ended_as H I Hang files behind two_texts (λ s t (f : Found (Hanging Global)) e o. HangsText s t.second f e o)
-    (λ t h. h)
-    (λ t found end out h. hang-kept t found end out h)
-    g.W.Write.contents c.args.writer.now on.new.writer c.args.request.verb c.in-Hang.is on.result on.ensures.ended
+    let on = c.hang in
+    subst
+    (λ v. EndedBy g.W.Write.contents c.args.writer.now on.new.writer
+    (EndsAsAsked H I (record { verb = v; files = files; behind = behind })) on.result) (sym c.in-Hang.is)
+    (subst (λ (l : List (List ℕ)). EndedBy g.W.Write.contents c.args.writer.now on.new.writer
+    (EndsAsAsked H I (named_asked Hang files l)) on.result) c.names-named.ensures on.ensures.ended)
 
 pub returns-in-Hang-clause-told : goal.returns-in-Hang-clause-told
 returns-in-Hang-clause-told g c =
@@ -208,21 +206,21 @@ returns-in-Hang-clause-told g c =
     let I = IsInput (g.I.Read.remaining c.args.input.now.device) in
     let files = paths c.args.request.files in
     let behind = tail_spelled c.args.request.tail in
-    let on = c.carry_out_files-in-Hang in
-    told_as H I Hang files behind two_texts (λ s t (f : Found (Hanging Global)) e o. HangsText s t.second f e o)
-    (λ t h. h)
-    (λ t found end out h. hang-kept t found end out h)
-    g.W.Write.contents c.args.writer.now on.new.writer c.args.request.verb c.in-Hang.is on.result Global
-    (λ n s t f said. SaysHangOf n.declaration n.second n.run s t f said)
-    (λ t end out said h. h)
-    (names_given c.names_of-names.result) c.names_of-names.ensures g.E.Write.contents c.args.teller.now
-    on.new.teller on.ensures.told
+    let on = c.hang in
+    subst
+    (λ v. IfOk on.result (λ end. IsToldAsAsked Global H I (record { verb = v; files = files; behind = behind }) end
+    (WritesWhole g.W.Write.contents c.args.writer.now on.new.writer)
+    (Tells g.E.Write.contents c.args.teller.now on.new.teller))) (sym c.in-Hang.is)
+    (IfOk-weaker on.result _ _ (λ end. hang_told files behind)
+    (subst (λ (l : List (List ℕ)). IfOk on.result (λ end. IsToldAsAsked Global H I (named_asked Hang files l) end
+    (WritesWhole g.W.Write.contents c.args.writer.now on.new.writer)
+    (Tells g.E.Write.contents c.args.teller.now on.new.teller))) c.names-named.ensures on.ensures.told))
 
 pub returns-in-Hang-clause-caused : goal.returns-in-Hang-clause-caused
 returns-in-Hang-clause-caused g c =
     let files = paths c.args.request.files in
     let behind = tail_spelled c.args.request.tail in
-    let on = c.carry_out_files-in-Hang in
+    let on = c.hang in
     let Failed = HasFailed c.args.input.now on.new.input in
     subst
     (λ v. IsCaused (g.O.World.seeds c.args.world.now) (g.O.World.opens c.args.world.now) Failed
@@ -232,7 +230,7 @@ returns-in-Hang-clause-caused g c =
 pub returns-in-Hang-clause-input : goal.returns-in-Hang-clause-input
 returns-in-Hang-clause-input g c =
     let files = paths c.args.request.files in
-    let on = c.carry_out_files-in-Hang in
+    let on = c.hang in
     subst (λ v. ReadsBy g.I.Read.remaining c.args.input.now on.new.input v files) (sym c.in-Hang.is)
     on.ensures.input
 
@@ -244,10 +242,10 @@ returns-in-Repair-clause-ended g c =
     let behind = tail_spelled c.args.request.tail in
     let on = c.carry_out_files-in-Repair in
     ended_as H I Repair files behind two_texts
-    (λ s t (f : Found (Option (Repairing Global))) e o. RepairsText (given c.names.result) s t.second f e o)
+    (λ s t (f : Found (Option (Repairing Global))) e o. RepairsText (given c.names-named.result) s t.second f e o)
     (λ t h. h)
-    (λ t found end out h. subst (λ (l : List (List ℕ)). Repairs l t.first t.second end out) c.names.ensures
-    (Repairs-kept (given c.names.result) t found end out h))
+    (λ t found end out h. subst (λ (l : List (List ℕ)). Repairs l t.first t.second end out) c.names-named.ensures
+    (Repairs-kept (given c.names-named.result) t found end out h))
     g.W.Write.contents c.args.writer.now on.new.writer c.args.request.verb c.in-Repair.is on.result on.ensures.ended
 
 pub returns-in-Repair-clause-told : goal.returns-in-Repair-clause-told
@@ -258,17 +256,17 @@ returns-in-Repair-clause-told g c =
     let behind = tail_spelled c.args.request.tail in
     let on = c.carry_out_files-in-Repair in
     told_as H I Repair files behind two_texts
-    (λ s t (f : Found (Option (Repairing Global))) e o. RepairsText (given c.names.result) s t.second f e o)
+    (λ s t (f : Found (Option (Repairing Global))) e o. RepairsText (given c.names-named.result) s t.second f e o)
     (λ t h. h)
-    (λ t found end out h. subst (λ (l : List (List ℕ)). Repairs l t.first t.second end out) c.names.ensures
-    (Repairs-kept (given c.names.result) t found end out h))
+    (λ t found end out h. subst (λ (l : List (List ℕ)). Repairs l t.first t.second end out) c.names-named.ensures
+    (Repairs-kept (given c.names-named.result) t found end out h))
     g.W.Write.contents c.args.writer.now on.new.writer c.args.request.verb c.in-Repair.is on.result Global
-    (λ n s t f said. SaysRepair n.declaration n.second n.run (given c.names.result) s t f said)
+    (λ n s t f said. SaysRepair n.declaration n.second n.run (given c.names-named.result) s t f said)
     (λ t end out said h. subst (λ (l : List (List ℕ)). IsSaidOf (names_of_files files).declaration
     (λ s t (f : Found (Option (Repairing Global))) e o. RepairsText l s t.second f e o)
     (λ s t f w. SaysRepair (names_of_files files).declaration (names_of_files files).second
     (names_of_files files).run l s t f w)
-    (kept two_texts t) end out said) c.names.ensures h)
+    (kept two_texts t) end out said) c.names-named.ensures h)
     (names_given c.names_of-names.result) c.names_of-names.ensures g.E.Write.contents c.args.teller.now
     on.new.teller on.ensures.told
 
@@ -296,12 +294,12 @@ returns-in-Replay-clause-ended g c =
     let I = IsInput (g.I.Read.remaining c.args.input.now.device) in
     let files = paths c.args.request.files in
     let behind = tail_spelled c.args.request.tail in
-    let on = c.carry_out_files-in-Replay in
-    ended_as H I Replay files behind three_texts
-    (λ s t (f : Found (Replayed Global)) e o. ReplaysTexts s t.second t.third f e o)
-    (λ t h. h)
-    (λ t found end out h. replay-kept t end out found h)
-    g.W.Write.contents c.args.writer.now on.new.writer c.args.request.verb c.in-Replay.is on.result on.ensures.ended
+    let on = c.replay in
+    subst
+    (λ v. EndedBy g.W.Write.contents c.args.writer.now on.new.writer
+    (EndsAsAsked H I (record { verb = v; files = files; behind = behind })) on.result) (sym c.in-Replay.is)
+    (subst (λ (l : List (List ℕ)). EndedBy g.W.Write.contents c.args.writer.now on.new.writer
+    (EndsAsAsked H I (named_asked Replay files l)) on.result) c.names-named.ensures on.ensures.ended)
 
 pub returns-in-Replay-clause-told : goal.returns-in-Replay-clause-told
 returns-in-Replay-clause-told g c =
@@ -309,22 +307,21 @@ returns-in-Replay-clause-told g c =
     let I = IsInput (g.I.Read.remaining c.args.input.now.device) in
     let files = paths c.args.request.files in
     let behind = tail_spelled c.args.request.tail in
-    let on = c.carry_out_files-in-Replay in
-    told_as H I Replay files behind three_texts
-    (λ s t (f : Found (Replayed Global)) e o. ReplaysTexts s t.second t.third f e o)
-    (λ t h. h)
-    (λ t found end out h. replay-kept t end out found h)
-    g.W.Write.contents c.args.writer.now on.new.writer c.args.request.verb c.in-Replay.is on.result Global
-    (λ n s t f said. SaysEndOf n.declaration n.second n.run s t f said)
-    (λ t end out said h. h)
-    (names_given c.names_of-names.result) c.names_of-names.ensures g.E.Write.contents c.args.teller.now
-    on.new.teller on.ensures.told
+    let on = c.replay in
+    subst
+    (λ v. IfOk on.result (λ end. IsToldAsAsked Global H I (record { verb = v; files = files; behind = behind }) end
+    (WritesWhole g.W.Write.contents c.args.writer.now on.new.writer)
+    (Tells g.E.Write.contents c.args.teller.now on.new.teller))) (sym c.in-Replay.is)
+    (IfOk-weaker on.result _ _ (λ end. replay_told files behind)
+    (subst (λ (l : List (List ℕ)). IfOk on.result (λ end. IsToldAsAsked Global H I (named_asked Replay files l) end
+    (WritesWhole g.W.Write.contents c.args.writer.now on.new.writer)
+    (Tells g.E.Write.contents c.args.teller.now on.new.teller))) c.names-named.ensures on.ensures.told))
 
 pub returns-in-Replay-clause-caused : goal.returns-in-Replay-clause-caused
 returns-in-Replay-clause-caused g c =
     let files = paths c.args.request.files in
     let behind = tail_spelled c.args.request.tail in
-    let on = c.carry_out_files-in-Replay in
+    let on = c.replay in
     let Failed = HasFailed c.args.input.now on.new.input in
     subst
     (λ v. IsCaused (g.O.World.seeds c.args.world.now) (g.O.World.opens c.args.world.now) Failed
@@ -334,7 +331,7 @@ returns-in-Replay-clause-caused g c =
 pub returns-in-Replay-clause-input : goal.returns-in-Replay-clause-input
 returns-in-Replay-clause-input g c =
     let files = paths c.args.request.files in
-    let on = c.carry_out_files-in-Replay in
+    let on = c.replay in
     subst (λ v. ReadsBy g.I.Read.remaining c.args.input.now on.new.input v files) (sym c.in-Replay.is)
     on.ensures.input
 
@@ -344,13 +341,12 @@ returns-in-Circles-clause-ended g c =
     let I = IsInput (g.I.Read.remaining c.args.input.now.device) in
     let files = paths c.args.request.files in
     let behind = tail_spelled c.args.request.tail in
-    let on = c.carry_out_files-in-Circles in
-    let assigned = c.has_second.result in
-    let same : assigned ≡ has_second files = c.has_second.ensures in
-    ended_as H I Circles files behind (one_or_two_texts assigned) (CirclesTexts assigned)
-    (λ t h. subst (λ b. HaveTexts H I (one_or_two_texts b) files t) same h)
-    (λ t found end out h. subst (λ b. AnswersCircles b t end out) same (circles-kept assigned t found end out h))
-    g.W.Write.contents c.args.writer.now on.new.writer c.args.request.verb c.in-Circles.is on.result on.ensures.ended
+    let on = c.circles in
+    subst
+    (λ v. EndedBy g.W.Write.contents c.args.writer.now on.new.writer
+    (EndsAsAsked H I (record { verb = v; files = files; behind = behind })) on.result) (sym c.in-Circles.is)
+    (subst (λ (l : List (List ℕ)). EndedBy g.W.Write.contents c.args.writer.now on.new.writer
+    (EndsAsAsked H I (named_asked Circles files l)) on.result) c.names-named.ensures on.ensures.ended)
 
 pub returns-in-Circles-clause-told : goal.returns-in-Circles-clause-told
 returns-in-Circles-clause-told g c =
@@ -358,40 +354,33 @@ returns-in-Circles-clause-told g c =
     let I = IsInput (g.I.Read.remaining c.args.input.now.device) in
     let files = paths c.args.request.files in
     let behind = tail_spelled c.args.request.tail in
-    let on = c.carry_out_files-in-Circles in
-    let assigned = c.has_second.result in
-    let same : assigned ≡ has_second files = c.has_second.ensures in
-    told_as H I Circles files behind (one_or_two_texts assigned) (CirclesTexts assigned)
-    (λ t h. subst (λ b. HaveTexts H I (one_or_two_texts b) files t) same h)
-    (λ t found end out h. subst (λ b. AnswersCircles b t end out) same (circles-kept assigned t found end out h))
-    g.W.Write.contents c.args.writer.now on.new.writer c.args.request.verb c.in-Circles.is on.result Global
-    (λ n s t f said. SaysCirclesOf n.declaration n.second n.run assigned s t f said)
-    (λ t end out said h. subst (λ b. IsSaidOf (names_of_files files).declaration (CirclesTexts {A = Global} b)
-    (λ s t f w. SaysCirclesOf (names_of_files files).declaration (names_of_files files).second
-    (names_of_files files).run b s t f w) (kept (one_or_two_texts b) t) end out said) same h)
-    (names_given c.names_of-names.result) c.names_of-names.ensures g.E.Write.contents c.args.teller.now
-    on.new.teller on.ensures.told
+    let on = c.circles in
+    subst
+    (λ v. IfOk on.result (λ end. IsToldAsAsked Global H I (record { verb = v; files = files; behind = behind }) end
+    (WritesWhole g.W.Write.contents c.args.writer.now on.new.writer)
+    (Tells g.E.Write.contents c.args.teller.now on.new.teller))) (sym c.in-Circles.is)
+    (IfOk-weaker on.result _ _ (λ end. circles_told files behind)
+    (subst (λ (l : List (List ℕ)). IfOk on.result (λ end. IsToldAsAsked Global H I (named_asked Circles files l) end
+    (WritesWhole g.W.Write.contents c.args.writer.now on.new.writer)
+    (Tells g.E.Write.contents c.args.teller.now on.new.teller))) c.names-named.ensures on.ensures.told))
 
 pub returns-in-Circles-clause-caused : goal.returns-in-Circles-clause-caused
 returns-in-Circles-clause-caused g c =
     let files = paths c.args.request.files in
     let behind = tail_spelled c.args.request.tail in
-    let on = c.carry_out_files-in-Circles in
+    let on = c.circles in
     let Failed = HasFailed c.args.input.now on.new.input in
     subst
     (λ v. IsCaused (g.O.World.seeds c.args.world.now) (g.O.World.opens c.args.world.now) Failed
     (record { verb = v; files = files; behind = behind }) on.result) (sym c.in-Circles.is)
-    (subst
-    (λ b. EndsReady (g.O.World.seeds c.args.world.now) (g.O.World.opens c.args.world.now) (listed files)
-    (MayFail Failed (one_or_two_texts b) files) ⊥ on.result) c.has_second.ensures on.ensures.caused)
+    on.ensures.caused
 
 pub returns-in-Circles-clause-input : goal.returns-in-Circles-clause-input
 returns-in-Circles-clause-input g c =
     let files = paths c.args.request.files in
-    let on = c.carry_out_files-in-Circles in
+    let on = c.circles in
     subst (λ v. ReadsBy g.I.Read.remaining c.args.input.now on.new.input v files) (sym c.in-Circles.is)
-    (subst (λ n. TakesInput g.I.Read.remaining c.args.input.now on.new.input n files) (first_limit c.has_second.result)
-    on.ensures.input)
+    on.ensures.input
 
 pub returns-in-Dot-clause-ended : goal.returns-in-Dot-clause-ended
 returns-in-Dot-clause-ended g c =
@@ -400,8 +389,8 @@ returns-in-Dot-clause-ended g c =
     let files = paths c.args.request.files in
     let behind = tail_spelled c.args.request.tail in
     let on = c.carry_out_files-in-Dot in
-    let assigned = c.has_second-in-Dot.result in
-    let same : assigned ≡ has_second files = c.has_second-in-Dot.ensures in
+    let assigned = c.has_second.result in
+    let same : assigned ≡ has_second files = c.has_second.ensures in
     ended_as H I Dot files behind (one_or_two_texts assigned) (DrawsTexts assigned)
     (λ t h. subst (λ b. HaveTexts H I (one_or_two_texts b) files t) same h)
     (λ t found end out h. subst (λ b. AnswersDot b t end out) same (dot-kept t end out assigned found h))
@@ -414,8 +403,8 @@ returns-in-Dot-clause-told g c =
     let files = paths c.args.request.files in
     let behind = tail_spelled c.args.request.tail in
     let on = c.carry_out_files-in-Dot in
-    let assigned = c.has_second-in-Dot.result in
-    let same : assigned ≡ has_second files = c.has_second-in-Dot.ensures in
+    let assigned = c.has_second.result in
+    let same : assigned ≡ has_second files = c.has_second.ensures in
     told_as H I Dot files behind (one_or_two_texts assigned) (DrawsTexts assigned)
     (λ t h. subst (λ b. HaveTexts H I (one_or_two_texts b) files t) same h)
     (λ t found end out h. subst (λ b. AnswersDot b t end out) same (dot-kept t end out assigned found h))
@@ -438,7 +427,7 @@ returns-in-Dot-clause-caused g c =
     (record { verb = v; files = files; behind = behind }) on.result) (sym c.in-Dot.is)
     (subst
     (λ b. EndsReady (g.O.World.seeds c.args.world.now) (g.O.World.opens c.args.world.now) (listed files)
-    (MayFail Failed (one_or_two_texts b) files) ⊥ on.result) c.has_second-in-Dot.ensures on.ensures.caused)
+    (MayFail Failed (one_or_two_texts b) files) ⊥ on.result) c.has_second.ensures on.ensures.caused)
 
 pub returns-in-Dot-clause-input : goal.returns-in-Dot-clause-input
 returns-in-Dot-clause-input g c =
@@ -446,7 +435,7 @@ returns-in-Dot-clause-input g c =
     let on = c.carry_out_files-in-Dot in
     subst (λ v. ReadsBy g.I.Read.remaining c.args.input.now on.new.input v files) (sym c.in-Dot.is)
     (subst (λ n. TakesInput g.I.Read.remaining c.args.input.now on.new.input n files)
-    (first_limit c.has_second-in-Dot.result)
+    (first_limit c.has_second.result)
     on.ensures.input)
 
 pub returns-in-Run-clause-ended : goal.returns-in-Run-clause-ended

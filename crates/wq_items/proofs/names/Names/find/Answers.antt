@@ -1,19 +1,17 @@
-use Rattle.std.proofs.Common.{◌≡◌, ℕ, List, sym, ◌∙◌, ap}
-use Rattle.std.specs.Prelude.{bytes_eq, position}
+use Rattle.std.proofs.Common.{ℕ, List, sym, ap, subst, ◌∙◌}
 use Rattle.wq_items.specs.declared.hashing.Name.{Name}
-use Rattle.wq_items.specs.Hashing.{hash_of}
+use Rattle.wq_items.specs.Hashing.{AreFound, names_of}
 use Rattle.wq_items.specs.Table.{item_named}
-use Rattle.wq_items.proofs.ByKeyLemmas.{position-hashed}
-use Rattle.wq_items.proofs.FoundNames.{position-map}
 use Rattle.wq_items.proofs.names.Names.find.Goals as goal
+
+pub look_up-requires : goal.look_up-requires
+look_up-requires g c =
+    let s = c.self.inside in
+    subst (λ (l : List Name). AreFound s.hasher l s.places.lasts.items s.places.befores.items)
+    (sym c.as_slice.ensures.value) c.self.invariant
 
 pub returns : goal.returns
 returns g c =
-    let keys = c.self.inside.set.keys in
-    let hasher = c.self.inside.hasher in
-    let own : c.name.result.hash ≡ hash_of hasher c.name.result.bytes.now = c.name.ensures.hash ∙ ap (hash_of hasher) (sym c.name.ensures.bytes) in
-    c.get_index_of.ensures.index
-    ∙ position-hashed hasher c.name.result keys own c.self.invariant
-    ∙ ap (λ (b : List ℕ). position (λ (k : Name). bytes_eq b k.bytes.now) keys) c.name.ensures.bytes
-    ∙ sym (position-map (bytes_eq c.args.name.now) (λ (k : Name). k.bytes.now) keys)
-    ∙ ap (λ (names : List (List ℕ)). item_named names c.args.name.now) c.self.view_is
+    c.look_up.ensures.place
+    ∙ ap (λ (l : List Name). item_named (names_of l) c.args.name.now) c.as_slice.ensures.value
+    ∙ ap (λ (ns : List (List ℕ)). item_named ns c.args.name.now) c.self.view_is

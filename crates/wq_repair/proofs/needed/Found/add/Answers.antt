@@ -12,7 +12,7 @@ returns g c =
     let group : ℕ = c.args.group in
     let before : FoundGroups = record { marks = marks; list = list } in
     let view : before ≡ c.args.self.now = c.self.view_is in
-    let at : c.from-at.result ≡ group = c.from-at.ensures in
+    let at : c.from-at.result ≡ group = c.from-at.ensures ∙ c.get.ensures in
     let below : group < length marks = subst (λ (s : FoundGroups). group < length s.marks) (sym view) c.requires in
     let read : false ≡ get_or marks c.from-at.result false = subst (λ (b : Bool). b ≡ get_or marks c.from-at.result b) c.if-index.false c.index.ensures in
     let unmarked : ¬ IsMarked marks group = λ marked. false≢true (read ∙ ap (λ (k : ℕ). get_or marks k false) at ∙ marked) in

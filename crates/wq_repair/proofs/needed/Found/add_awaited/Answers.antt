@@ -10,14 +10,16 @@ loop-arc-init g c = HasGrown-none c.args.self.now (HeadBelow c.args.arcs.now 0) 
 pub add-requires : goal.add-requires
 add-requires g c =
     let a : WaitArc = c.arc-item.result in
-    omega (arith, c.requires c.loop-arc.arc-index a c.loop-arc-test.true, ap (λ (x : WaitArc). x.head) c.arc-item.is, c.loop-arc.invariant.one_each)
+    let within = c.requires c.loop-arc.arc-index a c.loop-arc-test.true in
+    omega (arith, c.new.ensures, within, ap (λ (x : WaitArc). x.head) c.arc-item.is, c.loop-arc.invariant.one_each)
 
 pub loop-arc-preserved : goal.loop-arc-preserved
 loop-arc-preserved g c =
     let arcs = c.args.arcs.now in
     let i = c.loop-arc.arc-index in
     let a : WaitArc = c.arc-item.result in
-    HasGrown-then c.args.self.now c.loop-arc.self c.add.new.self (HeadBelow arcs i) (λ (h : ℕ). h ≡ a.head) (HeadBelow arcs (i + 1)) c.loop-arc.invariant c.in_ok-add.ensures
+    HasGrown-then c.args.self.now c.loop-arc.self c.add.new.self (HeadBelow arcs i) (λ (h : ℕ). h ≡ a.head)
+    (HeadBelow arcs (i + 1)) c.loop-arc.invariant (rw c.new.ensures at c.in_ok-add.ensures)
     (λ h below. (below.0, below.1, omega (arith, below.2), below.3, below.4))
     (λ h same. (i, a, omega arith, sym c.arc-item.is, sym same))
     (HeadBelow-last arcs i a c.loop-arc-test.true c.arc-item.is)

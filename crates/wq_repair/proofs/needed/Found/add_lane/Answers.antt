@@ -8,13 +8,16 @@ pub loop-group-init : goal.loop-group-init
 loop-group-init g c = HasGrown-none c.args.self.now (IsAmong c.args.on.now 0) (λ h among. absurd (omega (arith, among.1)))
 
 pub add-requires : goal.add-requires
-add-requires g c = omega (arith, c.requires.within c.loop-group.group-index 0 c.loop-group-test.true, c.loop-group.invariant.one_each)
+add-requires g c =
+    let within = c.requires.within c.loop-group.group-index 0 c.loop-group-test.true in
+    omega (arith, c.new.ensures, within, c.loop-group.invariant.one_each)
 
 pub loop-group-preserved : goal.loop-group-preserved
 loop-group-preserved g c =
     let on = c.args.on.now in
     let i = c.loop-group.group-index in
-    HasGrown-then c.args.self.now c.loop-group.self c.add.new.self (IsAmong on i) (λ (h : ℕ). h ≡ get_or on i 0) (IsAmong on (i + 1)) c.loop-group.invariant c.in_ok-add.ensures
+    HasGrown-then c.args.self.now c.loop-group.self c.add.new.self (IsAmong on i) (λ (h : ℕ). h ≡ get_or on i 0)
+    (IsAmong on (i + 1)) c.loop-group.invariant (rw c.new.ensures at c.in_ok-add.ensures)
     (λ h among. (among.0, omega (arith, among.1), among.2))
     (λ h same. (i, omega arith, sym same))
     (IsAmong-last on i)

@@ -1,13 +1,11 @@
-use Rattle.std.proofs.Common.{◌≡◌, ℕ, ◌<◌, inl, inr, List, [], length, get_or, sym, ap, subst, ◌∙◌, arith}
+use Rattle.std.proofs.Common.{◌≡◌, ℕ, ◌<◌, inl, inr, List, [], length, get_or, refl, sym, ap, subst, ◌∙◌, arith}
 use Rattle.std.specs.Prelude.{◌↔◌, true, false, slice_index_or, Contains}
-use Rattle.std.specs.List.{Any}
 use Rattle.std.proofs.lemmas.Bool.{false≢true}
 use Rattle.std.proofs.lemmas.List.Elements.{Contains-get_or}
-use Rattle.wq_graph.specs.declared.arc.WaitArc.{WaitArc}
 use Rattle.wq_graph.specs.Graph.{HasArc}
 use Rattle.wq_repair.specs.Changes.{lane_in}
 use Rattle.wq_repair.specs.Marks.{IsMarked}
-use Rattle.wq_repair.specs.Following.{HasGrown, BringsAlongBy}
+use Rattle.wq_repair.specs.Following.{BringsAlongBy}
 use Rattle.wq_repair.proofs.NeededFound.{HasGrown-as, HasGrown-then}
 use Rattle.wq_repair.proofs.LaneReads.{lane-read}
 use Rattle.wq_repair.proofs.needed.Found.follow.Goals as goal
@@ -18,11 +16,9 @@ returns-then-not-is_bare g c =
     let i = c.args.group in
     let graph = c.args.graph.now in
     let here : lane_in ws i ≡ c.lane-lane.result =
-    lane-read ws.assignment c.assignment-2.result.now i c.new-group.result c.lane-lane.result c.assignment-2.ensures
-    (omega (arith, c.new-group.ensures)) c.lane-lane.ensures in
-    let grown : HasGrown c.args.self.now c.add_awaited.new.self (HasArc graph i) =
-    subst (λ (arcs : List WaitArc). HasGrown c.args.self.now c.add_awaited.new.self (λ (h : ℕ).
-    Any (λ (a : WaitArc). a.head ≡ h) arcs)) c.arcs.ensures c.in_ok-add_awaited.ensures in
+    lane-read ws.assignment c.assignment-2.result.now i i c.lane-lane.result c.assignment-2.ensures refl
+    c.lane-lane.ensures in
+    let grown = rw (c.arcs.ensures, c.get.ensures) at c.in_ok-add_awaited.ensures in
     HasGrown-as c.args.self.now c.add_awaited.new.self (HasArc graph i) (BringsAlongBy graph ws c.args.named.now i)
     grown (λ h arc. inl arc)
     (λ h by. elim by [
@@ -37,11 +33,9 @@ returns-then-not-has_lane g c =
     let i = c.args.group in
     let graph = c.args.graph.now in
     let here : lane_in ws i ≡ c.lane-lane.result =
-    lane-read ws.assignment c.assignment-2.result.now i c.new-group.result c.lane-lane.result c.assignment-2.ensures
-    (omega (arith, c.new-group.ensures)) c.lane-lane.ensures in
-    let grown : HasGrown c.args.self.now c.add_awaited.new.self (HasArc graph i) =
-    subst (λ (arcs : List WaitArc). HasGrown c.args.self.now c.add_awaited.new.self (λ (h : ℕ).
-    Any (λ (a : WaitArc). a.head ≡ h) arcs)) c.arcs.ensures c.in_ok-add_awaited.ensures in
+    lane-read ws.assignment c.assignment-2.result.now i i c.lane-lane.result c.assignment-2.ensures refl
+    c.lane-lane.ensures in
+    let grown = rw (c.arcs.ensures, c.get.ensures) at c.in_ok-add_awaited.ensures in
     HasGrown-as c.args.self.now c.add_awaited.new.self (HasArc graph i) (BringsAlongBy graph ws c.args.named.now i)
     grown (λ h arc. inl arc)
     (λ h by. elim by [
@@ -52,12 +46,12 @@ returns-then-not-has_lane g c =
 
 pub add_lane-requires-clause-within : goal.add_lane-requires-clause-within
 add_lane-requires-clause-within g c k d lt =
-    let there : Contains (slice_index_or c.args.on.now c.get.result []) (get_or c.places.result.now k d) =
+    let there : Contains (slice_index_or c.args.on.now c.get-2.result []) (get_or c.places.result.now k d) =
     subst (λ (l : List ℕ). Contains l (get_or c.places.result.now k d)) c.places.ensures
     (Contains-get_or c.places.result.now k d lt) in
     omega (
       arith,
-      ((c.requires.can.exactly c.get.result (get_or c.places.result.now k d)).0 there).0,
+      ((c.requires.can.exactly c.get-2.result (get_or c.places.result.now k d)).0 there).0,
       c.in_ok-add_awaited.ensures.one_each,
       c.requires.can.marks,
     )
@@ -69,22 +63,20 @@ returns g c =
     let graph = c.args.graph.now in
     let n = c.args.named.now in
     let here : lane_in ws i ≡ c.lane-lane.result =
-    lane-read ws.assignment c.assignment-2.result.now i c.new-group.result c.lane-lane.result c.assignment-2.ensures
-    (omega (arith, c.new-group.ensures)) c.lane-lane.ensures in
-    let grown : HasGrown c.args.self.now c.add_awaited.new.self (HasArc graph i) =
-    subst (λ (arcs : List WaitArc). HasGrown c.args.self.now c.add_awaited.new.self (λ (h : ℕ).
-    Any (λ (a : WaitArc). a.head ≡ h) arcs)) c.arcs.ensures c.in_ok-add_awaited.ensures in
-    let key : lane_in ws i ≡ c.get.result = omega (arith, here, c.get.ensures) in
+    lane-read ws.assignment c.assignment-2.result.now i i c.lane-lane.result c.assignment-2.ensures refl
+    c.lane-lane.ensures in
+    let grown = rw (c.arcs.ensures, c.get.ensures) at c.in_ok-add_awaited.ensures in
+    let key : lane_in ws i ≡ c.get-2.result = omega (arith, here, c.get-2.ensures) in
     let unnamed : ¬ IsMarked n.groups i = λ marked. false≢true (sym c.if-has_group.false ∙ c.has_group.ensures
-    ∙ ap (λ (x : ℕ). slice_index_or n.groups x false) c.new-group.ensures ∙ marked) in
+    ∙ marked) in
     let bare : slice_index_or ws.bare (lane_in ws i) false ≡ true =
     ap (λ (q : ℕ). slice_index_or ws.bare q false) here ∙ sym c.is_bare.ensures ∙ c.if-not-is_bare.false in
     let named_lane : IsMarked n.lanes (lane_in ws i) =
     ap (λ (q : ℕ). slice_index_or n.lanes q false) here ∙ sym c.has_lane.ensures ∙ c.if-not-has_lane.false in
     let groups : ℕ = length ws.assignment.lane_of_group in
-    let on : (h : ℕ) → Contains c.places.result.now h ↔ ((h < groups) × (lane_in ws h ≡ c.get.result)) =
-    λ h. subst (λ (l : List ℕ). Contains l h ↔ ((h < groups) × (lane_in ws h ≡ c.get.result))) (sym c.places.ensures)
-    (c.requires.can.exactly c.get.result h) in
+    let on : (h : ℕ) → Contains c.places.result.now h ↔ ((h < groups) × (lane_in ws h ≡ c.get-2.result)) =
+    λ h. subst (λ (l : List ℕ). Contains l h ↔ ((h < groups) × (lane_in ws h ≡ c.get-2.result))) (sym c.places.ensures)
+    (c.requires.can.exactly c.get-2.result h) in
     HasGrown-then c.args.self.now c.add_awaited.new.self c.add_lane.new.self (HasArc graph i)
     (Contains c.places.result.now) (BringsAlongBy graph ws n i) grown c.in_ok-add_lane.ensures (λ h arc. inl arc)
     (λ h there.

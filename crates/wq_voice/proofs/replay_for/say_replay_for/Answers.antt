@@ -1,0 +1,14 @@
+use Rattle.std.proofs.Common.{map, subst}
+use Rattle.wq_commands.specs.ReplayingFor.{ReplaysTextsFor}
+use Rattle.wq_voice.proofs.replay_for.say_replay_for.Goals as goal
+
+pub say_read_for-requires : goal.say_read_for-requires
+say_read_for-requires g c =
+    let s = c.args.declared.now in
+    let names = map (λ n. n.now) c.args.names.now in
+    let (end, out, finds) = c.requires in (
+      end,
+      out,
+      subst (λ f. ReplaysTextsFor s names c.args.texts.now.second c.args.texts.now.third f end out)
+          c.in-Read.is finds,
+    )
