@@ -466,6 +466,22 @@ def held():
     yield "a chain, own workqueues, all of them", declaration(ITEMS, chain()), own(), [short(i) for i in range(ITEMS)]
 
 
+def each_on_its_own(items):
+    return "".join(f"wq {q} {short(i)}\n" for q, i in enumerate(items))
+
+
+def arounds():
+    """Of each a name, the declaration, and the workqueues that stay."""
+    every_second, backwards_too = each_on_its_own(range(0, ITEMS, 2)), each_on_its_own(range(LAST, 0, -2))
+    for name, flushes in [("a chain", chain()), ("layers", layers()), ("random flushes", falling(1)), ("a circle of all", circle())]:
+        text = declaration(ITEMS, flushes)
+        yield f"{name}, every second stays", text, every_second
+        yield f"{name}, every second stays, the last one first", text, backwards_too
+        yield f"{name}, only the last stays", text, each_on_its_own([LAST])
+        yield f"{name}, all stay", text, own()
+        yield f"{name}, one stays without a rescuer", text, f"norescuer 0 {short(LAST)}\n"
+
+
 COLLIDING = "names that collide for the seed 0"
 
 
@@ -556,6 +572,10 @@ def cases(program, folder, write, most_run=MOST_CERTIFICATE):
         run = program.answer("hang", folder, path, queues, *names)
         if run.startswith(("run", "unsure")):
             yield "replay", f"{name}, with NAMEs", [path, queues, write(run), *names]
+    for name, text, stay in arounds():
+        path, fixed = write(text), write(stay)
+        yield "plan", name, [path, fixed]
+        yield "check", name, [path, write(program.answer("plan", folder, path, fixed)), fixed]
     for name, text in texts():
         path = write(text)
         yield "plan", name, [path]

@@ -69,6 +69,9 @@ CASES = {
     ("hang", "one is behind another on each of 2,048 workqueues, and such a one NAMEd, with NAMEs"),
     ("hang", "flushes of the next 512, 2,048 workqueues, with NAMEs"),
     ("circles", "layers, 64 workqueues, every other without a rescuer, with NAMEs"),
+    ("plan", "a circle of all, every second stays"),
+    ("plan", "a chain, every second stays, the last one first"),
+    ("check", "a chain, every second stays"),
 } | REFUSED
 
 

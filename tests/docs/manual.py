@@ -159,7 +159,8 @@ def commands():
 def codes():
     """The number and the name of each refusal, and of each `no` with what stands behind it."""
     refusals = [row[:2] for name in ("Refusals", "Refusals of certificates", "The command `run`") for row in rows(name)]
-    nos = [(row[0].strip("`"), row[1]) for row in rows("The command `check`")]
+    sections = "The command `check`", "Certificates around workqueues"
+    nos = [(row[0].strip("`"), row[1]) for section in sections for row in rows(section)]
     return [" ".join(row) for row in refusals], nos
 
 

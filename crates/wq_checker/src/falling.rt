@@ -15,9 +15,9 @@ use wq_items::{ItemId, ItemTable, Target};
 
 /// A declared flush: an item, and a target that it declares.
 #[derive(Clone, Copy)]
-struct DeclaredFlush {
-    item: ItemId,
-    target: Target,
+pub(crate) struct DeclaredFlush {
+    pub(crate) item: ItemId,
+    pub(crate) target: Target,
 }
 
 /// The workqueue of an item.
@@ -60,7 +60,10 @@ fn first_of_item<A: Allocator + Copy>(
 }
 
 /// The flush with the lower place, if there are two.
-fn earlier(one: Option<DeclaredFlush>, other: Option<DeclaredFlush>) -> Option<DeclaredFlush>
+pub(crate) fn earlier(
+    one: Option<DeclaredFlush>,
+    other: Option<DeclaredFlush>,
+) -> Option<DeclaredFlush>
     ensures { result ≡ earlier one other }
 {
     match (one, other) {

@@ -10,8 +10,10 @@
 #![tactic(auto)]
 
 mod answer;
+mod around;
 mod chains;
 mod checking;
+mod checking_around;
 mod falling;
 pub mod laws;
 mod once;
@@ -19,6 +21,8 @@ mod run;
 mod running;
 
 pub use answer::{No, Yes};
+pub use around::{NoAround, YesAround};
 pub use checking::check_answer;
+pub use checking_around::check_around;
 pub use run::RunEnd;
 pub use running::{check_run, check_run_for, check_run_on};

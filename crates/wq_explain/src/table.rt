@@ -452,6 +452,29 @@ plan` prints. `wqplan replay` says how a run ends.
 ",
 );
 
+const HAS_RESCUER: Explanation = (
+    Some(55),
+    "HasRescuer",
+    "55 HasRescuer\n",
+    "\
+`no 55`: the arc of the norescuer text isn't a declared flush, or its item is on
+a workqueue without a rescuer, or its target on one that has one. Items that
+FIXED doesn't have are on workqueues with a rescuer.
+
+The rule: docs/FORMAT.md, \"Planning around workqueues\"
+
+To see it:
+    printf 'item a\\nitem b\\nflush a b\\n' > decl
+    printf 'wq 0 b\\n' > fixed
+    printf 'norescuer 1\\narc a b\\n' > cert
+    wqplan check decl cert fixed
+
+To mend it:
+Ask `wqplan plan` with this FIXED again. It prints such a flush where one is in
+the way of each plan.
+",
+);
+
 const TOO_MANY_LANES: Explanation = (
     Some(69),
     "TooManyLanes",
@@ -578,7 +601,7 @@ command again.
 );
 
 /// The explanations of the numbers, in their order, and those of the faults.
-pub static EXPLANATIONS: [Explanation; 27] = [
+pub static EXPLANATIONS: [Explanation; 28] = [
     TEXT_TOO_LONG,
     LINE_TOO_LONG,
     BAD_BYTE,
@@ -600,6 +623,7 @@ pub static EXPLANATIONS: [Explanation; 27] = [
     LENGTH_DIFFERS,
     CIRCLE_BROKEN,
     RUN_BROKEN,
+    HAS_RESCUER,
     TOO_MANY_LANES,
     READ,
     MEMORY,

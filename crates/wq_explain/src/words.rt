@@ -48,6 +48,28 @@ hang, and `wqplan repair` what to change then.
 ",
 );
 
+const ORDER: Explanation = (
+    None,
+    "order",
+    "order answer\n",
+    "\
+`order Q..`: in this order, each of these workqueues waits only for those before
+it. They are those that have a rescuer, of FIXED and of the plan. It shows that
+the plan is safe, whatever their numbers are.
+
+The rule: docs/FORMAT.md, \"Planning around workqueues\"
+
+To see it:
+    printf 'item a\\nitem b\\nflush a b\\n' > decl
+    printf 'wq 0 a\\n' > fixed
+    wqplan plan decl fixed
+
+What to do:
+Write the `wq` lines above it behind those of FIXED: together they are an
+assignment. `wqplan check` reads the order, with the plan and FIXED.
+",
+);
+
 const CHAIN: Explanation = (
     None,
     "chain",
@@ -381,7 +403,8 @@ const NORESCUER: Explanation = (
 `norescuer M`: the M flushes below it are of items on workqueues without a
 rescuer, by items on workqueues that have one. While memory is short, nobody is
 sure to run what they wait for, so each of them alone can hang. In an assignment
-`norescuer Q NAME..` says that workqueue Q has no rescuer.
+`norescuer Q NAME..` says that workqueue Q has no rescuer. `plan` prints one
+that leads to a workqueue of FIXED: no new workqueues help.
 
 The rule: docs/FORMAT.md, \"The command `circles`\"
 
@@ -601,9 +624,10 @@ at once. An assignment doesn't say which workqueues are ordered.
 );
 
 /// The explanations of the words of answers and of the directives, in the order of docs/FORMAT.md.
-pub static WORDS: [Explanation; 27] = [
+pub static WORDS: [Explanation; 28] = [
     PLAN,
     WQ,
+    ORDER,
     CHAIN,
     ARC,
     CIRCLE,

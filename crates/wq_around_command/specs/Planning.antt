@@ -1,0 +1,76 @@
+-- The answer to a declaration and workqueues that stay as they are.
+use Rattle.std.specs.Prelude.{◌≡◌, ◌⊎◌, ◌<◌, ℕ, List, Some, map, MatchResult}
+use Rattle.wq_groups.specs.Assignment.{item_lanes}
+use Rattle.wq_groups.specs.DeclaredGroups.{declared_waits, Declared}
+use Rattle.wq_core.specs.declared.step.Step.{Step}
+use Rattle.wq_deadlock.specs.Judging.{IsHang}
+use Rattle.wq_fixed.specs.Fixed.{Fixed, fixed_lanes, start}
+use Rattle.wq_cert.specs.AroundText.{around_text, norescuer_text}
+use Rattle.wq_cert.specs.CircleText.{circle_text}
+use Rattle.wq_cert.specs.FixedReading.{fixed_of_text}
+use Rattle.wq_cert.specs.Texts.{cert_refusal}
+use Rattle.wq_around.specs.declared.answer.Around.{Around}
+use Rattle.wq_around.specs.declared.answer.Around.TheVariants as around
+use Rattle.wq_around.specs.Around.{PlansAround}
+use Rattle.wq_commands.specs.declared.end.End.{End}
+use Rattle.wq_commands.specs.declared.end.End.TheVariants.{Good, Bad}
+use Rattle.wq_commands.specs.declared.found.Found.{Found}
+use Rattle.wq_commands.specs.declared.found.Found.TheVariants.{Read}
+use Rattle.wq_commands.specs.declared.found.Which.TheVariants.{Certificate as SecondText}
+use Rattle.wq_commands.specs.Answer.{AnswersDeclared, PrintsRefusal, ends_of}
+use Rattle.wq_commands.specs.Declaration.{declaration}
+use Rattle.wq_commands.specs.Found.{AnswersIn}
+use Rattle.wq_around_command.specs.declared.planning.Planned.{Planned}
+use Rattle.wq_around_command.specs.declared.planning.Planned.TheVariants as planned
+
+-- what is printed of this answer: the text of the plan; or of the circle or the flush to no rescuer, with the
+-- deadlocking run of the start
+abbrev pub PrintsAround : {A : Type 0} → Declared → Fixed → Around A → End → List ℕ → Type 0
+PrintsAround s f (around.Plan ws order chain) end out =
+    (end ≡ Good)
+    × (out ≡ around_text s.table.names (fixed_lanes f) ws.assignment.lanes
+    (item_lanes ws.assignment s.partition.group_of) order.items (map ends_of chain.items))
+PrintsAround s f (around.Circle arcs) end out =
+    (end ≡ Bad)
+    × (steps : List Step) × IsHang (declared_waits s) (start f) steps
+    × (out ≡ circle_text s.table.names (map ends_of arcs.items) (Some steps))
+PrintsAround s f (around.NoRescuer arc) end out =
+    (end ≡ Bad)
+    × (steps : List Step) × IsHang (declared_waits s) (start f) steps
+    × (out ≡ norescuer_text s.table.names (ends_of arc) steps)
+
+-- the plan around these workqueues is found, or what is in the way of each, and printed
+pub record FindsAround {A : Type 0} (s : Declared) (f : Fixed) (found : Found (Planned A)) (end : End) (out : List ℕ)
+    : Type 0 where
+  pub answer : Around A
+  pub is : found ≡ Read (planned.Around (start f) answer)
+  pub plans : PlansAround (declared_waits s) f answer
+  pub printed : PrintsAround s f answer end out
+
+-- the same, or where there is no fixed workqueue the plan
+abbrev pub FindsPlanned : {A : Type 0} → Declared → Fixed → Found (Planned A) → End → List ℕ → Type 0
+FindsPlanned {A} s f found end out =
+    ((fixed_lanes f ≡ 0) × (found ≡ Read (planned.Plain end)) × AnswersDeclared s end out)
+    ⊎ ((0 < fixed_lanes f) × FindsAround {A} s f found end out)
+
+-- `plan` around the fixed workqueues with this text
+abbrev pub PlansText : {A : Type 0} → Declared → List ℕ → Found (Planned A) → End → List ℕ → Type 0
+PlansText s text = AnswersIn SecondText (fixed_of_text s.table.names s.partition text) (λ f. FindsPlanned s f)
+
+-- ---- the answer alone
+
+-- the answer to fixed workqueues
+abbrev pub AnswersFixed : Declared → Fixed → End → List ℕ → Type 0
+AnswersFixed s f end out =
+    ((fixed_lanes f ≡ 0) × AnswersDeclared s end out)
+    ⊎ ((0 < fixed_lanes f) × (A : Type 0) × (answer : Around A) × PlansAround (declared_waits s) f answer
+    × PrintsAround s f answer end out)
+
+-- the answer to the texts of a declaration and of fixed workqueues: a refusal of the declaration comes first
+abbrev pub Plans : List ℕ → List ℕ → End → List ℕ → Type 0
+Plans declared text end out =
+    MatchResult (declaration declared)
+    (λ s. MatchResult (fixed_of_text s.table.names s.partition text)
+    (λ f. AnswersFixed s f end out)
+    (λ fault. PrintsRefusal (cert_refusal fault) end out))
+    (λ r. PrintsRefusal r end out)
