@@ -1,5 +1,5 @@
 -- The printed chain of a plan around fixed workqueues, said of all chains.
-use Rattle.std.specs.Prelude.{◌≡◌, ◌×◌, ◌⊎◌, ⊤, ℕ, ◌<◌, ◌≤◌, List, [], ◌∷◌, length, filter, slice_index}
+use Rattle.std.specs.Prelude.{◌≡◌, ◌⊎◌, ⊤, ℕ, ◌<◌, ◌≤◌, List, [], ◌∷◌, length, filter, slice_index}
 use Rattle.wq_items.specs.Readings.{is_among, unsure_places}
 use Rattle.wq_groups.specs.Declaration.{Declaration}
 use Rattle.wq_groups.specs.Assignment.{item_lane}

@@ -4,7 +4,7 @@
 //! each workqueue is found by their ranks, from below; then the chain is followed. It takes time in the number of
 //! workqueues and arcs, and memory in the number of workqueues.
 
-ghost use Rattle.std.specs.Prelude.{◌≡◌, ◌×◌, ◌+◌, ◌<◌, ◌≤◌, ◌==◌, ◌&&◌, nat_le, false, ℕ, List, length, slice_index};
+ghost use Rattle.std.specs.Prelude.{◌≡◌, ◌+◌, ◌<◌, ◌≤◌, ◌==◌, ◌&&◌, nat_le, false, ℕ, List, length, slice_index};
 ghost use Rattle.std.specs.Prelude.{slice_index_or, filter, map, if◌then◌else◌, IfOk, OnErr, IfSome, IfNone};
 ghost use Rattle.std.specs.List.{All, find};
 ghost use Rattle.std.specs.Option.{option_copied};

@@ -3,7 +3,7 @@
 //! The rule is that of "Planning around workqueues" in docs/FORMAT.md. It takes time and memory in the number of groups
 //! and workqueues.
 
-ghost use Rattle.std.specs.Prelude.{◌≡◌, ◌×◌, ◌+◌, ◌<◌, ◌≤◌, ℕ, length, map, slice_index, IfOk};
+ghost use Rattle.std.specs.Prelude.{◌≡◌, ◌+◌, ◌<◌, ◌≤◌, ℕ, length, map, slice_index, IfOk};
 ghost use Rattle.std.specs.List.{All};
 ghost use Rattle.wq_fixed.specs.Fixed.{fixed_lanes, start};
 ghost use Rattle.wq_around.specs.Down.{IsTop};
