@@ -7,3 +7,6 @@ pub mod BestChain
 pub mod RescuedGraphs
 pub mod PlannedLanes
 pub mod PlanLemmas
+pub mod TopLemmas
+pub mod OrderLemmas
+pub mod StartHangs
