@@ -10,3 +10,4 @@ pub mod PlanLemmas
 pub mod TopLemmas
 pub mod OrderLemmas
 pub mod StartHangs
+pub mod Outcomes
