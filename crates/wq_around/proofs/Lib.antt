@@ -11,3 +11,4 @@ pub mod TopLemmas
 pub mod OrderLemmas
 pub mod StartHangs
 pub mod Outcomes
+pub mod HeightsSoFar
