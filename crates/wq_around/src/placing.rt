@@ -83,8 +83,7 @@ pub(crate) fn place<A: Allocator + Copy>(
     let new = fixed.lanes();
     let start = start.lanes_of_groups(alloc)?;
     let lanes = planned_lanes(alloc, start.as_slice(), heights, new)?;
-    let mut bare = Vec::with_capacity(alloc, fixed.bare().len())?;
-    bare.extend_from_slice(fixed.bare())?;
+    let bare = Vec::from_slice(alloc, fixed.bare())?;
     let assignment = Assignment::new(new + most, lanes).unwrap();
     Ok(Workqueues::new(assignment, bare))
 }
