@@ -1,11 +1,12 @@
 -- Heights: what the arcs of a lane say of its height.
-use Rattle.std.proofs.Common.{◌≡◌, ◌≢◌, ℕ, ◌+◌, ◌<◌, ◌≤◌, ◌⊎◌, inl, inr, Bool, cond, nat_le, List, [], ◌∷◌, length}
+use Rattle.std.proofs.Common.{◌≡◌, ◌≢◌, ℕ, ◌+◌, ◌<◌, ◌≤◌, ◌⊎◌, inl, inr, Bool, true, false, cond, nat_le, List, [], ◌∷◌, length}
 use Rattle.std.proofs.Common.{map, fold, max, slice_index, refl, sym, ap, subst, ◌∙◌, arith}
 use Rattle.std.specs.Prelude.{Contains}
 use Rattle.std.specs.List.{All, Any}
 use Rattle.std.proofs.lemmas.Bool.{cases_eq, cases_lt, lt-leb, le-leb}
 use Rattle.std.proofs.lemmas.List.{get_or_past}
 use Rattle.std.proofs.lemmas.List.Sums.{sum_by-cons, count_by-le-length}
+use mir.Val.{bool_byte}
 use Rattle.wq_items.specs.Chain.{IsChain}
 use Rattle.wq_items.proofs.Chains.{IsRank-greatest}
 use Rattle.wq_items.proofs.Lists.{Contains-later}
@@ -50,6 +51,14 @@ one_if_new-cases new q = elim (cases_lt q new) [
   | inl low ↦ inl (low, ap (λ (b : Bool). cond b 1 0) (lt-leb new q low))
   | inr from ↦ inr (from, ap (λ (b : Bool). cond b 1 0) (le-leb new q from))
 ]
+
+-- as a number of a test
+pub one_if_new-byte : (new q : ℕ) → bool_byte (nat_le new q) ≡ one_if_new new q
+one_if_new-byte new q = by (nat_le new q)
+  where
+    by : (b : Bool) → bool_byte b ≡ cond b 1 0
+    by true = refl
+    by false = refl
 
 pub one_if_new-few : (new q : ℕ) → one_if_new new q ≤ 1
 one_if_new-few new q = elim (one_if_new-cases new q) [

@@ -1,5 +1,5 @@
 -- The plan that heights make is safe, and takes as few new workqueues as can be.
-use Rattle.std.proofs.Common.{◌≡◌, ℕ, ◌+◌, ◌-◌, ◌*◌, ◌<◌, ◌≤◌, ◌⊎◌, inl, inr, cond, ltb, List, [], ◌∷◌, length}
+use Rattle.std.proofs.Common.{◌≡◌, ℕ, ◌+◌, ◌-◌, ◌*◌, ◌<◌, ◌≤◌, inl, inr, cond, ltb, List, [], ◌∷◌, length}
 use Rattle.std.proofs.Common.{slice_index, refl, sym, ap, subst, ◌∙◌, arith}
 use Rattle.std.specs.List.{All}
 use Rattle.std.proofs.lemmas.Bool.{cases_lt, lt-ltb, le-ltb, cond-true, cond-false}
@@ -7,6 +7,7 @@ use Rattle.wq_items.specs.Chain.{Circle}
 use Rattle.wq_items.specs.Table.{ItemWaits}
 use Rattle.wq_groups.specs.Declaration.{Declaration, IsDeclaration}
 use Rattle.wq_groups.specs.Assignment.{IsAssignment, IsAssignmentOf, group_lane}
+use Rattle.wq_groups.specs.DeclaredGroups.{declared_waits}
 use Rattle.wq_groups.proofs.Declarations.{waiting-item, awaited-item}
 use Rattle.wq_groups.proofs.Lanes.{item_lanes-at}
 use Rattle.wq_graph.specs.declared.arc.WaitArc.{WaitArc}
@@ -15,6 +16,7 @@ use Rattle.wq_levels.specs.Ranks.{AreRanks}
 use Rattle.wq_levels.proofs.Ranks.{AreRanks-fall, AreRanks-few}
 use Rattle.wq_core.specs.Wiring.{HasRescuer, RescuedWaits, lane_of}
 use Rattle.wq_core.specs.Workqueues.{Workqueues, wiring_of}
+use Rattle.wq_core.specs.Assigned.{Assigned, IsAssigned}
 use Rattle.wq_core.specs.Deadlock.{IsSafe, Deadlocks}
 use Rattle.wq_core.proofs.CircleKnots.{Deadlocks-rescued_circle}
 use Rattle.wq_core.proofs.Safety.{IsSafe-rescued}
@@ -24,13 +26,13 @@ use Rattle.wq_fixed.specs.Fixed.{Fixed, IsFixed, IsLeastAround, Keeps, fixed_lan
 use Rattle.wq_fixed.proofs.ChainsOfStart.{Circle-fewer}
 use Rattle.wq_fixed.proofs.Kept.{rescuer_here}
 use Rattle.wq_fixed.proofs.StartKeeps.{Keeps-start, IsAssignmentOf-start}
+use Rattle.wq_fixed.proofs.StartLanes.{length-start_lanes}
 use Rattle.wq_plan.proofs.Relations.{IsChain-implied}
 use Rattle.wq_around.specs.Heights.{AreHeights, IsPlanAround, start_graph}
 use Rattle.wq_around.specs.Down.{one_if_new, IsTop}
 use Rattle.wq_around.specs.Planned.{planned_lane, planned}
-use Rattle.wq_around.specs.LongestChain.{IsBestChain}
 use Rattle.wq_around.specs.Order.{IsOrder}
-use Rattle.wq_around.specs.Around.{IsPlannedAround, new_lanes}
+use Rattle.wq_around.specs.Around.{IsPlannedAround, IsChainOf, new_lanes}
 use Rattle.wq_around.proofs.HeightLemmas.{one_if_new-cases, heights-new, heights-fall}
 use Rattle.wq_around.proofs.Descents.{AllLeadDown-heights}
 use Rattle.wq_around.proofs.PlannedLanes.{planned-fixed, planned-new, planned-at, Keeps-planned, IsAssignment-planned}
@@ -188,17 +190,23 @@ module _ (d : Declaration) (f : Fixed) (declaration : IsDeclaration d) (fixed : 
   }
 
   pub IsPlannedAround-planned : (ws : Workqueues) (order : List ℕ) (chain : List WaitArc) → ws ≡ planned f heights most
-      → IsOrder d ws order → ((most ≡ 0) × (chain ≡ [])) ⊎ IsBestChain d f heights most chain
-      → IsPlannedAround d f ws order chain
-  IsPlannedAround-planned ws order chain same sorted best =
+      → IsOrder d ws order → IsChainOf d f most chain → IsPlannedAround d f ws order chain
+  IsPlannedAround-planned ws order chain same sorted arcs =
       let count : new_lanes f (planned f heights most) ≡ most = omega arith in
       let lanes : new_lanes f ws ≡ most = ap (new_lanes f) same ∙ count in
       record {
         plan = subst (IsPlanAround d f) (sym same) planned-is;
         least = subst (IsLeastAround d f) (sym same) planned-least;
         order = sorted;
-        chain = elim best [
-          | inl none ↦ inl (lanes ∙ none.0, none.1)
-          | inr some ↦ inr (heights, are, subst (λ (n : ℕ). IsBestChain d f heights n chain) (sym lanes) some)
-        ];
+        chain = subst (λ (n : ℕ). IsChainOf d f n chain) (sym lanes) arcs;
       }
+
+-- the groups that are declared are those that stay or are free
+pub IsFixed-assigned : (a : Assigned) (f : Fixed) → IsAssigned a → a.workqueues ≡ start f
+    → IsFixed (length f.lane_of_group) f → IsFixed (declared_waits a.declared).groups f
+IsFixed-assigned a f is same fixed =
+    let groups : length f.lane_of_group ≡ a.declared.partition.groups =
+    sym (length-start_lanes (fixed_lanes f) f.lane_of_group)
+    ∙ sym (ap (λ (ws : Workqueues). length ws.assignment.lane_of_group) same)
+    ∙ is.assignment.assignment.one_each in
+    subst (λ (n : ℕ). IsFixed n f) groups fixed

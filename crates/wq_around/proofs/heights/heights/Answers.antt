@@ -10,7 +10,7 @@ use Rattle.wq_fixed.specs.Fixed.{fixed_lanes}
 use Rattle.wq_plan.proofs.Doubts.{at-place}
 use Rattle.wq_around.specs.Heights.{IsHeight}
 use Rattle.wq_around.specs.Down.{one_if_new}
-use Rattle.wq_around.proofs.HeightLemmas.{IsHeight-few}
+use Rattle.wq_around.proofs.HeightLemmas.{IsHeight-few, one_if_new-byte}
 use Rattle.wq_around.proofs.SoFar.{AreSoFar-set, AreSoFar-taken}
 use Rattle.wq_around.proofs.HeightsSoFar.{height-found}
 use Rattle.wq_around.proofs.heights.heights.Goals as goal
@@ -73,7 +73,8 @@ overflow_add-below g c =
     ∙ ap (λ (l : List ℕ). fold max 0 (map (λ (a : WaitArc). slice_index l a.head) c.arcs.result.now))
     c.as_slice.ensures.value in
     let one : c.from-in-loop-lane.result ≡ one_if_new (fixed_lanes c.args.fixed.now) v =
-    c.from-in-loop-lane.ensures ∙ ap (λ (n : ℕ). one_if_new n v) (c.from.ensures ∙ c.lanes.ensures.lanes) in
+    c.from-in-loop-lane.ensures ∙ one_if_new-byte c.from.result v
+    ∙ ap (λ (n : ℕ). one_if_new n v) (c.from.ensures ∙ c.lanes.ensures.lanes) in
     let is = height-found c.args.graph.now c.args.fixed.now c.args.ranks.now c.requires.graph c.requires.ranks
     c.loop-rank.rank c.loop-lane.lane-index c.places-lane-items.result.now c.loop-lane.heights.items
     c.loop-lane.invariant.0 at.1 at.2 c.arcs.result.now c.greatest-below.result c.from-in-loop-lane.result
@@ -103,7 +104,8 @@ loop-lane-preserved g c =
     ∙ ap (λ (l : List ℕ). fold max 0 (map (λ (a : WaitArc). slice_index l a.head) c.arcs.result.now))
     c.as_slice.ensures.value in
     let one : c.from-in-loop-lane.result ≡ one_if_new (fixed_lanes c.args.fixed.now) v =
-    c.from-in-loop-lane.ensures ∙ ap (λ (m : ℕ). one_if_new m v) (c.from.ensures ∙ c.lanes.ensures.lanes) in
+    c.from-in-loop-lane.ensures ∙ one_if_new-byte c.from.result v
+    ∙ ap (λ (m : ℕ). one_if_new m v) (c.from.ensures ∙ c.lanes.ensures.lanes) in
     let is = height-found c.args.graph.now c.args.fixed.now c.args.ranks.now c.requires.graph c.requires.ranks
     c.loop-rank.rank c.loop-lane.lane-index c.places-lane-items.result.now c.loop-lane.heights.items
     c.loop-lane.invariant.0 at.1 at.2 c.arcs.result.now c.greatest-below.result c.from-in-loop-lane.result
