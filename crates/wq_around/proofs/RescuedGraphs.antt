@@ -85,8 +85,8 @@ module _ (d : Declaration) (ws : Workqueues) (declaration : IsDeclaration d)
         → HasRescuer (wiring_of d ws) (lane_of (wiring_of d ws) j)
     awaited-rescuer i j waits from = elim (cases_rescuer (wiring_of d ws) (lane_of (wiring_of d ws) j)) [
       | inl to ↦ to
-      | inr no ↦
+      | inr bare ↦
           absurd (not_safe-deadlocks (wiring_of d ws)
-          (Deadlocks-bare (wiring_of d ws) i j (IsWiring-workqueues d ws declaration is.assignment) waits from no)
+          (Deadlocks-bare (wiring_of d ws) i j (IsWiring-workqueues d ws declaration is.assignment) waits from bare)
           safe-ranks)
     ]
