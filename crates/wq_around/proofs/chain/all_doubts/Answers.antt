@@ -1,4 +1,4 @@
-use Rattle.std.proofs.Common.{◌≡◌, ◌≢◌, ◌≤◌, ℕ, Bool, false, List, [], length, map, take, slice_index, slice_index_or, sym, ap}
+use Rattle.std.proofs.Common.{◌≡◌, ◌+◌, ◌≢◌, ◌≤◌, ℕ, Bool, false, List, [], length, map, take, set, slice_index, slice_index_or, sym, ap}
 use Rattle.std.proofs.Common.{subst, ◌∙◌, arith}
 use Rattle.std.specs.Prelude.{filter}
 use Rattle.std.proofs.lemmas.List.FromFn.{length-map-range_with_len}
@@ -102,7 +102,42 @@ index_mut-requires g c =
     omega (arith, at.1, c.loop-place.invariant.known.one_each, c.loop-place.doubts.ok)
 
 pub loop-place-preserved : goal.loop-place-preserved
-loop-place-preserved g c = ?
+loop-place-preserved g c =
+    let unsure : ℕ → Bool = λ place. slice_index_or c.args.unsure.now place false in
+    let graph = c.args.graph.now in
+    let new : ℕ = c.args.new in
+    let heights : List ℕ = c.args.heights.now in
+    let ranks : List ℕ = c.args.ranks.now in
+    let rank : ℕ = c.loop-rank.rank in
+    let k : ℕ = c.loop-place.place-index in
+    let ps : List ℕ = c.places-place-items.result.now in
+    let now : List ℕ = c.loop-place.doubts.items in
+    let at =
+    at-place ranks ps c.in_ok-by_rank.by_rank c.count_of-levels.result rank k c.in_ok-by_rank.ensures.buckets
+    c.loop-rank-test.true c.places-place-items.ensures c.loop-place-test.true in
+    let v : ℕ = slice_index ps k in
+    elim c.if-not-is_end.branch [
+      | then-not-is_end w ↦
+          let more = leads_by new heights v (sym c.is_end.ensures ∙ w.if-not-is_end.true) in
+          let is : w.fewest_doubts-fewest.result
+              ≡ least_of (map (doubts_by unsure now) (filter (leads_on heights new v) (arcs_at graph v))) =
+          w.fewest_doubts-fewest.ensures
+          ∙ ap (λ (l : List ℕ). least_of (map (doubts_by unsure l)
+          (filter (leads_on heights new v) w.arcs-arcs.result.now))) w.as_slice.ensures.value
+          ∙ ap (λ (l : List WaitArc). least_of (map (doubts_by unsure now) (filter (leads_on heights new v) l)))
+          w.arcs-arcs.ensures in
+          let written : c.if-not-is_end.doubts.items ≡ set now v w.fewest_doubts-fewest.result =
+          ap (λ l. l.items) w.doubts-is in
+          subst (AreDoubtsSoFar unsure graph new heights ranks rank (take (k + 1) ps)) (sym written)
+          (AreDoubtsSoFar-set unsure graph new heights ranks c.requires.graph c.requires.ranks c.requires.down rank k ps
+          now c.loop-place.invariant c.loop-place-test.true at.1 at.2 w.fewest_doubts-fewest.result more is)
+      | else-not-is_end w ↦
+          let end = ends_by new heights v (sym c.is_end.ensures ∙ w.if-not-is_end.false) in
+          subst (AreDoubtsSoFar unsure graph new heights ranks rank (take (k + 1) ps))
+          (sym (ap (λ l. l.items) w.doubts-is))
+          (AreDoubtsSoFar-end unsure graph new heights ranks c.requires.graph c.requires.ranks c.requires.down rank k ps
+          now c.loop-place.invariant c.loop-place-test.true at.1 at.2 end.0 end.1)
+    ]
 
 pub loop-rank-preserved : goal.loop-rank-preserved
 loop-rank-preserved g c =

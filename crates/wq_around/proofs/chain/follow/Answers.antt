@@ -1,4 +1,4 @@
-use Rattle.std.proofs.Common.{◌≡◌, ◌+◌, ◌++◌, ◌∷◌, ◌<◌, ℕ, Bool, false, List, [], length, Some, None, slice_index}
+use Rattle.std.proofs.Common.{◌≡◌, ◌+◌, ◌++◌, ◌∷◌, ◌<◌, ℕ, Bool, false, List, [], length, find, Some, None, slice_index}
 use Rattle.std.proofs.Common.{slice_index_or, refl, sym, ap, subst, ◌∙◌, append_assoc, append-nil, arith}
 use Rattle.std.proofs.lemmas.Option.{same_Some, none-some}
 use Rattle.wq_graph.specs.declared.arc.WaitArc.{WaitArc}
@@ -9,11 +9,24 @@ use Rattle.wq_levels.proofs.Ranks.{AreRanks-fall, AreRanks-few}
 use Rattle.wq_core.proofs.Results.{OnErr-holds}
 use Rattle.wq_around.specs.Down.{IsFirstDown}
 use Rattle.wq_around.proofs.Descents.{height-within, ends_by, leads_by}
-use Rattle.wq_around.proofs.FirstDown.{IsNext, IsFirstDown-end, IsFirstDown-step, next-found, next-above}
+use Rattle.wq_around.proofs.FirstDown.{IsNext, is_next, IsFirstDown-end, IsFirstDown-step, next-found, next-above}
 use Rattle.wq_around.proofs.chain.follow.Goals as goal
 
 pub loop-init : goal.loop-init
-loop-init g c = ?
+loop-init g c =
+    let unsure : ℕ → Bool = λ place. slice_index_or c.args.unsure.now place false in
+    let within = height-within c.args.heights.now c.args.first c.requires.first in (
+      c.requires.first,
+      λ ranks ranked.
+          omega (
+            arith,
+            AreRanks-few c.args.graph.now ranks c.requires.graph ranked c.args.first 0
+                (omega (arith, within, c.requires.one_each, ranked.one_each)),
+          ),
+      λ rest on.
+          subst (λ (l : List WaitArc). IsFirstDown unsure c.args.graph.now c.args.new c.args.heights.now
+          c.args.doubts.now c.args.first (l ++ rest)) (sym c.new-chain.ensures.items) on,
+    )
 
 pub is_end-requires : goal.is_end-requires
 is_end-requires g c = height-within c.args.heights.now c.loop.lane c.loop.invariant.0
@@ -42,13 +55,68 @@ first_on-requires g c = record {
 }
 
 pub returns-in_default-clause-chain : goal.returns-in_default-clause-chain
-returns-in_default-clause-chain g c = ?
+returns-in_default-clause-chain g c =
+    let unsure : ℕ → Bool = λ place. slice_index_or c.args.unsure.now place false in
+    let graph = c.args.graph.now in
+    let new : ℕ = c.args.new in
+    let heights : List ℕ = c.args.heights.now in
+    let doubts : List ℕ = c.args.doubts.now in
+    let lane : ℕ = c.loop.lane in
+    let more = leads_by new heights lane (sym c.is_end.ensures ∙ c.if-is_end.false) in
+    let found = next-found unsure graph new heights doubts c.requires.graph c.requires.doubts lane c.loop.invariant.0
+    more in
+    let test = is_next unsure graph new heights doubts c.requires.graph c.requires.doubts lane in
+    absurd (none-some found.0
+    (c.in_default.ensures ∙ ap (λ (l : List WaitArc). find test l) c.arcs-arcs.ensures ∙ found.1))
 
 pub loop-preserved : goal.loop-preserved
-loop-preserved g c = ?
+loop-preserved g c =
+    let unsure : ℕ → Bool = λ place. slice_index_or c.args.unsure.now place false in
+    let graph = c.args.graph.now in
+    let new : ℕ = c.args.new in
+    let heights : List ℕ = c.args.heights.now in
+    let doubts : List ℕ = c.args.doubts.now in
+    let lane : ℕ = c.loop.lane in
+    let arc : WaitArc = c.in-Some.arc.now in
+    let some : 0 < slice_index heights lane = c.loop.invariant.0 in
+    let more = leads_by new heights lane (sym c.is_end.ensures ∙ c.if-is_end.false) in
+    let found = next-found unsure graph new heights doubts c.requires.graph c.requires.doubts lane some more in
+    let test = is_next unsure graph new heights doubts c.requires.graph c.requires.doubts lane in
+    let is : Some arc ≡ Some found.0 =
+    c.in-Some.ensures ∙ ap (λ (l : List WaitArc). find test l) c.arcs-arcs.ensures ∙ found.1 in
+    let first : IsFirst (IsNext unsure graph new heights doubts c.requires.graph c.requires.doubts lane)
+    (arcs_at graph lane) arc =
+    subst (IsFirst (IsNext unsure graph new heights doubts c.requires.graph c.requires.doubts lane)
+    (arcs_at graph lane)) (sym (same_Some arc found.0 is)) found.2 in (
+      next-above unsure graph new heights doubts c.requires.graph c.requires.doubts lane some more arc first,
+      λ ranks ranked.
+          let within : lane < length graph =
+          omega (arith, height-within heights lane some, c.requires.one_each) in
+          let falls : slice_index ranks arc.head < slice_index ranks lane =
+          AreRanks-fall graph ranks c.requires.graph ranked lane arc.head within
+          (first.place, arc, first.fits, first.here, refl) in
+          omega (arith, falls, c.loop.invariant.1 ranks ranked),
+      λ rest on.
+          let joined : c.push.new.self.items ++ rest ≡ c.loop.chain.items ++ (arc ∷ rest) =
+          ap (λ (l : List WaitArc). l ++ rest) c.in_ok-push.ensures.items
+          ∙ append_assoc c.loop.chain.items (arc ∷ []) rest in
+          subst (IsFirstDown unsure graph new heights doubts c.args.first) (sym joined)
+          (c.loop.invariant.2 (arc ∷ rest)
+          (IsFirstDown-step unsure graph new heights doubts c.requires.graph c.requires.doubts lane some more arc first
+          rest on)),
+    )
 
 pub returns-in_err-push-clause-memory : goal.returns-in_err-push-clause-memory
-returns-in_err-push-clause-memory g c = ?
+returns-in_err-push-clause-memory g c =
+    OnErr-holds c.from_residual.result
+    (omega (arith, height-within c.args.heights.now c.loop.lane c.loop.invariant.0, c.requires.one_each))
 
 pub returns-clause-chain : goal.returns-clause-chain
-returns-clause-chain g c = ?
+returns-clause-chain g c =
+    let ranked = c.requires.ranked in
+    absurd (omega (
+      arith,
+      c.loop.invariant.1 ranked.0 ranked.1,
+      c.loop-test.false,
+      c.vertices-end.ensures.vertices,
+    ))
