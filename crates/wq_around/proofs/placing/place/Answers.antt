@@ -30,7 +30,7 @@ unwrap-assignment-requires g c =
     c.new.ensures.exactly.1 (
       omega (arith, c.lanes-new.ensures.lanes, c.requires.lanes),
       planned-below c.lanes-new.result heights c.args.most c.as_slice.result.now c.in_ok-lanes.lanes.items
-      c.in_ok-lanes.ensures within
-      (λ q from inside. c.requires.some q (omega (arith, from, c.lanes-new.ensures.lanes)) inside)
-      (λ q from inside. c.requires.most q (omega (arith, from, c.lanes-new.ensures.lanes)) inside),
+          c.in_ok-lanes.ensures within
+          (λ q from inside. c.requires.some q (omega (arith, from, c.lanes-new.ensures.lanes)) inside)
+          (λ q from inside. c.requires.most q (omega (arith, from, c.lanes-new.ensures.lanes)) inside),
     )
