@@ -7,7 +7,6 @@ use Rattle.wq_items.specs.Chain.{Circle}
 use Rattle.wq_items.specs.Table.{ItemWaits}
 use Rattle.wq_groups.specs.Declaration.{Declaration, IsDeclaration}
 use Rattle.wq_groups.specs.Assignment.{IsAssignment, IsAssignmentOf, group_lane}
-use Rattle.wq_groups.specs.DeclaredGroups.{declared_waits}
 use Rattle.wq_groups.proofs.Declarations.{waiting-item, awaited-item}
 use Rattle.wq_groups.proofs.Lanes.{item_lanes-at}
 use Rattle.wq_graph.specs.declared.arc.WaitArc.{WaitArc}
@@ -16,7 +15,6 @@ use Rattle.wq_levels.specs.Ranks.{AreRanks}
 use Rattle.wq_levels.proofs.Ranks.{AreRanks-fall, AreRanks-few}
 use Rattle.wq_core.specs.Wiring.{HasRescuer, RescuedWaits, lane_of}
 use Rattle.wq_core.specs.Workqueues.{Workqueues, wiring_of}
-use Rattle.wq_core.specs.Assigned.{Assigned, IsAssigned}
 use Rattle.wq_core.specs.Deadlock.{IsSafe, Deadlocks}
 use Rattle.wq_core.proofs.CircleKnots.{Deadlocks-rescued_circle}
 use Rattle.wq_core.proofs.Safety.{IsSafe-rescued}
@@ -26,7 +24,6 @@ use Rattle.wq_fixed.specs.Fixed.{Fixed, IsFixed, IsLeastAround, Keeps, fixed_lan
 use Rattle.wq_fixed.proofs.ChainsOfStart.{Circle-fewer}
 use Rattle.wq_fixed.proofs.Kept.{rescuer_here}
 use Rattle.wq_fixed.proofs.StartKeeps.{Keeps-start, IsAssignmentOf-start}
-use Rattle.wq_fixed.proofs.StartLanes.{length-start_lanes}
 use Rattle.wq_plan.proofs.Relations.{IsChain-implied}
 use Rattle.wq_around.specs.Heights.{AreHeights, IsPlanAround, start_graph}
 use Rattle.wq_around.specs.Down.{one_if_new, IsTop}
@@ -200,13 +197,3 @@ module _ (d : Declaration) (f : Fixed) (declaration : IsDeclaration d) (fixed : 
         order = sorted;
         chain = subst (λ (n : ℕ). IsChainOf d f n chain) (sym lanes) arcs;
       }
-
--- the groups that are declared are those that stay or are free
-pub IsFixed-assigned : (a : Assigned) (f : Fixed) → IsAssigned a → a.workqueues ≡ start f
-    → IsFixed (length f.lane_of_group) f → IsFixed (declared_waits a.declared).groups f
-IsFixed-assigned a f is same fixed =
-    let groups : length f.lane_of_group ≡ a.declared.partition.groups =
-    sym (length-start_lanes (fixed_lanes f) f.lane_of_group)
-    ∙ sym (ap (λ (ws : Workqueues). length ws.assignment.lane_of_group) same)
-    ∙ is.assignment.assignment.one_each in
-    subst (λ (n : ℕ). IsFixed n f) groups fixed

@@ -38,6 +38,7 @@ fn needed_chain<A: Allocator + Copy>(
     heights: &[u16],
     most: u16,
 ) -> Result<Vec<WaitArc, A>, AllocError>
+    requires fixed { IsFixed start.now.declared.partition.groups fixed.now }
     requires start { start.now.workqueues ≡ start_of fixed.now }
     requires graph { graph.now ≡ start_graph (declared_waits start.now.declared) fixed.now }
     requires ranks { AreRanks graph.now ranks.now }
@@ -62,6 +63,7 @@ fn plan_by_ranks<A: Allocator + Copy>(
     graph: &WaitGraph<A>,
     ranks: &[u16],
 ) -> Result<Around<A>, AllocError>
+    requires fixed { IsFixed start.now.declared.partition.groups fixed.now }
     requires start { start.now.workqueues ≡ start_of fixed.now }
     requires none { bare_waits (declared_waits start.now.declared) (start_of fixed.now) ≡ [] }
     requires graph { graph.now ≡ start_graph (declared_waits start.now.declared) fixed.now }
@@ -102,6 +104,7 @@ fn plan_rescued<A: Allocator + Copy>(
     start: &Assigned<'_, '_, A>,
     fixed: &Fixed<A>,
 ) -> Result<Around<A>, AllocError>
+    requires fixed { IsFixed start.now.declared.partition.groups fixed.now }
     requires start { start.now.workqueues ≡ start_of fixed.now }
     requires none { bare_waits (declared_waits start.now.declared) (start_of fixed.now) ≡ [] }
     ensures answer { IfOk result (PlansAround (declared_waits start.now.declared) fixed.now) }
