@@ -1,5 +1,5 @@
 use Rattle.std.proofs.Common.{◌≡◌, ℕ, List, length, sym, ap, subst, ◌∙◌}
-use Rattle.wq_groups.specs.DeclaredGroups.{declared_waits}
+use Rattle.wq_groups.specs.DeclaredGroups.{Declared, declared_waits}
 use Rattle.wq_graph.specs.declared.arc.WaitArc.{WaitArc}
 use Rattle.wq_graph.specs.Graph.{IsGraph}
 use Rattle.wq_levels.specs.Ranks.{AreRanks}
@@ -75,8 +75,11 @@ order_of-requires g c =
     c.as_slice.ensures.value c.most_needed-most.ensures.some) in
     let same : c.in_ok-workqueues.workqueues ≡ planned f heights most =
     c.in_ok-workqueues.ensures.plan ∙ ap (λ (l : List ℕ). planned f l most) c.as_slice-2.ensures.value in
-    subst (λ (a : Assigned). IsSafe (wiring_of (declared_waits a.declared) a.workqueues)) (sym c.new.ensures)
-    (subst (λ (ws : Workqueues). IsSafe (wiring_of d ws)) (sym same) safe)
+    let declared : c.start.inside.declared.now ≡ s.declared = ap (λ (a : Assigned). a.declared) c.start.view_is in
+    let here : IsSafe (wiring_of (declared_waits c.start.inside.declared.now) c.in_ok-workqueues.workqueues) =
+    subst (λ (p : Declared). IsSafe (wiring_of (declared_waits p) c.in_ok-workqueues.workqueues)) (sym declared)
+    (subst (λ (ws : Workqueues). IsSafe (wiring_of d ws)) (sym same) safe) in
+    subst (λ (a : Assigned). IsSafe (wiring_of (declared_waits a.declared) a.workqueues)) (sym c.new.ensures) here
 
 pub returns : goal.returns
 returns g c =
@@ -91,9 +94,14 @@ returns g c =
     subst (λ (l : List (List WaitArc)). AreHeights l f heights) c.requires.graph c.in_ok-heights.ensures.heights in
     let same : c.in_ok-workqueues.workqueues ≡ planned f heights most =
     c.in_ok-workqueues.ensures.plan ∙ ap (λ (l : List ℕ). planned f l most) c.as_slice-2.ensures.value in
-    let order : IsOrder d c.in_ok-workqueues.workqueues c.in_ok-order.order.items =
+    let declared : c.start.inside.declared.now ≡ s.declared = ap (λ (a : Assigned). a.declared) c.start.view_is in
+    let here : IsOrder (declared_waits c.start.inside.declared.now) c.in_ok-workqueues.workqueues
+        c.in_ok-order.order.items =
     subst (λ (a : Assigned). IsOrder (declared_waits a.declared) a.workqueues c.in_ok-order.order.items) c.new.ensures
     c.in_ok-order.ensures.order in
+    let order : IsOrder d c.in_ok-workqueues.workqueues c.in_ok-order.order.items =
+    subst (λ (p : Declared). IsOrder (declared_waits p) c.in_ok-workqueues.workqueues c.in_ok-order.order.items)
+    declared here in
     record {
       answer =
           IsPlannedAround-planned d f (IsDeclaration-assigned s c.workqueues-started.ensures.assigned) c.requires.fixed
