@@ -96,43 +96,43 @@ module _ (graph : List (List WaitArc)) (f : Fixed) where
   -- from the heights of the lanes that its arcs lead to
   module _ (heights : List ℕ) (v n : ℕ) (each : (w : ℕ) → HasArc graph v w → IsHeight graph f w (slice_index heights w))
     where
-    abbrev over : WaitArc → ℕ
-    over a = slice_index heights a.head
+      abbrev over : WaitArc → ℕ
+      over a = slice_index heights a.head
 
-    abbrev most_over : ℕ
-    most_over = fold max 0 (map over (arcs_at graph v))
+      abbrev most_over : ℕ
+      most_over = fold max 0 (map over (arcs_at graph v))
 
-    module _ (is : n ≡ most_over + one_if_new (fixed_lanes f) v) where
-      step-most : (more : List ℕ) → IsChain (HasArc graph) (v ∷ more) → new_among f (v ∷ more) ≤ n
-      step-most [] chain = omega (arith, new_among-cons f v [], is)
-      step-most (w ∷ ws) chain =
-          let arc = chain.0 in
-          let on : new_among f (w ∷ ws) ≤ slice_index heights w = (each w arc).most ws chain.1 in
-          let le : over arc.1 ≤ most_over =
-          most_from-le 0 (map over (arcs_at graph v)) (over arc.1)
-          (Contains-map over (arcs_at graph v) arc.1 (arc.0, arc.2, arc.3)) in
-          let same : over arc.1 ≡ slice_index heights w = ap (slice_index heights) arc.4 in
-          omega (arith, new_among-cons f v (w ∷ ws), on, le, same, is)
+      module _ (is : n ≡ most_over + one_if_new (fixed_lanes f) v) where
+        step-most : (more : List ℕ) → IsChain (HasArc graph) (v ∷ more) → new_among f (v ∷ more) ≤ n
+        step-most [] chain = omega (arith, new_among-cons f v [], is)
+        step-most (w ∷ ws) chain =
+            let arc = chain.0 in
+            let on : new_among f (w ∷ ws) ≤ slice_index heights w = (each w arc).most ws chain.1 in
+            let le : over arc.1 ≤ most_over =
+            most_from-le 0 (map over (arcs_at graph v)) (over arc.1)
+            (Contains-map over (arcs_at graph v) arc.1 (arc.0, arc.2, arc.3)) in
+            let same : over arc.1 ≡ slice_index heights w = ap (slice_index heights) arc.4 in
+            omega (arith, new_among-cons f v (w ∷ ws), on, le, same, is)
 
-      pub IsHeight-step : IsHeight graph f v n
-      IsHeight-step = elim (most_from-some 0 (map over (arcs_at graph v))) [
-        | inl none ↦ record {
-          others = [];
-          chain = tt;
-          count = omega (arith, new_among-cons f v [], none, is);
-          most = step-most;
-        }
-        | inr there ↦
-            let found = Contains-from_map over (arcs_at graph v) most_over there in
-            let arc : HasArc graph v found.0.head = (found.1.0, found.0, found.1.1, found.1.2, refl) in
-            let on = each found.0.head arc in
-            record {
-              others = found.0.head ∷ on.others;
-              chain = (arc, on.chain);
-              count = omega (arith, new_among-cons f v (found.0.head ∷ on.others), on.count, found.2, is);
-              most = step-most;
-            }
-      ]
+        pub IsHeight-step : IsHeight graph f v n
+        IsHeight-step = elim (most_from-some 0 (map over (arcs_at graph v))) [
+          | inl none ↦ record {
+            others = [];
+            chain = tt;
+            count = omega (arith, new_among-cons f v [], none, is);
+            most = step-most;
+          }
+          | inr there ↦
+              let found = Contains-from_map over (arcs_at graph v) most_over there in
+              let arc : HasArc graph v found.0.head = (found.1.0, found.0, found.1.1, found.1.2, refl) in
+              let on = each found.0.head arc in
+              record {
+                others = found.0.head ∷ on.others;
+                chain = (arc, on.chain);
+                count = omega (arith, new_among-cons f v (found.0.head ∷ on.others), on.count, found.2, is);
+                most = step-most;
+              }
+        ]
 
   -- heights are small
   module _ (ranks : List ℕ) (sound : IsGraph graph) (ranked : AreRanks graph ranks) where

@@ -137,8 +137,11 @@ module _ (d : Declaration) (f : Fixed) (declaration : IsDeclaration d) (fixed : 
       let falls = number-falls (fixed_lanes f) heights ranks p q
       (heights-fall (start_graph d f) f heights sound are p q vertex arc)
       (AreRanks-fall (start_graph d f) ranks sound ranked p q vertex arc)
-      (omega (arith, AreRanks-few (start_graph d f) ranks sound ranked p 0 (omega (arith, vertex, ranked.one_each)),
-      sound.few))
+      (omega (
+        arith,
+        AreRanks-few (start_graph d f) ranks sound ranked p 0 (omega (arith, vertex, ranked.one_each)),
+        sound.few,
+      ))
       (λ new. heights-new (start_graph d f) f heights sound are p new vertex)
       (λ new. heights-new (start_graph d f) f heights sound are q new (lane-vertex j target)) in (
         sym (here j target) ∙ to,

@@ -108,9 +108,10 @@ module _ (d : Declaration) (f : Fixed) (fixed : IsFixed d.groups f) (heights : L
         one_each = length-map lanes (planned_lane heights (fixed_lanes f)) ∙ assigned.one_each;
         within = planned-within (fixed_lanes f) heights most lanes
             (subst (λ (n : ℕ). All (λ q. q < n) lanes) (sym (are.one_each ∙ long)) assigned.within)
-            (λ q from inside.
-            (heights-new (start_graph d f) f heights sound are q from (omega (arith, inside, are.one_each)),
-            above q from inside));
+            (λ q from inside. (
+              heights-new (start_graph d f) f heights sound are q from (omega (arith, inside, are.one_each)),
+              above q from inside,
+            ));
       }
 
   module _ (down : AllLeadDown (start_graph d f) (fixed_lanes f) heights)

@@ -74,23 +74,9 @@ fn plan_by_ranks<A: Allocator + Copy>(
     let started = start.workqueues();
     let heights = heights(alloc, graph, ranks, fixed)?;
     let most = most_needed(heights.as_slice(), new);
-    let workqueues = place(
-        alloc,
-        fixed,
-        started.assignment(),
-        heights.as_slice(),
-        most,
-    )?;
+    let workqueues = place(alloc, fixed, started.assignment(), heights.as_slice(), most)?;
     let order = order_of(alloc, &Assigned::new(start.declared, &workqueues))?;
-    let chain = needed_chain(
-        alloc,
-        start,
-        fixed,
-        graph,
-        ranks,
-        heights.as_slice(),
-        most,
-    )?;
+    let chain = needed_chain(alloc, start, fixed, graph, ranks, heights.as_slice(), most)?;
     Ok(Around::Plan {
         workqueues,
         order,

@@ -120,7 +120,7 @@ loop-place-preserved g c =
       | then-not-is_end w ↦
           let more = leads_by new heights v (sym c.is_end.ensures ∙ w.if-not-is_end.true) in
           let is : w.fewest_doubts-fewest.result
-              ≡ least_of (map (doubts_by unsure now) (filter (leads_on heights new v) (arcs_at graph v))) =
+          ≡ least_of (map (doubts_by unsure now) (filter (leads_on heights new v) (arcs_at graph v))) =
           w.fewest_doubts-fewest.ensures
           ∙ ap (λ (l : List ℕ). least_of (map (doubts_by unsure l)
           (filter (leads_on heights new v) w.arcs-arcs.result.now))) w.as_slice.ensures.value

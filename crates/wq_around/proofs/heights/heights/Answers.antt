@@ -68,7 +68,7 @@ overflow_add-below g c =
     c.places-lane-items.ensures c.loop-lane-test.true in
     let v : ℕ = slice_index c.places-lane-items.result.now c.loop-lane.lane-index in
     let below : c.greatest-below.result
-        ≡ fold max 0 (map (λ (a : WaitArc). slice_index c.loop-lane.heights.items a.head) c.arcs.result.now) =
+    ≡ fold max 0 (map (λ (a : WaitArc). slice_index c.loop-lane.heights.items a.head) c.arcs.result.now) =
     c.greatest-below.ensures
     ∙ ap (λ (l : List ℕ). fold max 0 (map (λ (a : WaitArc). slice_index l a.head) c.arcs.result.now))
     c.as_slice.ensures.value in
@@ -79,8 +79,11 @@ overflow_add-below g c =
     c.loop-rank.rank c.loop-lane.lane-index c.places-lane-items.result.now c.loop-lane.heights.items
     c.loop-lane.invariant.0 at.1 at.2 c.arcs.result.now c.greatest-below.result c.from-in-loop-lane.result
     c.arcs.ensures below one in
-    omega (arith, IsHeight-few c.args.graph.now c.args.fixed.now c.args.ranks.now c.requires.graph c.requires.ranks v
-    (c.greatest-below.result + c.from-in-loop-lane.result) (omega (arith, at.1, c.requires.ranks.one_each)) is)
+    omega (
+      arith,
+      IsHeight-few c.args.graph.now c.args.fixed.now c.args.ranks.now c.requires.graph c.requires.ranks v
+          (c.greatest-below.result + c.from-in-loop-lane.result) (omega (arith, at.1, c.requires.ranks.one_each)) is,
+    )
 
 pub index_mut-requires : goal.index_mut-requires
 index_mut-requires g c =
@@ -99,7 +102,7 @@ loop-lane-preserved g c =
     let v : ℕ = slice_index c.places-lane-items.result.now c.loop-lane.lane-index in
     let n : ℕ = c.greatest-below.result + c.from-in-loop-lane.result in
     let below : c.greatest-below.result
-        ≡ fold max 0 (map (λ (a : WaitArc). slice_index c.loop-lane.heights.items a.head) c.arcs.result.now) =
+    ≡ fold max 0 (map (λ (a : WaitArc). slice_index c.loop-lane.heights.items a.head) c.arcs.result.now) =
     c.greatest-below.ensures
     ∙ ap (λ (l : List ℕ). fold max 0 (map (λ (a : WaitArc). slice_index l a.head) c.arcs.result.now))
     c.as_slice.ensures.value in

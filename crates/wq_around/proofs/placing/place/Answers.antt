@@ -26,14 +26,15 @@ unwrap-assignment-requires g c =
     c.as_slice.ensures.value ∙ c.in_ok-start.ensures.lanes
     ∙ ap (λ (a : Assignment). a.lane_of_group) c.requires.start in
     let put : c.in_ok-lanes.lanes.items
-        ≡ map (planned_lane c.args.heights.now c.lanes-new.result) (start_of f).assignment.lane_of_group =
+    ≡ map (planned_lane c.args.heights.now c.lanes-new.result) (start_of f).assignment.lane_of_group =
     c.in_ok-lanes.ensures ∙ ap (map (planned_lane c.args.heights.now c.lanes-new.result)) lanes in
     let within : All (λ l. l < c.lanes-new.result + c.args.most) c.in_ok-lanes.lanes.items =
     subst (All (λ l. l < c.lanes-new.result + c.args.most)) (sym put)
     (planned-within c.lanes-new.result c.args.heights.now c.args.most (start_of f).assignment.lane_of_group
     (subst (λ (n : ℕ). All (λ q. q < n) (start_of f).assignment.lane_of_group) (sym c.requires.one_each)
     is.assignment.within)
-    (λ q from inside.
-    (c.requires.some q (omega (arith, from, c.lanes-new.ensures.lanes)) inside,
-    c.requires.most q (omega (arith, from, c.lanes-new.ensures.lanes)) inside))) in
+    (λ q from inside. (
+      c.requires.some q (omega (arith, from, c.lanes-new.ensures.lanes)) inside,
+      c.requires.most q (omega (arith, from, c.lanes-new.ensures.lanes)) inside,
+    ))) in
     c.new.ensures.exactly.1 (omega (arith, c.requires.lanes, c.lanes-new.ensures.lanes), within)

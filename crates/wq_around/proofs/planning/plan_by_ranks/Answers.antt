@@ -96,7 +96,7 @@ returns g c =
     c.in_ok-workqueues.ensures.plan ∙ ap (λ (l : List ℕ). planned f l most) c.as_slice-2.ensures.value in
     let declared : c.start.inside.declared.now ≡ s.declared = ap (λ (a : Assigned). a.declared) c.start.view_is in
     let here : IsOrder (declared_waits c.start.inside.declared.now) c.in_ok-workqueues.workqueues
-        c.in_ok-order.order.items =
+    c.in_ok-order.order.items =
     subst (λ (a : Assigned). IsOrder (declared_waits a.declared) a.workqueues c.in_ok-order.order.items) c.new.ensures
     c.in_ok-order.ensures.order in
     let order : IsOrder d c.in_ok-workqueues.workqueues c.in_ok-order.order.items =
