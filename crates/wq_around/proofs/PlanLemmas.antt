@@ -1,10 +1,9 @@
 -- The plan that heights make is safe, and takes as few new workqueues as can be.
 use Rattle.std.proofs.Common.{◌≡◌, ℕ, ◌+◌, ◌-◌, ◌*◌, ◌<◌, ◌≤◌, inl, inr, cond, ltb, List, [], ◌∷◌, length}
-use Rattle.std.proofs.Common.{slice_index, refl, sym, ap, subst, ◌∙◌, arith}
+use Rattle.std.proofs.Common.{slice_index, sym, ap, subst, ◌∙◌, arith}
 use Rattle.std.specs.List.{All}
 use Rattle.std.proofs.lemmas.Bool.{cases_lt, lt-ltb, le-ltb, cond-true, cond-false}
 use Rattle.wq_items.specs.Chain.{Circle}
-use Rattle.wq_items.specs.Table.{ItemWaits}
 use Rattle.wq_groups.specs.Declaration.{Declaration, IsDeclaration}
 use Rattle.wq_groups.specs.Assignment.{IsAssignment, IsAssignmentOf, group_lane}
 use Rattle.wq_groups.proofs.Declarations.{waiting-item, awaited-item}
@@ -15,12 +14,12 @@ use Rattle.wq_levels.specs.Ranks.{AreRanks}
 use Rattle.wq_levels.proofs.Ranks.{AreRanks-fall, AreRanks-few}
 use Rattle.wq_core.specs.Wiring.{HasRescuer, RescuedWaits, lane_of}
 use Rattle.wq_core.specs.Workqueues.{Workqueues, wiring_of}
-use Rattle.wq_core.specs.Deadlock.{IsSafe, Deadlocks}
+use Rattle.wq_core.specs.Deadlock.{IsSafe}
 use Rattle.wq_core.proofs.CircleKnots.{Deadlocks-rescued_circle}
 use Rattle.wq_core.proofs.Safety.{IsSafe-rescued}
 use Rattle.wq_deadlock.specs.Judging.{bare_waits}
 use Rattle.wq_deadlock.proofs.BareLanes.{IsWiring-workqueues}
-use Rattle.wq_fixed.specs.Fixed.{Fixed, IsFixed, IsLeastAround, Keeps, fixed_lanes, new_among, start}
+use Rattle.wq_fixed.specs.Fixed.{Fixed, IsFixed, IsLeastAround, Keeps, fixed_lanes, start}
 use Rattle.wq_fixed.proofs.ChainsOfStart.{Circle-fewer}
 use Rattle.wq_fixed.proofs.Kept.{rescuer_here}
 use Rattle.wq_fixed.proofs.StartKeeps.{Keeps-start, IsAssignmentOf-start}

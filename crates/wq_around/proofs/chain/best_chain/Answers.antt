@@ -1,5 +1,5 @@
-use Rattle.std.proofs.Common.{◌≡◌, ◌∙◌, ℕ, Bool, false, List, slice_index_or, sym, subst}
-use Rattle.wq_around.specs.Down.{AreDoubts, IsFirstTop, IsFirstDown, IsBestDown}
+use Rattle.std.proofs.Common.{ℕ, Bool, false, List, slice_index_or, subst}
+use Rattle.wq_around.specs.Down.{IsFirstTop, IsFirstDown, IsBestDown}
 use Rattle.wq_around.proofs.FirstDown.{IsBestDown-first}
 use Rattle.wq_around.proofs.Outcomes.{IfOk-then}
 use Rattle.wq_around.proofs.chain.best_chain.Goals as goal

@@ -1,4 +1,4 @@
-use Rattle.std.proofs.Common.{◌≡◌, ◌+◌, ◌++◌, ◌∷◌, ◌<◌, ℕ, Bool, false, List, [], length, find, Some, None, slice_index}
+use Rattle.std.proofs.Common.{◌≡◌, ◌++◌, ◌∷◌, ◌<◌, ℕ, Bool, false, List, [], length, find, Some, slice_index}
 use Rattle.std.proofs.Common.{slice_index_or, refl, sym, ap, subst, ◌∙◌, append_assoc, append-nil, arith}
 use Rattle.std.proofs.lemmas.Option.{same_Some, none-some}
 use Rattle.wq_graph.specs.declared.arc.WaitArc.{WaitArc}

@@ -1,9 +1,7 @@
-use Rattle.std.proofs.Common.{◌≡◌, ◌+◌, ◌<◌, ℕ, List, length, get_or, map, slice_index, sym, ap, subst, ◌∙◌, inl, inr, arith}
+use Rattle.std.proofs.Common.{◌≡◌, ◌+◌, ◌<◌, ℕ, length, map, sym, ap, subst, ◌∙◌, arith}
 use Rattle.std.specs.List.{All}
-use Rattle.std.proofs.lemmas.Bool.{cases_lt}
-use Rattle.std.proofs.lemmas.List.Elements.{All-map}
 use Rattle.wq_groups.specs.Assignment.{Assignment}
-use Rattle.wq_fixed.specs.Fixed.{fixed_lanes, start as start_of}
+use Rattle.wq_fixed.specs.Fixed.{start as start_of}
 use Rattle.wq_fixed.proofs.StartKeeps.{IsAssignmentOf-start}
 use Rattle.wq_around.specs.Planned.{planned_lane}
 use Rattle.wq_around.proofs.PlannedLanes.{planned-within}

@@ -1,4 +1,4 @@
-use Rattle.std.proofs.Common.{◌≡◌, sym, ap, subst, ◌∙◌}
+use Rattle.std.proofs.Common.{ap, ◌∙◌}
 use Rattle.wq_groups.specs.DeclaredGroups.{declared_waits}
 use Rattle.wq_levels.specs.Walks.{IsWalkedCircle}
 use Rattle.wq_deadlock.specs.Judging.{rescued_graph}
