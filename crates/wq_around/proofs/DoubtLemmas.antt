@@ -6,7 +6,8 @@ use Rattle.std.specs.Prelude.{Contains, filter}
 use Rattle.std.specs.List.{All}
 use Rattle.std.proofs.lemmas.Bool.{cases_eq, cases_lt}
 use Rattle.std.proofs.lemmas.List.{get_or_past, get_or-set_same, get_or-set_other, get_or-replicate, length-replicate}
-use Rattle.std.proofs.lemmas.List.Elements.{All-contains, All-contains_itself, All-filter, All-from_get_or, filter_passes}
+use Rattle.std.proofs.lemmas.List.Elements.{All-contains, All-contains_itself, All-filter, All-from_get_or}
+use Rattle.std.proofs.lemmas.List.Elements.{filter_passes}
 use Rattle.std.proofs.lemmas.List.Sums.{sum_by-cons}
 use Rattle.wq_buckets.specs.Places.{buckets_of}
 use Rattle.wq_items.proofs.Lists.{Contains-filtered}
@@ -17,7 +18,8 @@ use Rattle.wq_levels.proofs.Graphs.{arcs_at-below}
 use Rattle.wq_levels.proofs.Ranks.{AreRanks-fall, AreRanks-few}
 use Rattle.wq_plan.specs.Plan.{lanes_of, least_of}
 use Rattle.wq_plan.proofs.LeastOf.{least_by-le, least_by-some}
-use Rattle.wq_around.specs.Down.{one_if_new, leads_on, LeadsDown, AllLeadDown, doubts_on, doubts_by, IsFewest, AreDoubts}
+use Rattle.wq_around.specs.Down.{one_if_new, leads_on, LeadsDown, AllLeadDown, doubts_on, doubts_by, IsFewest}
+use Rattle.wq_around.specs.Down.{AreDoubts}
 use Rattle.wq_around.proofs.HeightLemmas.{one_if_new-cases}
 use Rattle.wq_around.proofs.SoFar.{AreSoFar, AreSoFar-none, AreSoFar-set, AreSoFar-kept, AreSoFar-taken, AreSoFar-all}
 
@@ -132,7 +134,8 @@ module _ (unsure : ℕ → Bool) (graph : List (List WaitArc)) (new : ℕ) (heig
         let size : length now ≡ length ranks = ap (λ (l : List ℕ). length l) zeros
         ∙ length-replicate {A = ℕ} (length ranks) 0 in
         let at : (q : ℕ) → slice_index now q ≡ 0 = λ q. elim (cases_lt q (length ranks)) [
-          | inl within ↦ ap (λ (l : List ℕ). slice_index l q) zeros ∙ get_or-replicate {A = ℕ} (length ranks) q 0 0 within
+          | inl within ↦
+              ap (λ (l : List ℕ). slice_index l q) zeros ∙ get_or-replicate {A = ℕ} (length ranks) q 0 0 within
           | inr past ↦ get_or_past now q 0 (omega (arith, past, size))
         ] in
         record {
@@ -157,8 +160,8 @@ module _ (unsure : ℕ → Bool) (graph : List (List WaitArc)) (new : ℕ) (heig
         below : (a : WaitArc) → Contains (arcs_at graph v) a → a.head < length ranks
         below a there =
             let inside : a.head < length graph =
-            All-contains (λ (b : WaitArc). b.head < length graph) (arcs_at graph v) a (arcs_at-below graph sound v) there
-            in
+            All-contains (λ (b : WaitArc). b.head < length graph) (arcs_at graph v) a (arcs_at-below graph sound v)
+            there in
             omega (arith, inside, ranked.one_each)
 
         -- a lane from which a chain leads on

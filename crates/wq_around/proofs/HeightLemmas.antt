@@ -1,5 +1,6 @@
 -- Heights: what the arcs of a lane say of its height.
-use Rattle.std.proofs.Common.{◌≡◌, ◌≢◌, ℕ, ◌+◌, ◌<◌, ◌≤◌, ◌⊎◌, inl, inr, Bool, true, false, cond, nat_le, List, [], ◌∷◌, length}
+use Rattle.std.proofs.Common.{◌≡◌, ◌≢◌, ℕ, ◌+◌, ◌<◌, ◌≤◌, ◌⊎◌, inl, inr, Bool, true, false, cond}
+use Rattle.std.proofs.Common.{nat_le, List, [], ◌∷◌, length}
 use Rattle.std.proofs.Common.{map, fold, max, slice_index, refl, sym, ap, subst, arith}
 use Rattle.std.specs.Prelude.{Contains}
 use Rattle.std.specs.List.{Any}
@@ -59,12 +60,6 @@ one_if_new-byte new q = by (nat_le new q)
     by : (b : Bool) → bool_byte b ≡ cond b 1 0
     by true = refl
     by false = refl
-
-pub one_if_new-few : (new q : ℕ) → one_if_new new q ≤ 1
-one_if_new-few new q = elim (one_if_new-cases new q) [
-  | inl fixed ↦ omega (arith, fixed.1)
-  | inr from ↦ omega (arith, from.1)
-]
 
 pub new_among-cons : (f : Fixed) (q : ℕ) (qs : List ℕ) → new_among f (q ∷ qs) ≡ one_if_new (fixed_lanes f) q
     + new_among f qs

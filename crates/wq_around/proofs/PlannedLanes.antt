@@ -54,7 +54,8 @@ planned-within new heights most lanes within each =
           omega (arith, planned-new new heights q from, height.0, height.1)
     ])
 
-module _ (d : Declaration) (f : Fixed) (fixed : IsFixed d.groups f) (heights : List ℕ) (sound : IsGraph (start_graph d f))
+module _ (d : Declaration) (f : Fixed) (fixed : IsFixed d.groups f) (heights : List ℕ)
+    (sound : IsGraph (start_graph d f))
     (long : length (start_graph d f) ≡ (start f).assignment.lanes) (are : AreHeights (start_graph d f) f heights)
     (most : ℕ)
     (above : (q : ℕ) → fixed_lanes f ≤ q → q < length heights → slice_index heights q ≤ most) where
@@ -122,8 +123,8 @@ module _ (d : Declaration) (f : Fixed) (fixed : IsFixed d.groups f) (heights : L
     held-lane q from below =
         let first = top (omega (arith, from, below)) in
         let chain = down first.0 (omega (arith, first.1.2, from, below)) in
-        let found = down-passes (start_graph d f) (fixed_lanes f) heights (q + 1 - fixed_lanes f) first.0 chain.0 chain.1
-        (omega (arith, from)) (omega (arith, first.1.2, from, below)) in
+        let found = down-passes (start_graph d f) (fixed_lanes f) heights (q + 1 - fixed_lanes f) first.0 chain.0
+        chain.1 (omega (arith, from)) (omega (arith, first.1.2, from, below)) in
         (found.0, found.1, omega (arith, found.2, from))
 
     pub IsPlanAround-planned : IsPlanAround d f (planned f heights most)

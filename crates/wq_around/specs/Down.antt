@@ -10,8 +10,8 @@ use Rattle.wq_graph.specs.Graph.{arcs_at}
 abbrev pub one_if_new : ℕ → ℕ → ℕ
 one_if_new new q = if nat_le new q then 1 else 0
 
--- a chain may follow the arc from lane q: from a new lane to one whose height is less by one, and from a fixed one to one
--- of the same height
+-- a chain may follow the arc from lane q: from a new lane to one whose height is less by one, and from a fixed one to
+-- one of the same height
 abbrev pub leads_on : List ℕ → ℕ → ℕ → WaitArc → Bool
 leads_on heights new q arc = slice_index heights arc.head + one_if_new new q == slice_index heights q
 

@@ -23,8 +23,8 @@ unsure_arcs d chain = filter (λ (arc : WaitArc). is_among (unsure_places d.wait
 abbrev pub tail_of : Declaration → Fixed → WaitArc → ℕ
 tail_of d f arc = item_lane (start f).assignment d.group_of arc.src
 
--- the first chain comes no later where the two part: it begins at the lower-numbered lane, or of two arcs of one lane it
--- goes on by the one of lower place
+-- the first chain comes no later where the two part: it begins at the lower-numbered lane, or of two arcs of one lane
+-- it goes on by the one of lower place
 abbrev pub ComesFirst : Declaration → Fixed → List WaitArc → List WaitArc → Type 0
 ComesFirst d f [] other = ⊤
 ComesFirst d f (x ∷ chain) [] = ⊤

@@ -3,8 +3,8 @@ use Rattle.std.specs.Prelude.{ℕ, ◌+◌, ◌-◌, nat_lt, if◌then◌else◌
 use Rattle.wq_core.specs.Workqueues.{Workqueues}
 use Rattle.wq_fixed.specs.Fixed.{Fixed, fixed_lanes, start}
 
--- the lane of a group that is on lane q in the start, where lanes from `new` on are new: a fixed one stays, and in place
--- of a new one of height n there is the nth new one
+-- the lane of a group that is on lane q in the start, where lanes from `new` on are new: a fixed one stays, and in
+-- place of a new one of height n there is the nth new one
 abbrev pub planned_lane : List ℕ → ℕ → ℕ → ℕ
 planned_lane heights new q = if nat_lt q new then q else new + slice_index heights q - 1
 

@@ -1,8 +1,8 @@
 //! The chain that is printed: a chain of the start with the most new workqueues, and as few unsure flushes as can be.
 //!
-//! The rule is that of "Planning around workqueues" in docs/FORMAT.md. With how few unsure flushes a chain leads on from
-//! each workqueue is found by their ranks, from below; then the chain is followed. It takes time in the number of
-//! workqueues and arcs, and memory in the number of workqueues.
+//! The rule is that of "Planning around workqueues" in docs/FORMAT.md. With how few unsure flushes a chain leads on
+//! from each workqueue is found by their ranks, from below; then the chain is followed. It takes time in the number
+//! of workqueues and arcs, and memory in the number of workqueues.
 
 ghost use Rattle.std.specs.Prelude.{◌≡◌, ◌+◌, ◌<◌, ◌≤◌, ◌==◌, ◌&&◌, nat_le, false, ℕ, List, length, slice_index};
 ghost use Rattle.std.specs.Prelude.{slice_index_or, filter, map, if◌then◌else◌, IfOk, OnErr, IfSome, IfNone};
@@ -28,8 +28,8 @@ fn is_end(heights: &[u16], new: u16, lane: u16) -> bool
     lane >= new && heights[usize::from(lane)] == 1
 }
 
-/// Whether a chain may follow an arc of a workqueue: from a new one to one whose height is less by one, and from a fixed
-/// one to one of the same height.
+/// Whether a chain may follow an arc of a workqueue: from a new one to one whose height is less by one, and from a
+/// fixed one to one of the same height.
 fn leads_on(heights: &[u16], new: u16, lane: u16, arc: &WaitArc) -> bool
     requires lane { lane < length heights.now }
     requires head { arc.now.head < length heights.now }
@@ -39,7 +39,8 @@ fn leads_on(heights: &[u16], new: u16, lane: u16, arc: &WaitArc) -> bool
     heights[usize::from(arc.head)] + u16::from(lane >= new) == heights[usize::from(lane)]
 }
 
-/// With how few unsure flushes a chain leads on by way of an arc, where `doubts` has these numbers of all workqueues below.
+/// With how few unsure flushes a chain leads on by way of an arc, where `doubts` has these numbers of all workqueues
+/// below.
 fn doubts_by(unsure: &[bool], doubts: &[u16], arc: &WaitArc) -> u16
     requires head { arc.now.head < length doubts.now }
     requires few { slice_index doubts.now arc.now.head < 4096 }

@@ -1,8 +1,8 @@
 //! Heights: for each workqueue of the start the greatest number of new ones on a chain that begins there.
 //!
 //! The rule is that of "Planning around workqueues" in docs/FORMAT.md. Workqueues are gone through by their ranks, so
-//! those that one waits for come before it. It takes time in the number of workqueues and arcs, and memory in the number
-//! of workqueues.
+//! those that one waits for come before it. It takes time in the number of workqueues and arcs, and memory in the
+//! number of workqueues.
 
 ghost use Rattle.std.specs.Prelude.{◌≡◌, ◌<◌, ◌≤◌, length, slice_index, map, max, fold, replicate, IfOk, OnErr};
 ghost use Rattle.std.specs.List.{All};

@@ -1,8 +1,8 @@
 //! The fewest new workqueues for groups that are on none of the fixed ones.
 //!
-//! In the start each of these groups has a new workqueue for itself. If that hangs, so do all workqueues that keep the
-//! fixed ones. Otherwise each goes to the new workqueue of its height. It takes the time of the wait graphs of the start
-//! and of the plan, and of their ranks.
+//! In the start each of these groups has a new workqueue for itself. If that hangs, so do all workqueues that keep
+//! the fixed ones. Otherwise each goes to the new workqueue of its height. It takes the time of the wait graphs of
+//! the start and of the plan, and of their ranks.
 
 ghost use Rattle.std.specs.Prelude.{◌≡◌, ◌<◌, ◌≤◌, ℕ, [], IfOk};
 ghost use Rattle.std.specs.List.{All};
@@ -27,8 +27,8 @@ use wq_graph::{WaitArc, WaitGraph};
 use wq_levels::{Ranked, rank};
 use wq_plan::unsure_flushes;
 
-/// The chain that shows how many new workqueues are needed, where these are the graph of the start, its ranks, the heights
-/// and the greatest height of a new workqueue; no arc if none is needed.
+/// The chain that shows how many new workqueues are needed, where these are the graph of the start, its ranks, the
+/// heights and the greatest height of a new workqueue; no arc if none is needed.
 fn needed_chain<A: Allocator + Copy>(
     alloc: A,
     start: &Assigned<'_, '_, A>,
