@@ -110,8 +110,12 @@ impl<A: Allocator + Copy> Flushes<A> {
         ensures ok { OnOk result (self.new ≡ slice_set self.old i (targets_of self.old i ++ (target ∷ []))) }
         ensures err { OnErr result (self.new ≡ self.old) }
     {
-        let item = ItemId::new(i as u16);
-        push(&mut self.flushes, Flush { item, target })?;
+        let flushes = &mut self.flushes;
+        let flush = Flush {
+            item: ItemId::new(i as u16),
+            target,
+        };
+        push(flushes, flush)?;
         Ok(())
     }
 
