@@ -96,8 +96,10 @@ PLANS = [
     # Of two arcs the one of least place, though it leads through a workqueue that isn't counted.
     (BESIDE, [("wq 0 x", "plan 2 / wq 1 b / wq 2 a / order 1 0 2 / chain 3 / arc a x / arc x b")]),
     # As low as can be: `c` is waited for by nobody.
-    ("item a / item b / item c / flush a b", [("wq 0", "plan 2 / wq 1 b c / wq 2 a / order 0 1 2 / chain 2 / arc a b")]),
-    # Of two chains the one that begins at the lowest-numbered workqueue of the start; but the one that is sure comes first.
+    ("item a / item b / item c / flush a b", [
+        ("wq 0", "plan 2 / wq 1 b c / wq 2 a / order 0 1 2 / chain 2 / arc a b"),
+    ]),
+    # Of two chains the one that begins at the lowest-numbered workqueue of the start; but one that is sure comes first.
     ("item a / item b / item c / item d / flush b d / flush a c", [
         ("wq 0", "plan 2 / wq 1 c d / wq 2 a b / order 0 1 2 / chain 2 / arc a c"),
     ]),
@@ -109,7 +111,9 @@ PLANS = [
         ("wq 0 v w / wq 1 x y", "plan 2 / wq 2 b / wq 3 a / order 2 1 0 3 / chain 4 / arc a v / arc w x / arc y b"),
     ]),
     # A free group of two items.
-    ("item a / item b / item c / ordered a b / flush b c", [("wq 0", "plan 2 / wq 1 c / wq 2 a b / order 0 1 2 / chain 2 / arc b c")]),
+    ("item a / item b / item c / ordered a b / flush b c", [
+        ("wq 0", "plan 2 / wq 1 c / wq 2 a b / order 0 1 2 / chain 2 / arc b c"),
+    ]),
     # Unsure flushes count.
     ("item a / item b / flush? a b", [
         ("wq 0", "plan 2 / wq 1 b / wq 2 a / order 0 1 2 / chain 2 / arc a b"),
@@ -181,7 +185,10 @@ CHECKS = [
         ("circle 1 / arc a b", "no 53 1"),
         ("norescuer 1 / arc a b", "no 55"),
     ]),
-    ("item a / item b / item c / flush a b", "norescuer 0 b c", [("norescuer 1 / arc a c", "no 55"), ("norescuer 1 / arc a b", "yes norescuer")]),
+    ("item a / item b / item c / flush a b", "norescuer 0 b c", [
+        ("norescuer 1 / arc a c", "no 55"),
+        ("norescuer 1 / arc a b", "yes norescuer"),
+    ]),
     # It ends stuck, and doesn't deadlock: `b` isn't queued.
     ("item a / item b / flush a a", "wq 0 a", [
         ("circle 1 / arc a a / run 3 / queue a / start 0 a / wait 0 a", "no 54"),
