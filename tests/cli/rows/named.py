@@ -142,6 +142,20 @@ HELD = [
         ("n", ["unsure 1 / flush? n a / run 6 / queue n / queue a / start 0 n / wait 0 a / start 1 a / wait 1 a"]),
         ("a", ["unsure 0 / run 3 / queue a / start 1 a / wait 1 a"]),
     ]),
+    # By `flushwq?`; and of two flushes the sure one.
+    ("item n / item a / item b / flushwq? n b / flush a a", "wq 0 n / wq 1 a b", [
+        ("n", ["unsure 1 / flushwq? n b / run 6 / queue n / queue a / start 0 n / waitwq 0 b / start 1 a / wait 1 a"]),
+        ("b", ["unsure 0 / run 4 / queue a / queue b / start 1 a / wait 1 a"]),
+    ]),
+    ("item n / item a / flush? n a / flush n a / flush a a", "wq 0 n / wq 1 a", [
+        ("n", ["unsure 0 / run 6 / queue n / queue a / start 0 n / wait 0 a / start 1 a / wait 1 a"]),
+    ]),
+    # Only what it takes is printed.
+    ("item n / item a / flush? n a / flush? a n / flush? n n", "wq 0 n / wq 1 a", [
+        ("n", ["unsure 1 / flush? n n / run 3 / queue n / start 0 n / wait 0 n"]),
+        ("a", ["unsure 2 / flush? n a / flush? a n / run 6 / queue a / queue n / start 1 a / wait 1 n / start 0 n / wait 0 a",
+               "unsure 2 / flush? a n / flush? n n / run 6 / queue a / queue n / start 1 a / wait 1 n / start 0 n / wait 0 n"]),
+    ]),
     ("item n / item x / flush? n x", "norescuer 0 n / norescuer 1 x", [("n", ["unsure 0 / run 1 / queue n"])]),
     ("item n / item x / flush? n x", "wq 0 n / norescuer 1 x", [
         ("n", ["unsure 1 / flush? n x / run 4 / queue n / queue x / start 0 n / wait 0 x"]),
@@ -215,6 +229,7 @@ CIRCLES = [
     # What is on the workqueue of a NAMEd item counts, whichever item flushes.
     (SELF, "wq 0 a n", [("n", "components 1 / component 1 / arc a a")]),
     (SELF, "wq 0 a / wq 1 n", [("n", "safe")]),
+    ("item n / item x / flush? n x", "wq 0 n / norescuer 1 x", [("n", "components 0 / norescuer 1 / arc? n x"), ("x", "components 0")]),
     ("item n / item a / flush? n a / flush a a", "wq 0 n / wq 1 a", [
         ("n", "components 1 / component 1 / arc a a / ways 1 / arc? n a"),
     ]),
