@@ -1,22 +1,21 @@
 -- Workqueues on which items may be missing: whether their groups are whole, and the lanes of these groups.
-use Rattle.std.proofs.Common.{◌≡◌, ℕ, ◌+◌, ◌<◌, ◌≤◌, ◌==◌, inl, inr, Bool, true, false, not, ◌||◌, cond, ltb, leb}
+use Rattle.std.proofs.Common.{◌≡◌, ℕ, ◌+◌, ◌<◌, ◌≤◌, inl, inr, Bool, true, false, not, ◌||◌, cond, ltb}
 use Rattle.std.proofs.Common.{List, length, get_or, count_by, Option, Some, None, Result, Ok, Err, refl, sym, ap, ap₂}
 use Rattle.std.proofs.Common.{◌∙◌, arith}
-use Rattle.std.specs.Prelude.{slice_get}
-use Rattle.std.specs.List.{list_all, concat, position, position_or_len, range_with_len}
-use Rattle.std.proofs.lemmas.Bool.{cases_Bool, cases_lt, both_ways, lt-ltb, le-ltb, ltb-false}
+use Rattle.std.specs.List.{list_all, concat, range_with_len}
+use Rattle.std.proofs.lemmas.Bool.{cases_Bool, lt-ltb, le-ltb, ltb-false}
 use Rattle.std.proofs.lemmas.List.Folds.{list_all_at}
 use Rattle.std.proofs.lemmas.List.FromFn.{length-range_with_len, get_or-range_with_len}
 use Rattle.std.proofs.lemmas.List.Sums.{list_all-from_AllPass}
 use Rattle.std.proofs.lemmas.Option.{get_or_from_slice_get, slice_get_within}
 use Rattle.wq_groups.specs.Partition.{Partition, IsPartition}
-use Rattle.wq_fixed.specs.Fixed.{Fixed, IsFixed, has_none}
+use Rattle.wq_fixed.specs.Fixed.{IsFixed, has_none}
 use Rattle.wq_cert.specs.declared.fault.CertError.{CertError}
 use Rattle.wq_cert.specs.declared.fault.CertError.TheVariants.{GroupSplit, NumberOutOfRange}
 use Rattle.wq_cert.specs.FixedReading.{is_with_its_group, part_lanes}
-use Rattle.wq_cert.specs.Noted.{marks, lanes_with, AreNoted}
-use Rattle.wq_cert.specs.Reading.{stands_in, holds_member, workqueue_with}
-use Rattle.wq_cert.proofs.LaneLemmas.{HasWorkqueue, HasWorkqueue-held, any_holds, position-none, get_or-lanes_with}
+use Rattle.wq_cert.specs.Noted.{marks, lanes_with}
+use Rattle.wq_cert.specs.Reading.{holds_member, workqueue_with}
+use Rattle.wq_cert.proofs.LaneLemmas.{HasWorkqueue-held, any_holds, position-none, get_or-lanes_with}
 use Rattle.wq_cert.proofs.LaneLemmas.{length-lanes_with}
 use Rattle.wq_cert.proofs.StoodLemmas.{get_or-marks}
 
@@ -30,7 +29,7 @@ is_whole_at stood lanes group_of i = get_or stood i false || has_none (get_or la
 has_none-with : (group_of : List ℕ) (workqueues : List (List ℕ)) (g : ℕ)
     → has_none (workqueue_with group_of workqueues g) ≡ not (holds_member group_of (concat workqueues) g)
 has_none-with group_of workqueues g = elim (cases_Bool (holds_member group_of (concat workqueues) g)) [
-  | inl held ↦ ap has_none (HasWorkqueue-held group_of workqueues g held).is ∙ ap not (sym held)
+  | inl held ↦ let own = HasWorkqueue-held group_of workqueues g held in ap has_none own.is ∙ ap not (sym held)
   | inr free ↦
       ap has_none
       (position-none (λ items. holds_member group_of items g) workqueues (any_holds group_of workqueues g false free))
@@ -154,4 +153,4 @@ IsFixed-part p workqueues lanes bare e long =
 pub length-part : (p : Partition) (workqueues : List (List ℕ)) (lanes : List (Option ℕ))
     → part_lanes p workqueues ≡ Ok lanes → length lanes ≡ p.groups
 length-part p workqueues lanes e =
-    ap length (ArePart-part_lanes p workqueues lanes e).same ∙ length-lanes_with p workqueues
+    let part = ArePart-part_lanes p workqueues lanes e in ap length part.same ∙ length-lanes_with p workqueues
