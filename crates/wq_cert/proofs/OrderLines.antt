@@ -49,7 +49,7 @@ order_front-all out order k all =
 -- ---- lines one after the other
 
 -- one more number
-pub range_with_len-more : (a n : ℕ) → range_with_len a (suc n) ≡ range_with_len a n ++ (a + n ∷ [])
+pub range_with_len-more : (a n : ℕ) → range_with_len a (suc n) ≡ range_with_len a n ++ ((a + n) ∷ [])
 range_with_len-more a zero = let same : a ≡ a + 0 = omega arith in ap (λ (k : ℕ). k ∷ []) same
 range_with_len-more a (suc n) =
     let same : a + 1 + n ≡ a + suc n = omega arith in
