@@ -114,6 +114,11 @@ module _ (names : List (List ℕ)) (p : Partition) where
       pub fixed_plan-many : length workqueues ≡ n
       fixed_plan-many = omega (arith, length-next_workqueues names p.group_of n [] workqueues behind rest read)
 
+      pub fixed_plan-bare : (bare : List Bool) → bare ≡ replicate n false → length bare ≡ length workqueues
+      fixed_plan-bare bare unset =
+          ap length (unset ∙ ap (λ k. replicate k false) (sym fixed_plan-many) ∙ replicate-map workqueues)
+          ∙ length-map workqueues (λ _. false)
+
       pub fixed_plan-part : (e : CertError) → part_lanes p workqueues ≡ Err e
           → IsCertFaultOf e (fixed_plan_reading names p lines)
       fixed_plan-part e fault =

@@ -4,6 +4,7 @@ use Rattle.std.proofs.Common.{List, length, get_or, count_by, Option, Some, None
 use Rattle.std.proofs.Common.{◌∙◌, arith}
 use Rattle.std.specs.List.{list_all, concat, range_with_len}
 use Rattle.std.proofs.lemmas.Bool.{cases_Bool, lt-ltb, le-ltb, ltb-false}
+use Rattle.std.proofs.lemmas.List.{get_or_default}
 use Rattle.std.proofs.lemmas.List.Folds.{list_all_at}
 use Rattle.std.proofs.lemmas.List.FromFn.{length-range_with_len, get_or-range_with_len}
 use Rattle.std.proofs.lemmas.List.Sums.{list_all-from_AllPass}
@@ -72,6 +73,24 @@ module _ (p : Partition) (stood : List Bool) (lanes : List (Option ℕ)) (workqu
       sym (list_all_at (is_with_its_group p.group_of workqueues) (range_with_len 0 (length p.group_of)) i 0
       (omega (arith, lt, length-range_with_len 0 (length p.group_of)))
       (at_range i 0 lt ∙ sym (whole_is i lt) ∙ split))
+
+-- ---- one item
+
+not_true : (b : Bool) → not b ≡ true → b ≡ false
+not_true true e = absurd cc
+not_true false e = refl
+
+-- item k, of this group, splits it
+pub is_split : (p : Partition) (stood : List Bool) (lanes : List (Option ℕ)) (k group at : ℕ) (is_marked : Bool)
+    (lane : Option ℕ) → IsPartition p → length lanes ≡ p.groups → k < length p.group_of → group ≡ get_or p.group_of k 0
+    → at ≡ group → is_marked ≡ get_or stood k false → lane ≡ get_or lanes at lane
+    → not (is_marked || has_none lane) ≡ true → is_whole_at stood lanes p.group_of k ≡ false
+is_split p stood lanes k group at is_marked lane partition long within of same marked found splits =
+    let own : at ≡ get_or p.group_of k 0 = same ∙ of in
+    let below : at < length lanes = omega (arith, own, partition.within k 0 within, long) in
+    let held : lane ≡ get_or lanes (get_or p.group_of k 0) None =
+    found ∙ get_or_default lanes at lane None below ∙ ap (λ (i : ℕ). get_or lanes i None) own in
+    sym (ap₂ (λ (a : Bool) (l : Option ℕ). a || has_none l) marked held) ∙ not_true (is_marked || has_none lane) splits
 
 -- ---- the lanes
 
