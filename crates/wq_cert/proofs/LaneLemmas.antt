@@ -148,7 +148,8 @@ pub record Settled (p : Partition) (lane : ℕ) (old new : List (Option ℕ)) (i
 pub length-lanes_with : (p : Partition) (workqueues : List (List ℕ)) → length (lanes_with p workqueues) ≡ p.groups
 length-lanes_with p workqueues = length-map-range_with_len (workqueue_with p.group_of workqueues) 0 p.groups
 
-pub get_or-lanes_with : (p : Partition) (workqueues : List (List ℕ)) (g : ℕ) (d : Option ℕ) → g < p.groups → get_or (lanes_with p workqueues) g d ≡ workqueue_with p.group_of workqueues g
+pub get_or-lanes_with : (p : Partition) (workqueues : List (List ℕ)) (g : ℕ) (d : Option ℕ) → g < p.groups
+    → get_or (lanes_with p workqueues) g d ≡ workqueue_with p.group_of workqueues g
 get_or-lanes_with p workqueues g d lt = get_or-map-range_with_len (workqueue_with p.group_of workqueues) 0 p.groups g g d lt (omega arith)
 
 -- item x of group g is the next

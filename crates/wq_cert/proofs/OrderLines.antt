@@ -74,17 +74,17 @@ pub record AreBelow (lanes : ℕ) (numbers order : List ℕ) (k : ℕ) : Type 0 
   pub below : list_any (leb lanes) (take k numbers) ≡ false
 
 module _ (lanes : ℕ) (numbers order : List ℕ) (k : ℕ) (h : AreBelow lanes numbers order k) (within : k < length numbers)
-    where
-  pub AreBelow-more : (q : ℕ) → get_or numbers k 0 < lanes → q ≡ get_or numbers k 0
-      → AreBelow lanes numbers (order ++ (q ∷ [])) (k + 1)
-  AreBelow-more q lt is = record {
-    items = ap₂ (λ (os : List ℕ) (r : ℕ). os ++ (r ∷ [])) h.items is ∙ sym (take_more numbers k 0 within);
-    below = list_any_more (leb lanes) numbers k 0 within
-        ∙ ap₂ (λ (a b : Bool). a || b) h.below (lt-leb lanes (get_or numbers k 0) lt);
-  }
+  where
+    pub AreBelow-more : (q : ℕ) → get_or numbers k 0 < lanes → q ≡ get_or numbers k 0
+        → AreBelow lanes numbers (order ++ (q ∷ [])) (k + 1)
+    AreBelow-more q lt is = record {
+      items = ap₂ (λ (os : List ℕ) (r : ℕ). os ++ (r ∷ [])) h.items is ∙ sym (take_more numbers k 0 within);
+      below = list_any_more (leb lanes) numbers k 0 within
+          ∙ ap₂ (λ (a b : Bool). a || b) h.below (lt-leb lanes (get_or numbers k 0) lt);
+    }
 
-  pub AreBelow-far : lanes ≤ get_or numbers k 0 → list_any (leb lanes) numbers ≡ true
-  AreBelow-far le = list_any_at (leb lanes) numbers k 0 within (le-leb lanes (get_or numbers k 0) le)
+    pub AreBelow-far : lanes ≤ get_or numbers k 0 → list_any (leb lanes) numbers ≡ true
+    AreBelow-far le = list_any_at (leb lanes) numbers k 0 within (le-leb lanes (get_or numbers k 0) le)
 
 pub AreBelow-all : (lanes : ℕ) (numbers order : List ℕ) (k : ℕ) → AreBelow lanes numbers order k → length numbers ≤ k
     → (order ≡ numbers) × (list_any (leb lanes) numbers ≡ false)

@@ -14,7 +14,8 @@ loop-lane-preserved g c =
     c.in_ok-put_number.ensures.added
     ∙ ap (λ (n : ℕ). c.loop-lane.out.items ++ spaced (decimal n)) (c.from.ensures ∙ c.get.ensures)
     ∙ ap (λ (o : List ℕ). o ++ spaced (decimal q)) c.loop-lane.invariant
-    ∙ order_front-next c.args.out.now.items c.args.order.now c.loop-lane.lane-index q c.loop-lane-test.true c.lane-item.is
+    ∙ order_front-next c.args.out.now.items c.args.order.now c.loop-lane.lane-index q c.loop-lane-test.true
+    c.lane-item.is
 
 pub returns : goal.returns
 returns g c =

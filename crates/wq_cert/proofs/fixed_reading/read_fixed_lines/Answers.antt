@@ -32,7 +32,8 @@ returns-in_err-lane_of_group-clause-fault g c =
     let said = said_lines-true c.lines.result
     ∙ ap (λ (ls : List LineView). map as_wq (map cert_line ls)) c.lines.ensures in
     let all = c.in_ok-workqueues.ensures.workqueues in
-    let read = subst (λ (ls : List CertLine). all_workqueues names p.group_of [] ls ≡ Ok (all.workqueues, all.rest)) said
+    let read =
+    subst (λ (ls : List CertLine). all_workqueues names p.group_of [] ls ≡ Ok (all.workqueues, all.rest)) said
     all.read in
     let e = c.in_err-lane_of_group.field-0.0 in
     let fault : IsCertFaultOf e (fixed_lines_reading names p (map cert_line c.args.view.now)) =
@@ -47,7 +48,8 @@ returns-in-Some-clause-fault g c =
     let said = said_lines-true c.lines.result
     ∙ ap (λ (ls : List LineView). map as_wq (map cert_line ls)) c.lines.ensures in
     let all = c.in_ok-workqueues.ensures.workqueues in
-    let read = subst (λ (ls : List CertLine). all_workqueues names p.group_of [] ls ≡ Ok (all.workqueues, all.rest)) said
+    let read =
+    subst (λ (ls : List CertLine). all_workqueues names p.group_of [] ls ≡ Ok (all.workqueues, all.rest)) said
     all.read in
     fixed_lines-after names p (map cert_line c.args.view.now) all.workqueues all.rest read
     c.in_ok-lane_of_group.lane_of_group.items (c.in_ok-lane_of_group.ensures.lanes all.workqueues all.noted)
@@ -60,7 +62,8 @@ new-requires g c =
     let said = said_lines-true c.lines.result
     ∙ ap (λ (ls : List LineView). map as_wq (map cert_line ls)) c.lines.ensures in
     let all = c.in_ok-workqueues.ensures.workqueues in
-    let read = subst (λ (ls : List CertLine). all_workqueues names p.group_of [] ls ≡ Ok (all.workqueues, all.rest)) said
+    let read =
+    subst (λ (ls : List CertLine). all_workqueues names p.group_of [] ls ≡ Ok (all.workqueues, all.rest)) said
     all.read in
     let none : c.in_ok-workqueues.after ≡ None = search (rules, c.in_default.is, c.in_default.not-Some) in
     let views = c.lines-2.result in
@@ -83,7 +86,8 @@ returns-clause-fixed g c =
     let said = said_lines-true c.lines.result
     ∙ ap (λ (ls : List LineView). map as_wq (map cert_line ls)) c.lines.ensures in
     let all = c.in_ok-workqueues.ensures.workqueues in
-    let read = subst (λ (ls : List CertLine). all_workqueues names p.group_of [] ls ≡ Ok (all.workqueues, all.rest)) said
+    let read =
+    subst (λ (ls : List CertLine). all_workqueues names p.group_of [] ls ≡ Ok (all.workqueues, all.rest)) said
     all.read in
     let none : c.in_ok-workqueues.after ≡ None = search (rules, c.in_default.is, c.in_default.not-Some) in
     fixed_lines-all names p (map cert_line c.args.view.now) all.workqueues all.rest read

@@ -15,12 +15,12 @@ returns-then-splits g c = λ workqueues marked settled.
     let second : iter_rest (zip_second c.into_iter-group-iterator.result) ≡ stood = first_of (cc, search rules) in
     let turn =
     zip_turn p.group_of stood c.loop-group.yielded c.into_iter-group-iterator.result c.loop-group.group-iterator
-    c.next.new.self c.next.result first second c.loop-group.yielded_by (c.in-Some.group, c.in-Some.is_marked) c.in-Some.is
-    c.next.ensures.steps in
+    c.next.new.self c.next.result first second c.loop-group.yielded_by (c.in-Some.group, c.in-Some.is_marked)
+    c.in-Some.is c.next.ensures.steps in
     one_split p stood lanes workqueues c.numbers.ensures.partition marked settled k turn.0
-    (is_split p stood lanes k c.in-Some.group.now c.from.result c.in-Some.is_marked.now c.index-lane_of_group-from.result
-    c.numbers.ensures.partition c.requires.groups turn.0 (turn.2 0) c.from.ensures (turn.3 false)
-    c.index-lane_of_group-from.is (sym c.splits.ensures ∙ c.if-splits.true))
+    (is_split p stood lanes k c.in-Some.group.now c.from.result c.in-Some.is_marked.now
+    c.index-lane_of_group-from.result c.numbers.ensures.partition c.requires.groups turn.0 (turn.2 0) c.from.ensures
+    (turn.3 false) c.index-lane_of_group-from.is (sym c.splits.ensures ∙ c.if-splits.true))
 
 pub returns : goal.returns
 returns g c = λ workqueues marked settled.
