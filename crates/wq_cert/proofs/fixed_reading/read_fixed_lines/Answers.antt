@@ -65,7 +65,7 @@ new-requires g c =
     let read =
     subst (λ (ls : List CertLine). all_workqueues names p.group_of [] ls ≡ Ok (all.workqueues, all.rest)) said
     all.read in
-    let none : c.in_ok-workqueues.after ≡ None = search (rules, c.in_default.is, c.in_default.not-Some) in
+    let none : c.in_ok-workqueues.after ≡ None = search (rules, c.in_default.is) in
     let views = c.lines-2.result in
     IsFixed-part p all.workqueues c.in_ok-lane_of_group.lane_of_group.items c.in_ok-bare.bare.items
     (c.in_ok-lane_of_group.ensures.lanes all.workqueues all.noted)
@@ -89,7 +89,7 @@ returns-clause-fixed g c =
     let read =
     subst (λ (ls : List CertLine). all_workqueues names p.group_of [] ls ≡ Ok (all.workqueues, all.rest)) said
     all.read in
-    let none : c.in_ok-workqueues.after ≡ None = search (rules, c.in_default.is, c.in_default.not-Some) in
+    let none : c.in_ok-workqueues.after ≡ None = search (rules, c.in_default.is) in
     fixed_lines-all names p (map cert_line c.args.view.now) all.workqueues all.rest read
     c.in_ok-lane_of_group.lane_of_group.items (c.in_ok-lane_of_group.ensures.lanes all.workqueues all.noted)
     c.in_ok-bare.bare.items (sym none ∙ all.line)
