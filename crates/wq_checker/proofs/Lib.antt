@@ -1,12 +1,16 @@
 pub mod AnswersDecided
+pub mod AroundFalling
 pub mod Breaks
 pub mod Decided
 pub mod FallingLemmas
 pub mod FlushPlaces
 pub mod GoodAnswers
+pub mod GoodAround
 pub mod GroupChains
+pub mod LaneChains
 pub mod LawfulSteps
 pub mod OneAnswer
+pub mod PlacesInOrder
 pub mod PlayedRuns
 pub mod QueueCounts
 pub mod RunEndLemmas
