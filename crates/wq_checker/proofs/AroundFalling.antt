@@ -1,6 +1,6 @@
 -- Flushes that fall by an order of workqueues, around fixed ones.
 use Rattle.std.proofs.Common.{◌≡◌, ℕ, ◌+◌, ◌<◌, ◌≤◌, Bool, false, List, length, map, get_or, None, Some, refl, sym, ap, subst, ◌∙◌, arith}
-use Rattle.std.specs.List.{range_with_len}
+use Rattle.std.specs.List.{All, range_with_len}
 use Rattle.std.proofs.lemmas.List.FromFn.{get_or-map-range_with_len}
 use Rattle.wq_items.specs.declared.target.Target.{Target}
 use Rattle.wq_items.specs.Table.{ItemWaits}
@@ -15,7 +15,7 @@ use Rattle.wq_cert.specs.AroundReading.{AroundPlan}
 use Rattle.wq_checker.specs.declared.falling.DeclaredFlush.{DeclaredFlush}
 use Rattle.wq_checker.specs.Falling.{Declares}
 use Rattle.wq_checker.specs.Searching.{FindsFirst, OfItemsBelow}
-use Rattle.wq_checker.specs.SearchingAround.{ItemsFall, AllItemsFall, IsFirstItemStaying}
+use Rattle.wq_checker.specs.SearchingAround.{FallsTo, ItemsFall, AllItemsFall, IsFirstItemStaying}
 use Rattle.wq_checker.specs.Around.{planned, place_in, FallsAround, AllFallAround, IsFirstNotFallingAround}
 use Rattle.wq_checker.proofs.FallingLemmas.{falls_found, first_found}
 
@@ -38,6 +38,22 @@ module _ (d : Declaration) (a : Assignment) (bare : List Bool) (places : List �
   pub AllItemsFall-found : (n : ℕ) → length d.waits ≤ n → FindsFirst (ItemsFall d a bare places) (OfItemsBelow d n) None → AllItemsFall d a bare places
   AllItemsFall-found n all found = falls_found d (ItemsFall d a bare places) n all found
 
+  -- by the lanes of the two items
+  pub ItemsFall-lanes : (i j p q : ℕ) → p ≡ item_lane a d.group_of i → q ≡ item_lane a d.group_of j → FallsTo bare places p q → ItemsFall d a bare places i j
+  ItemsFall-lanes i j p q one other falls =
+      subst (λ (l : ℕ). FallsTo bare places l (item_lane a d.group_of j)) one (subst (λ (l : ℕ). FallsTo bare places p l) other falls)
+
+  pub lanes-ItemsFall : (i j p q : ℕ) → p ≡ item_lane a d.group_of i → q ≡ item_lane a d.group_of j → ItemsFall d a bare places i j → FallsTo bare places p q
+  lanes-ItemsFall i j p q one other falls =
+      subst (λ (l : ℕ). FallsTo bare places l q) (sym one) (subst (λ (l : ℕ). FallsTo bare places (item_lane a d.group_of i) l) (sym other) falls)
+
+-- the lane of an item is one of the lanes
+pub item_lane-below : (a : Assignment) (group_of : List ℕ) (groups i : ℕ) → All (λ g. g < groups) group_of → length a.lane_of_group ≡ groups → All (λ l. l < a.lanes) a.lane_of_group
+    → i < length group_of → item_lane a group_of i < a.lanes
+item_lane-below a group_of groups i each one_each lanes within =
+    let group : get_or group_of i 0 < groups = each i 0 within in
+    lanes (get_or group_of i 0) 0 (omega (arith, one_each, group))
+
 -- a flush from lane p, at place x, to lane q, at place y, falls
 abbrev AtPlaces : List Bool → ℕ → ℕ → ℕ → ℕ → Type 0
 AtPlaces bare p q x y = get_or bare p false ≡ false → (get_or bare q false ≡ false) × (y < x)
@@ -59,9 +75,7 @@ module _ (d : Declaration) (is : IsDeclaration d) (f : Fixed) (c : AroundPlan) (
   lane-is i within = item_lanes-at c.assignment d.group_of i within
 
   lane-below : (i : ℕ) → i < length d.group_of → item_lane c.assignment d.group_of i < c.assignment.lanes
-  lane-below i within =
-      let group : get_or d.group_of i 0 < d.groups = is.partition.within i 0 within in
-      assignment.within (get_or d.group_of i 0) 0 (omega (arith, assignment.one_each, group))
+  lane-below i within = item_lane-below c.assignment d.group_of d.groups i is.partition.within assignment.one_each assignment.within within
 
   place-is : (i : ℕ) → i < length d.group_of → place_in c.order (lane i) ≡ get_or places (item_lane c.assignment d.group_of i) 0
   place-is i within =

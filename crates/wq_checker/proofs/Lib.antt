@@ -9,6 +9,7 @@ pub mod GoodAround
 pub mod GroupChains
 pub mod LaneChains
 pub mod LawfulSteps
+pub mod NewLanes
 pub mod OneAnswer
 pub mod PlacesInOrder
 pub mod PlayedRuns
@@ -16,3 +17,4 @@ pub mod QueueCounts
 pub mod RunEndLemmas
 pub mod RunsDecided
 pub mod StuckStates
+pub mod YesIsGood
