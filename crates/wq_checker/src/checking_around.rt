@@ -8,8 +8,8 @@
 //! arc's item declares. A circle takes that for its arcs, and for its run that of `check_run_on`.
 
 ghost use Rattle.std.specs.Prelude.{◌≡◌, ◌<◌, ◌≤◌, ◌↔◌, IsTrue, IfOk, IfSome, IfNone, option_map, length, map};
-ghost use Rattle.std.specs.Prelude.{nat_le, slice_index_or, false};
-ghost use Rattle.std.specs.List.{All, range_with_len};
+ghost use Rattle.std.specs.Prelude.{ℕ, nat_le, slice_index_or, false};
+ghost use Rattle.std.specs.List.{All, count_by, range_with_len};
 ghost use Rattle.wq_items.specs.Table.{ItemWaits};
 ghost use Rattle.wq_groups.specs.Declaration.{declaration_of};
 ghost use Rattle.wq_groups.specs.DeclaredGroups.{declared_waits};
@@ -22,11 +22,11 @@ ghost use Rattle.wq_checker.specs.Answers.{ArcsOfItems};
 ghost use Rattle.wq_checker.specs.Chains.{before_from};
 ghost use Rattle.wq_checker.specs.Searching.{FindsFirst, OfItem};
 ghost use Rattle.wq_checker.specs.SearchingAround.{AllItemsFall, FallsTo, Follows, IsFirstItemStaying, ItemsFall};
-ghost use Rattle.wq_checker.specs.Around.{AnswersAround, IsAroundAsked, YesIsLeastAround, CircleIsOfAll, NoneIsOfAll};
-ghost use Rattle.wq_checker.specs.Around.{AllJoinIn, AnswersCircleAround, AnswersNoRescuer, AnswersPlanAround};
-ghost use Rattle.wq_checker.specs.Around.{HasFewSteps};
+ghost use Rattle.wq_checker.specs.Around.{AllJoinIn, AnswersAround, AnswersCircleIn, AnswersNoRescuerIn};
+ghost use Rattle.wq_checker.specs.Around.{AnswersPlanAround, CircleIsOfAll, HasFewSteps, IsAroundAsked};
 ghost use Rattle.wq_checker.specs.Around.{IsCircleAroundAsked, IsFirstBreakIn, IsNoRescuerAsked, IsPlanAroundAsked};
-ghost use Rattle.wq_checker.specs.Around.{IsWithRun, JoinsIn, ShowsDeadlockIn, new_along, place_in};
+ghost use Rattle.wq_checker.specs.Around.{JoinsIn, LeadsToNoneIn, NoneIsOfAll, ShowsDeadlockIn, YesIsLeastAround};
+ghost use Rattle.wq_checker.specs.Around.{new_along, place_in};
 
 use crate::answer::{No, Yes};
 use crate::around::{NoAround, YesAround};
@@ -233,6 +233,27 @@ fn is_on_new<A: Allocator + Copy>(start: &Assigned<'_, '_, A>, new: u16, item: I
     start_lane(start, item).get() >= new
 }
 
+/// How many of the targets of these arcs are on new workqueues: those from this number on.
+fn count_new<A: Allocator + Copy>(
+    start: &Assigned<'_, '_, A>,
+    new: u16,
+    arcs: &[(ItemId, ItemId)],
+) -> u32
+    requires arcs { ArcsOfItems (declared_waits start.now.declared) arcs.now }
+    requires few { length arcs.now ≤ 4096 }
+    ensures count { result ≡ count_by (λ (arc : ℕ × ℕ).
+        nat_le new (lane_of (wiring_of (declared_waits start.now.declared) start.now.workqueues) arc.1)) arcs.now }
+    ensures few { result ≤ 4096 }
+{
+    let mut count = 0;
+    for arc in arcs {
+        if is_on_new(start, new, arc.1) {
+            count += 1;
+        }
+    }
+    count
+}
+
 /// How many new workqueues a chain has that is said to have this many: those from this number on are new.
 fn new_along<A: Allocator + Copy>(
     start: &Assigned<'_, '_, A>,
@@ -245,14 +266,10 @@ fn new_along<A: Allocator + Copy>(
     ensures { (f : FixedView) → start.now.workqueues ≡ start_of f → fixed_lanes f ≡ new
         → result ≡ new_along (declared_waits start.now.declared) f chain arcs.now }
 {
-    let Some(first) = arcs.first() else {
-        return chain;
-    };
-    let mut count = u32::from(is_on_new(start, new, first.0));
-    for arc in arcs {
-        count += u32::from(is_on_new(start, new, arc.1));
+    match arcs.first() {
+        Some(first) => u32::from(is_on_new(start, new, first.0)) + count_new(start, new, arcs),
+        None => chain,
     }
-    count
 }
 
 /// The answer to the text of a plan.
@@ -323,24 +340,6 @@ fn show_deadlock<A: Allocator + Copy>(
     }
 }
 
-/// This yes, if the steps, where there are any, are a run that deadlocks in the start.
-fn with_run<A: Allocator + Copy>(
-    alloc: A,
-    start: &Assigned<'_, '_, A>,
-    steps: &Option<Vec<Step, A>>,
-    yes: YesAround,
-) -> Result<Result<YesAround, NoAround>, AllocError>
-    requires { HasFewSteps (option_map (λ s. s.items) steps.now) }
-    ensures { IfOk result (λ r. IsWithRun (wiring_of (declared_waits start.now.declared) start.now.workqueues)
-        (option_map (λ s. s.items) steps.now) yes r) }
-{
-    if show_deadlock(alloc, start, steps)? {
-        Ok(Ok(yes))
-    } else {
-        Ok(Err(NoAround::Plain(No::RunBroken)))
-    }
-}
-
 /// The answer to the text of a circle.
 fn check_circle<A: Allocator + Copy>(
     alloc: A,
@@ -350,20 +349,30 @@ fn check_circle<A: Allocator + Copy>(
 ) -> Result<Result<YesAround, NoAround>, AllocError>
     requires asked { IsCircleAroundAsked (declared_waits start.now.declared)
         (record { arcs = arcs.now; steps = option_map (λ s. s.items) steps.now }) }
-    ensures { IfOk result (λ r. (f : FixedView) → start.now.workqueues ≡ start_of f
-        → AnswersCircleAround (declared_waits start.now.declared) f
+    ensures { IfOk result (λ r.
+        AnswersCircleIn (wiring_of (declared_waits start.now.declared) start.now.workqueues)
         (record { arcs = arcs.now; steps = option_map (λ s. s.items) steps.now }) r) }
 {
     if let Some(at) = first_break(start, arcs.last().copied(), arcs) {
         return Ok(Err(NoAround::Plain(No::CircleBroken { at })));
     }
-    let length = arcs.len() as u32;
-    with_run(
-        alloc,
-        start,
-        steps,
-        YesAround::Plain(Yes::Circle { length }),
-    )
+    if show_deadlock(alloc, start, steps)? {
+        Ok(Ok(YesAround::Plain(Yes::Circle {
+            length: arcs.len() as u32,
+        })))
+    } else {
+        Ok(Err(NoAround::Plain(No::RunBroken)))
+    }
+}
+
+/// Whether an arc is a declared flush from a workqueue that has a rescuer to one that has none.
+fn leads_to_none<A: Allocator + Copy>(start: &Assigned<'_, '_, A>, arc: (ItemId, ItemId)) -> bool
+    requires item { arc.0 < length start.now.declared.table.waits }
+    requires target { arc.1 < length start.now.declared.table.waits }
+    ensures { IsTrue result
+        ↔ LeadsToNoneIn (wiring_of (declared_waits start.now.declared) start.now.workqueues) arc }
+{
+    declares(start, arc) && is_rescued(start, arc.0) && !is_rescued(start, arc.1)
 }
 
 /// The answer to a norescuer text.
@@ -375,14 +384,17 @@ fn check_norescuer<A: Allocator + Copy>(
 ) -> Result<Result<YesAround, NoAround>, AllocError>
     requires asked { IsNoRescuerAsked (declared_waits start.now.declared)
         (record { arc = arc; steps = option_map (λ s. s.items) steps.now }) }
-    ensures { IfOk result (λ r. (f : FixedView) → start.now.workqueues ≡ start_of f
-        → AnswersNoRescuer (declared_waits start.now.declared) f
+    ensures { IfOk result (λ r.
+        AnswersNoRescuerIn (wiring_of (declared_waits start.now.declared) start.now.workqueues)
         (record { arc = arc; steps = option_map (λ s. s.items) steps.now }) r) }
 {
-    if declares(start, arc) && is_rescued(start, arc.0) && !is_rescued(start, arc.1) {
-        with_run(alloc, start, steps, YesAround::NoRescuer)
+    if !leads_to_none(start, arc) {
+        return Ok(Err(NoAround::HasRescuer));
+    }
+    if show_deadlock(alloc, start, steps)? {
+        Ok(Ok(YesAround::NoRescuer))
     } else {
-        Ok(Err(NoAround::HasRescuer))
+        Ok(Err(NoAround::Plain(No::RunBroken)))
     }
 }
 
