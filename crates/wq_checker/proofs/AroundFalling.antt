@@ -1,5 +1,5 @@
 -- Flushes that fall by an order of workqueues, around fixed ones.
-use Rattle.std.proofs.Common.{◌≡◌, ℕ, ◌+◌, ◌<◌, ◌≤◌, Bool, false, List, length, map, get_or, None, Some, refl, sym, ap, subst, ◌∙◌, arith}
+use Rattle.std.proofs.Common.{◌≡◌, ℕ, ◌+◌, ◌<◌, ◌≤◌, Bool, false, List, length, map, get_or, Option, None, Some, IfSome, IfNone, refl, sym, ap, subst, ◌∙◌, arith}
 use Rattle.std.specs.List.{All, range_with_len}
 use Rattle.std.proofs.lemmas.List.FromFn.{get_or-map-range_with_len}
 use Rattle.wq_items.specs.declared.target.Target.{Target}
@@ -15,7 +15,7 @@ use Rattle.wq_cert.specs.AroundReading.{AroundPlan}
 use Rattle.wq_checker.specs.declared.falling.DeclaredFlush.{DeclaredFlush}
 use Rattle.wq_checker.specs.Falling.{Declares}
 use Rattle.wq_checker.specs.Searching.{FindsFirst, OfItemsBelow}
-use Rattle.wq_checker.specs.SearchingAround.{FallsTo, ItemsFall, AllItemsFall, IsFirstItemStaying}
+use Rattle.wq_checker.specs.SearchingAround.{FallsTo, ItemsFall, AllItemsFall, FindsNotFalling, IsFirstItemStaying}
 use Rattle.wq_checker.specs.Around.{planned, place_in, FallsAround, AllFallAround, IsFirstNotFallingAround}
 use Rattle.wq_checker.proofs.FallingLemmas.{falls_found, first_found}
 
@@ -63,6 +63,10 @@ AtPlaces-same bare p r q s x u y v one other at_one at_other falls rescued =
     let lower = falls (ap (λ (l : ℕ). get_or bare l false) one ∙ rescued) in
     let less : y < x = lower.1 in
     (ap (λ (l : ℕ). get_or bare l false) (sym other) ∙ lower.0, omega (arith, less, at_one, at_other))
+
+-- the first one that doesn't fall is found, if there is one; otherwise each falls
+abbrev pub FindsStaying : Declaration → Assignment → List Bool → List ℕ → Option (ℕ × ℕ) → Type 0
+FindsStaying d a bare places o = IfSome o (λ (s : ℕ × ℕ). IsFirstItemStaying d a bare places s.0 s.1) × IfNone o (AllItemsFall d a bare places)
 
 -- ---- by the places in an order
 
@@ -116,3 +120,7 @@ module _ (d : Declaration) (is : IsDeclaration d) (f : Fixed) (c : AroundPlan) (
         stays = λ falls. stays.stays (items-FallsAround i j (waiting-item d is i j waits) (awaited-item d is i j waits) falls);
         first = λ k other declares less. falls-declared k other declares (stays.first k other declares less);
       }
+
+  pub FindsNotFalling-items : (o : Option (ℕ × ℕ)) → FindsStaying d c.assignment f.bare places o → FindsNotFalling d f c o
+  FindsNotFalling-items None found = AllFallAround-items found.1
+  FindsNotFalling-items (Some stays) found = IsFirstNotFallingAround-items stays.0 stays.1 found.0

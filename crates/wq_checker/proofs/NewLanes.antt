@@ -1,5 +1,6 @@
 -- How many new lanes a chain of the start has.
-use Rattle.std.proofs.Common.{◌≡◌, ℕ, ◌+◌, ◌<◌, Bool, cond, nat_le, List, [], ◌∷◌, map, Option, Some, None, refl, sym, ap, ◌∙◌}
+use Rattle.std.proofs.Common.{◌≡◌, ℕ, ◌+◌, ◌<◌, Bool, true, false, cond, nat_le, List, [], ◌∷◌, map, Option, Some, None, refl, sym, ap, ◌∙◌}
+use Rattle.core.specs.Int.{from_bool}
 use Rattle.std.specs.Prelude.{slice_get}
 use Rattle.std.specs.List.{count_by}
 use Rattle.std.proofs.lemmas.List.Sums.{sum_by-cons}
@@ -11,6 +12,13 @@ use Rattle.wq_checker.specs.Around.{start_wiring, new_along}
 -- lane q is from this number on, as 0 or 1
 abbrev pub one_new : ℕ → ℕ → ℕ
 one_new new q = cond (nat_le new q) 1 0
+
+pub one_new-is : (new q : ℕ) (is_new : Bool) (n : ℕ) → is_new ≡ nat_le new q → n ≡ from_bool is_new → n ≡ one_new new q
+one_new-is new q is_new n same from = from ∙ as_number is_new ∙ ap (λ (b : Bool). cond b 1 0) same
+  where
+    as_number : (b : Bool) → from_bool b ≡ cond b 1 0
+    as_number true = refl
+    as_number false = refl
 
 -- how many of the targets of these arcs are on such a lane
 abbrev pub new_targets : Wiring → ℕ → List (ℕ × ℕ) → ℕ

@@ -22,8 +22,8 @@ use Rattle.wq_checker.specs.Around.{AnswersPlanAround, AnswersCircleAround, Answ
 use Rattle.wq_checker.proofs.AroundFalling.{Declares-ItemWaits}
 
 -- what isn't good has no yes
-refused : {P : Type 0} (no : NoAround) → (¬ P) → IsOk {T = YesAround} (Err no) ↔ P
-refused no not_good = ((λ said. absurd (false≢true said)), (λ good. absurd (not_good good)))
+refused : {P : Type 0} (why : NoAround) → (¬ P) → IsOk {T = YesAround} (Err why) ↔ P
+refused why not_good = ((λ said. absurd (false≢true said)), (λ good. absurd (not_good good)))
 
 joined-unbroken : (w : Wiring) (before : ℕ → Option (ℕ × ℕ)) (arcs : List (ℕ × ℕ)) (at : ℕ) → AllJoinIn w before arcs → ¬ IsFirstBreakIn w before arcs at
 joined-unbroken w before arcs at joined break = break.breaks (joined (at - 1) break.arc break.stands)

@@ -8,7 +8,7 @@
 //! arc's item declares. A circle takes that for its arcs, and for its run that of `check_run_on`.
 
 ghost use Rattle.std.specs.Prelude.{◌≡◌, ◌<◌, ◌≤◌, ◌↔◌, IsTrue, IfOk, IfSome, IfNone, option_map, length, map};
-ghost use Rattle.std.specs.Prelude.{ℕ, nat_le, slice_index_or, false};
+ghost use Rattle.std.specs.Prelude.{ℕ, List, nat_le, slice_index_or, false};
 ghost use Rattle.std.specs.List.{All, count_by, range_with_len};
 ghost use Rattle.wq_items.specs.Table.{ItemWaits};
 ghost use Rattle.wq_groups.specs.Declaration.{declaration_of};
@@ -21,7 +21,8 @@ ghost use Rattle.wq_cert.specs.AroundReading.{around_certificate};
 ghost use Rattle.wq_checker.specs.Answers.{ArcsOfItems};
 ghost use Rattle.wq_checker.specs.Chains.{before_from};
 ghost use Rattle.wq_checker.specs.Searching.{FindsFirst, OfItem};
-ghost use Rattle.wq_checker.specs.SearchingAround.{AllItemsFall, FallsTo, Follows, IsFirstItemStaying, ItemsFall};
+ghost use Rattle.wq_checker.specs.SearchingAround.{AllItemsFall, FallsTo, FindsNotFalling, Follows};
+ghost use Rattle.wq_checker.specs.SearchingAround.{IsFirstItemStaying, ItemsFall};
 ghost use Rattle.wq_checker.specs.Around.{AllJoinIn, AnswersAround, AnswersCircleIn, AnswersNoRescuerIn};
 ghost use Rattle.wq_checker.specs.Around.{AnswersPlanAround, CircleIsOfAll, HasFewSteps, IsAroundAsked};
 ghost use Rattle.wq_checker.specs.Around.{IsCircleAroundAsked, IsFirstBreakIn, IsNoRescuerAsked, IsPlanAroundAsked};
@@ -156,11 +157,15 @@ fn is_rescued<A: Allocator + Copy>(start: &Assigned<'_, '_, A>, item: ItemId) ->
 }
 
 /// Whether an item declares a flush of another one.
-fn declares<A: Allocator + Copy>(start: &Assigned<'_, '_, A>, arc: (ItemId, ItemId)) -> bool
-    requires { arc.0 < length start.now.declared.table.waits }
-    ensures { IsTrue result ↔ ItemWaits start.now.declared.table.waits arc.0 arc.1 }
+fn declares<A: Allocator + Copy>(
+    start: &Assigned<'_, '_, A>,
+    item: ItemId,
+    target: ItemId,
+) -> bool
+    requires { item < length start.now.declared.table.waits }
+    ensures { IsTrue result ↔ ItemWaits start.now.declared.table.waits item target }
 {
-    have_target(start.table().waits(arc.0), arc.1)
+    have_target(start.table().waits(item), target)
 }
 
 /// Whether an item is on the workqueue of the target of the arc before it, if there is one.
@@ -191,10 +196,11 @@ fn joins<A: Allocator + Copy>(
     requires target { arc.1 < length start.now.declared.table.waits }
     ensures { IsTrue result ↔ JoinsIn (wiring_of (declared_waits start.now.declared) start.now.workqueues) before arc }
 {
-    declares(start, arc)
-        && is_rescued(start, arc.0)
-        && is_rescued(start, arc.1)
-        && follows(start, before, arc.0)
+    let (item, target) = arc;
+    declares(start, item, target)
+        && is_rescued(start, item)
+        && is_rescued(start, target)
+        && follows(start, before, item)
 }
 
 /// The number, counted from 1, of the first arc that doesn't join the one before it. The one before the first arc is
@@ -272,6 +278,26 @@ fn new_along<A: Allocator + Copy>(
     }
 }
 
+/// The item and the target of the first declared flush, by place, that doesn't fall by the order of a plan.
+fn first_staying<A: Allocator + Copy>(
+    alloc: A,
+    start: &Assigned<'_, '_, A>,
+    fixed: &Fixed<A>,
+    assignment: &Assignment<A>,
+    order: &[LaneId],
+) -> Result<Option<(ItemId, ItemId)>, AllocError>
+    requires assigned { length assignment.now.lane_of_group ≡ start.now.declared.partition.groups }
+    requires order { All (λ q. q < assignment.now.lanes) order.now }
+    ensures { IfOk result (λ stays. (n : ℕ) (arcs : List (ℕ × ℕ))
+        → FindsNotFalling (declared_waits start.now.declared) fixed.now
+        (record { assignment = assignment.now; order = order.now; length = n; arcs = arcs }) stays) }
+{
+    let places = places_in(alloc, order, assignment.lanes())?;
+    let (table, groups) = (start.table(), start.groups());
+    let found = first_not_falling(table, groups, assignment, fixed.bare(), places.as_slice());
+    Ok(found)
+}
+
 /// The answer to the text of a plan.
 fn check_plan<A: Allocator + Copy>(
     alloc: A,
@@ -289,14 +315,13 @@ fn check_plan<A: Allocator + Copy>(
     ensures { IfOk result (λ r. AnswersPlanAround (declared_waits start.now.declared) fixed.now
         (record { assignment = assignment.now; order = order.now; length = chain; arcs = arcs.now }) r) }
 {
-    let places = places_in(alloc, order, assignment.lanes())?;
-    let (table, groups) = (start.table(), start.groups());
-    let stays = first_not_falling(table, groups, assignment, fixed.bare(), places.as_slice());
+    let stays = first_staying(alloc, start, fixed, assignment, order)?;
     if let Some((item, target)) = stays {
         return Ok(Err(NoAround::Plain(No::NotFalling { item, target })));
     }
     let new = u32::from(assignment.lanes() - fixed.lanes());
-    if new_along(start, fixed.lanes(), chain, arcs) != new {
+    let along = new_along(start, fixed.lanes(), chain, arcs);
+    if along != new {
         return Ok(Err(NoAround::Plain(No::LengthDiffers)));
     }
     if chain == 1 && start.workqueues().assignment().lanes() == fixed.lanes() {
@@ -372,7 +397,8 @@ fn leads_to_none<A: Allocator + Copy>(start: &Assigned<'_, '_, A>, arc: (ItemId,
     ensures { IsTrue result
         ↔ LeadsToNoneIn (wiring_of (declared_waits start.now.declared) start.now.workqueues) arc }
 {
-    declares(start, arc) && is_rescued(start, arc.0) && !is_rescued(start, arc.1)
+    let (item, target) = arc;
+    declares(start, item, target) && is_rescued(start, item) && !is_rescued(start, target)
 }
 
 /// The answer to a norescuer text.
