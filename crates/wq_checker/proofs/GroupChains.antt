@@ -23,7 +23,7 @@ Linked d g (arc ∷ arcs) = ItemWaits d.waits arc.0 arc.1 × (group d arc.0 ≡ 
 
 -- ---- what comes before an arc
 
-before_from-suc : (first : Option (ℕ × ℕ)) (arcs : List (ℕ × ℕ)) (k : ℕ) → before_from first arcs (suc k) ≡ slice_get arcs k
+pub before_from-suc : (first : Option (ℕ × ℕ)) (arcs : List (ℕ × ℕ)) (k : ℕ) → before_from first arcs (suc k) ≡ slice_get arcs k
 before_from-suc first arcs k =
     cond-false (eqb (suc k) 0) first (slice_get arcs (suc k - 1)) (ne_eqb (suc k) 0 (λ e. absurd (omega (arith, e)))) ∙ ap (slice_get arcs) (let e : suc k - 1 ≡ k = omega arith in e)
 

@@ -1,24 +1,17 @@
 -- How many new lanes a chain of the start has.
-use Rattle.std.proofs.Common.{◌≡◌, ℕ, ◌+◌, ◌<◌, Bool, true, false, cond, nat_le, List, [], ◌∷◌, map, Option, Some, None, refl, sym, ap, ◌∙◌}
-use Rattle.core.specs.Int.{from_bool}
+use Rattle.std.proofs.Common.{◌≡◌, ℕ, ◌+◌, ◌<◌, Bool, cond, nat_le, List, [], ◌∷◌, map, Option, Some, None, refl, sym, ap, ◌∙◌}
 use Rattle.std.specs.Prelude.{slice_get}
 use Rattle.std.specs.List.{count_by}
 use Rattle.std.proofs.lemmas.List.Sums.{sum_by-cons}
 use Rattle.wq_groups.specs.Declaration.{Declaration}
 use Rattle.wq_core.specs.Wiring.{Wiring, lane_of}
-use Rattle.wq_fixed.specs.Fixed.{Fixed, fixed_lanes}
+use Rattle.wq_core.specs.Workqueues.{Workqueues, wiring_of}
+use Rattle.wq_fixed.specs.Fixed.{Fixed, fixed_lanes, start}
 use Rattle.wq_checker.specs.Around.{start_wiring, new_along}
 
 -- lane q is from this number on, as 0 or 1
 abbrev pub one_new : ℕ → ℕ → ℕ
 one_new new q = cond (nat_le new q) 1 0
-
-pub one_new-is : (new q : ℕ) (is_new : Bool) (n : ℕ) → is_new ≡ nat_le new q → n ≡ from_bool is_new → n ≡ one_new new q
-one_new-is new q is_new n same from = from ∙ as_number is_new ∙ ap (λ (b : Bool). cond b 1 0) same
-  where
-    as_number : (b : Bool) → from_bool b ≡ cond b 1 0
-    as_number true = refl
-    as_number false = refl
 
 -- how many of the targets of these arcs are on such a lane
 abbrev pub new_targets : Wiring → ℕ → List (ℕ × ℕ) → ℕ
@@ -40,7 +33,7 @@ module _ (d : Declaration) (f : Fixed) (n : ℕ) where
       ap (λ (m : ℕ). one_new (fixed_lanes f) first + m) (sym (count_by-map (λ q. nat_le (fixed_lanes f) q) (λ (a : ℕ × ℕ). lane_of (start_wiring d f) a.1) (arc ∷ arcs)))
       ∙ sym (sum_by-cons (λ q. cond (nat_le (fixed_lanes f) q) 1 0) first targets)
 
-  pub new_along-some : (arcs : List (ℕ × ℕ)) (arc : ℕ × ℕ) → slice_get arcs 0 ≡ Some arc
+  new_along-some : (arcs : List (ℕ × ℕ)) (arc : ℕ × ℕ) → slice_get arcs 0 ≡ Some arc
       → one_new (fixed_lanes f) (lane_of (start_wiring d f) arc.0) + new_targets (start_wiring d f) (fixed_lanes f) arcs ≡ new_along d f n arcs
   new_along-some [] arc first = absurd (cc)
   new_along-some (other ∷ arcs) arc first =
@@ -48,6 +41,12 @@ module _ (d : Declaration) (f : Fixed) (n : ℕ) where
       ap (λ (a : ℕ × ℕ). one_new (fixed_lanes f) (lane_of (start_wiring d f) a.0) + new_targets (start_wiring d f) (fixed_lanes f) (other ∷ arcs)) same
       ∙ from_first other arcs
 
-  pub new_along-none : (arcs : List (ℕ × ℕ)) → slice_get arcs 0 ≡ None → n ≡ new_along d f n arcs
-  new_along-none [] none = refl
-  new_along-none (arc ∷ arcs) none = absurd (cc)
+  -- as they were counted on workqueues that are the start's
+  pub new_along-counted : (arcs : List (ℕ × ℕ)) (arc : ℕ × ℕ) (ws : Workqueues) (new first behind : ℕ) → slice_get arcs 0 ≡ Some arc → ws ≡ start f → fixed_lanes f ≡ new
+      → first ≡ one_new new (lane_of (wiring_of d ws) arc.0) → behind ≡ new_targets (wiring_of d ws) new arcs → first + behind ≡ new_along d f n arcs
+  new_along-counted arcs arc ws new first behind stands same lanes one others =
+      ap (λ (m : ℕ). m + behind) one
+      ∙ ap (λ (m : ℕ). one_new new (lane_of (wiring_of d ws) arc.0) + m) others
+      ∙ ap (λ (v : Workqueues). one_new new (lane_of (wiring_of d v) arc.0) + new_targets (wiring_of d v) new arcs) same
+      ∙ ap (λ (m : ℕ). one_new m (lane_of (wiring_of d (start f)) arc.0) + new_targets (wiring_of d (start f)) m arcs) (sym lanes)
+      ∙ new_along-some arcs arc stands

@@ -272,9 +272,14 @@ fn new_along<A: Allocator + Copy>(
     ensures { (f : FixedView) → start.now.workqueues ≡ start_of f → fixed_lanes f ≡ new
         → result ≡ new_along (declared_waits start.now.declared) f chain arcs.now }
 {
-    match arcs.first() {
-        Some(first) => u32::from(is_on_new(start, new, first.0)) + count_new(start, new, arcs),
-        None => chain,
+    let Some(first) = arcs.first() else {
+        return chain;
+    };
+    let behind = count_new(start, new, arcs);
+    if is_on_new(start, new, first.0) {
+        behind + 1
+    } else {
+        behind
     }
 }
 
@@ -319,12 +324,14 @@ fn check_plan<A: Allocator + Copy>(
     if let Some((item, target)) = stays {
         return Ok(Err(NoAround::Plain(No::NotFalling { item, target })));
     }
-    let new = u32::from(assignment.lanes() - fixed.lanes());
-    let along = new_along(start, fixed.lanes(), chain, arcs);
+    let first_new = fixed.lanes();
+    let new = u32::from(assignment.lanes() - first_new);
+    let along = new_along(start, first_new, chain, arcs);
     if along != new {
         return Ok(Err(NoAround::Plain(No::LengthDiffers)));
     }
-    if chain == 1 && start.workqueues().assignment().lanes() == fixed.lanes() {
+    let lanes = start.workqueues().assignment().lanes();
+    if chain == 1 && lanes == first_new {
         return Ok(Err(NoAround::Plain(No::ChainBroken { at: 0 })));
     }
     match first_break(start, None, arcs) {

@@ -1,24 +1,36 @@
-use Rattle.std.proofs.Common.{◌≡◌, ℕ, ◌+◌, nat_le, Some, sym, ap, ◌∙◌, arith}
-use Rattle.std.specs.Prelude.{slice_get}
+use Rattle.std.proofs.Common.{◌≡◌, ℕ, ◌+◌, nat_le, sym, ◌∙◌, arith}
+use Rattle.std.proofs.lemmas.Bool.{cond-true, cond-false}
 use Rattle.wq_groups.specs.DeclaredGroups.{declared_waits}
 use Rattle.wq_core.specs.Wiring.{lane_of}
-use Rattle.wq_core.specs.Workqueues.{Workqueues, wiring_of}
-use Rattle.wq_fixed.specs.Fixed.{start}
-use Rattle.wq_checker.proofs.NewLanes.{one_new, new_targets, one_new-is, new_along-some}
+use Rattle.wq_core.specs.Workqueues.{wiring_of}
+use Rattle.wq_checker.specs.Around.{new_along}
+use Rattle.wq_checker.proofs.NewLanes.{one_new, new_along-counted}
 use Rattle.wq_checker.proofs.checking_around.new_along.Goals as goal
 
-pub returns-in-Some : goal.returns-in-Some
-returns-in-Some g c f same lanes =
+pub returns-then-is_on_new : goal.returns-then-is_on_new
+returns-then-is_on_new g c f same lanes =
     let d = declared_waits c.args.start.now.declared in
-    let w = wiring_of d c.args.start.now.workqueues in
+    let ws = c.args.start.now.workqueues in
     let arcs = c.args.arcs.now in
     let arc = c.in-Some.first.now in
     let new = c.args.new in
-    let at : slice_get arcs 0 ≡ Some arc = sym c.in-Some.ensures.value in
-    let first : c.from.result ≡ one_new new (lane_of w arc.0) = one_new-is new (lane_of w arc.0) c.is_on_new.result c.from.result c.is_on_new.ensures c.from.ensures in
-    let total : c.from.result + c.count_new.result ≡ one_new new (lane_of w arc.0) + new_targets w new arcs =
-    ap (λ (n : ℕ). n + c.count_new.result) first ∙ ap (λ (n : ℕ). one_new new (lane_of w arc.0) + n) c.count_new.ensures.count in
-    total
-    ∙ ap (λ (ws : Workqueues). one_new new (lane_of (wiring_of d ws) arc.0) + new_targets (wiring_of d ws) new arcs) same
-    ∙ ap (λ (n : ℕ). one_new n (lane_of (wiring_of d (start f)) arc.0) + new_targets (wiring_of d (start f)) n arcs) (sym lanes)
-    ∙ new_along-some d f c.args.chain arcs arc at
+    let q : ℕ = lane_of (wiring_of d ws) arc.0 in
+    let first : 1 ≡ one_new new q = sym (cond-true (nat_le new q) 1 0 (sym c.is_on_new.ensures ∙ c.if-is_on_new.true)) in
+    let all : 1 + c.count_new-behind.result ≡ new_along d f c.args.chain arcs =
+    new_along-counted d f c.args.chain arcs arc ws new 1 c.count_new-behind.result (sym c.in-Some.ensures.value) same lanes first c.count_new-behind.ensures.count in
+    let turned : c.count_new-behind.result + 1 ≡ 1 + c.count_new-behind.result = omega arith in
+    turned ∙ all
+
+pub returns-else-is_on_new : goal.returns-else-is_on_new
+returns-else-is_on_new g c f same lanes =
+    let d = declared_waits c.args.start.now.declared in
+    let ws = c.args.start.now.workqueues in
+    let arcs = c.args.arcs.now in
+    let arc = c.in-Some.first.now in
+    let new = c.args.new in
+    let q : ℕ = lane_of (wiring_of d ws) arc.0 in
+    let first : 0 ≡ one_new new q = sym (cond-false (nat_le new q) 1 0 (sym c.is_on_new.ensures ∙ c.if-is_on_new.false)) in
+    let all : 0 + c.count_new-behind.result ≡ new_along d f c.args.chain arcs =
+    new_along-counted d f c.args.chain arcs arc ws new 0 c.count_new-behind.result (sym c.in-Some.ensures.value) same lanes first c.count_new-behind.ensures.count in
+    let plain : c.count_new-behind.result ≡ 0 + c.count_new-behind.result = omega arith in
+    plain ∙ all
