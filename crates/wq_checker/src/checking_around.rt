@@ -321,8 +321,11 @@ fn check_plan<A: Allocator + Copy>(
         (record { assignment = assignment.now; order = order.now; length = chain; arcs = arcs.now }) r) }
 {
     let stays = first_staying(alloc, start, fixed, assignment, order)?;
-    if let Some((item, target)) = stays {
-        return Ok(Err(NoAround::Plain(No::NotFalling { item, target })));
+    if let Some(first) = stays {
+        return Ok(Err(NoAround::Plain(No::NotFalling {
+            item: first.0,
+            target: first.1,
+        })));
     }
     let first_new = fixed.lanes();
     let new = u32::from(assignment.lanes() - first_new);
