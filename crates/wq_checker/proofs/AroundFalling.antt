@@ -17,10 +17,7 @@ use Rattle.wq_checker.specs.Falling.{Declares}
 use Rattle.wq_checker.specs.Searching.{FindsFirst, OfItemsBelow}
 use Rattle.wq_checker.specs.SearchingAround.{FallsTo, ItemsFall, AllItemsFall, FindsNotFalling, IsFirstItemStaying}
 use Rattle.wq_checker.specs.Around.{planned, place_in, FallsAround, AllFallAround, IsFirstNotFallingAround}
-use Rattle.wq_checker.proofs.FallingLemmas.{falls_found, first_found}
-
-pub Declares-ItemWaits : (d : Declaration) (i : ℕ) (target : Target) → Declares d i target → ItemWaits d.waits i target.item
-Declares-ItemWaits d i target there = (there.0, target, there.1, there.2, refl)
+use Rattle.wq_checker.proofs.FallingLemmas.{Declares-ItemWaits, falls_found, first_found}
 
 -- ---- what is found
 
@@ -104,7 +101,7 @@ module _ (d : Declaration) (is : IsDeclaration d) (f : Fixed) (c : AroundPlan) (
   -- of what is declared
   falls-declared : (i : ℕ) (target : Target) → Declares d i target → ItemsFall d c.assignment f.bare places i target.item → FallsAround d f c i target.item
   falls-declared i target declares falls =
-      let waits = Declares-ItemWaits d i target declares in
+      let waits : ItemWaits d.waits i target.item = Declares-ItemWaits d i target.item target declares refl in
       FallsAround-items i target.item (waiting-item d is i target.item waits) (awaited-item d is i target.item waits) falls
 
   pub AllFallAround-items : AllItemsFall d c.assignment f.bare places → AllFallAround d f c
@@ -112,7 +109,7 @@ module _ (d : Declaration) (is : IsDeclaration d) (f : Fixed) (c : AroundPlan) (
 
   pub IsFirstNotFallingAround-items : (i j : ℕ) → IsFirstItemStaying d c.assignment f.bare places i j → IsFirstNotFallingAround d f c i j
   IsFirstNotFallingAround-items i j stays =
-      let waits : ItemWaits d.waits i j = subst (ItemWaits d.waits i) stays.of_target (Declares-ItemWaits d i stays.target stays.declares) in
+      let waits : ItemWaits d.waits i j = Declares-ItemWaits d i j stays.target stays.declares stays.of_target in
       record {
         target = stays.target;
         declares = stays.declares;

@@ -21,6 +21,9 @@ Declares-within d i target declares = elim (cases_lt i (length d.waits)) [
 pub Declares-waits : (d : Declaration) (i j : ℕ) → ItemWaits d.waits i j → (target : Target) × Declares d i target × (target.item ≡ j)
 Declares-waits d i j waits = (waits.1, (waits.0, waits.2, waits.3), waits.4)
 
+pub Declares-ItemWaits : (d : Declaration) (i j : ℕ) (target : Target) → Declares d i target → target.item ≡ j → ItemWaits d.waits i j
+Declares-ItemWaits d i j target there of = (there.0, target, there.1, there.2, of)
+
 module _ (d : Declaration) (Fall : ℕ → ℕ → Type 0) where
   -- the first of an item that doesn't fall is the one at the lowest place, if places rise
   pub IsFirstOf-item : (i k : ℕ) (target : Target) → PlacesRise (targets_of d.waits i) → k < length (targets_of d.waits i) → target ≡ get_or (targets_of d.waits i) k target → (¬ Fall i target.item)

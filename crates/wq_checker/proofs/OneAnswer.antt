@@ -4,7 +4,6 @@ use Rattle.std.specs.Prelude.{slice_get}
 use Rattle.std.proofs.lemmas.Bool.{cases_order}
 use Rattle.std.proofs.lemmas.Option.{slice_get_within}
 use Rattle.wq_items.specs.declared.target.Target.{Target}
-use Rattle.wq_items.specs.Table.{ItemWaits}
 use Rattle.wq_groups.specs.Declaration.{Declaration, IsDeclaration}
 use Rattle.wq_groups.specs.Assignment.{Assignment}
 use Rattle.wq_core.specs.declared.step.Step.{Step}
@@ -25,6 +24,7 @@ use Rattle.wq_checker.specs.Chains.{AllJoin, IsFirstBreak, before_in_chain, befo
 use Rattle.wq_checker.specs.Falling.{Falls, AllFall, Declares, IsFirstNotFalling}
 use Rattle.wq_checker.specs.Answers.{LacksGroup, IsChainBrokenAt, IsPlanAsked, IsAsked, AnswersPlan, AnswersCircle, AnswersCertificate}
 use Rattle.wq_checker.specs.RunEnds.{IsFirstUnlawful, EndsAs, EndsFor}
+use Rattle.wq_checker.proofs.FallingLemmas.{Declares-ItemWaits}
 use Rattle.wq_checker.proofs.FlushPlaces.{same_flush}
 use Rattle.wq_checker.proofs.RunEndLemmas.{IsRun-unlawful}
 
@@ -43,11 +43,8 @@ module _ (d : Declaration) where
 
   -- ---- flushes that fall
 
-  Declares-ItemWaits : (i j : ℕ) (target : Target) → Declares d i target → target.item ≡ j → ItemWaits d.waits i j
-  Declares-ItemWaits i j target there of = (there.0, target, there.1, there.2, of)
-
   fall-none_stays : (a : Assignment) (i j : ℕ) → AllFall d a → ¬ IsFirstNotFalling d a i j
-  fall-none_stays a i j falls first = first.stays (falls i j (Declares-ItemWaits i j first.target first.declares first.of_target))
+  fall-none_stays a i j falls first = first.stays (falls i j (Declares-ItemWaits d i j first.target first.declares first.of_target))
 
   not_before : (a : Assignment) (i j k l : ℕ) → (one : IsFirstNotFalling d a i j) (other : IsFirstNotFalling d a k l) → ¬ one.target.place < other.target.place
   not_before a i j k l one other less = one.stays (subst (λ (n : ℕ). Falls d a i n) one.of_target (other.first i one.target one.declares less))

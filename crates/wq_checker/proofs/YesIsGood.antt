@@ -1,8 +1,7 @@
 -- Around fixed workqueues, a yes is answered exactly to a good certificate.
-use Rattle.std.proofs.Common.{ℕ, ◌-◌, ◌⊎◌, inl, inr, List, Option, Result, Ok, Err, refl, subst}
+use Rattle.std.proofs.Common.{ℕ, ◌-◌, ◌⊎◌, inl, inr, List, Option, Result, Ok, Err, refl}
 use Rattle.std.specs.Prelude.{◌↔◌, IsOk}
 use Rattle.std.proofs.lemmas.Bool.{false≢true}
-use Rattle.wq_items.specs.Table.{ItemWaits}
 use Rattle.wq_groups.specs.Declaration.{Declaration}
 use Rattle.wq_core.specs.Wiring.{Wiring}
 use Rattle.wq_fixed.specs.Fixed.{Fixed}
@@ -19,7 +18,7 @@ use Rattle.wq_checker.specs.declared.around.NoAround.TheVariants as no_around
 use Rattle.wq_checker.specs.Chains.{before_in_chain, before_in_circle}
 use Rattle.wq_checker.specs.Around.{start_wiring, AllFallAround, IsFirstNotFallingAround, AllJoinIn, IsFirstBreakIn, IsBrokenAroundAt, IsGoodPlanAround, IsGoodAround}
 use Rattle.wq_checker.specs.Around.{AnswersPlanAround, AnswersCircleAround, AnswersNoRescuer, AnswersAround}
-use Rattle.wq_checker.proofs.AroundFalling.{Declares-ItemWaits}
+use Rattle.wq_checker.proofs.FallingLemmas.{Declares-ItemWaits}
 
 -- what isn't good has no yes
 refused : {P : Type 0} (why : NoAround) → (¬ P) → IsOk {T = YesAround} (Err why) ↔ P
@@ -31,8 +30,7 @@ joined-unbroken w before arcs at joined break = break.breaks (joined (at - 1) br
 module _ (d : Declaration) (f : Fixed) where
   falls-none_stays : (c : AroundPlan) (i j : ℕ) → AllFallAround d f c → ¬ IsFirstNotFallingAround d f c i j
   falls-none_stays c i j falls first =
-      let waits : ItemWaits d.waits i j = subst (ItemWaits d.waits i) first.of_target (Declares-ItemWaits d i first.target first.declares) in
-      first.stays (falls i j waits)
+      first.stays (falls i j (Declares-ItemWaits d i j first.target first.declares first.of_target))
 
   good-unbroken : (c : AroundPlan) (at : ℕ) → IsBrokenAroundAt d f c at → ¬ IsGoodPlanAround d f c
   good-unbroken c at (inl lacks) good = good.has_free lacks.0

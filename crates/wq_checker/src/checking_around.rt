@@ -157,11 +157,7 @@ fn is_rescued<A: Allocator + Copy>(start: &Assigned<'_, '_, A>, item: ItemId) ->
 }
 
 /// Whether an item declares a flush of another one.
-fn declares<A: Allocator + Copy>(
-    start: &Assigned<'_, '_, A>,
-    item: ItemId,
-    target: ItemId,
-) -> bool
+fn declares<A: Allocator + Copy>(start: &Assigned<'_, '_, A>, item: ItemId, target: ItemId) -> bool
     requires { item < length start.now.declared.table.waits }
     ensures { IsTrue result ↔ ItemWaits start.now.declared.table.waits item target }
 {
