@@ -1,5 +1,6 @@
 -- The first arc that doesn't join the one before it.
-use Rattle.std.proofs.Common.{◌≡◌, ℕ, ◌+◌, ◌-◌, ◌<◌, ◌≤◌, inl, inr, List, length, get_or, Option, Some, sym, ap, subst, ◌∙◌, arith}
+use Rattle.std.proofs.Common.{◌≡◌, ℕ, ◌+◌, ◌-◌, ◌<◌, ◌≤◌, inl, inr, List, length, get_or, Option, Some, sym, ap, subst}
+use Rattle.std.proofs.Common.{◌∙◌, arith}
 use Rattle.std.specs.Prelude.{slice_get}
 use Rattle.std.proofs.lemmas.Bool.{cases_lt}
 use Rattle.std.proofs.lemmas.Option.{slice_get-get_or, slice_get_within}
@@ -21,7 +22,8 @@ module _ (w : Wiring) (before : ℕ → Option (ℕ × ℕ)) (arcs : List (ℕ �
   stands-at n arc within is = slice_get-get_or arcs n arc within ∙ ap (λ (a : ℕ × ℕ). Some a) (sym is)
 
   -- the arc at n breaks
-  pub IsFirstBreakIn-next : (at n : ℕ) (arc : ℕ × ℕ) → at ≡ n → slice_get arcs n ≡ Some arc → (¬ JoinsIn w (before n) arc) → JoinInUpTo w before arcs n → IsFirstBreakIn w before arcs (at + 1)
+  pub IsFirstBreakIn-next : (at n : ℕ) (arc : ℕ × ℕ) → at ≡ n → slice_get arcs n ≡ Some arc
+      → (¬ JoinsIn w (before n) arc) → JoinInUpTo w before arcs n → IsFirstBreakIn w before arcs (at + 1)
   IsFirstBreakIn-next at n arc counted stands breaks joined =
       let same : n ≡ at + 1 - 1 = omega (arith, counted) in
       record {
@@ -33,12 +35,14 @@ module _ (w : Wiring) (before : ℕ → Option (ℕ × ℕ)) (arcs : List (ℕ �
       }
 
   -- it joins
-  pub JoinInUpTo-next : (n : ℕ) (arc : ℕ × ℕ) → slice_get arcs n ≡ Some arc → JoinsIn w (before n) arc → JoinInUpTo w before arcs n → JoinInUpTo w before arcs (n + 1)
+  pub JoinInUpTo-next : (n : ℕ) (arc : ℕ × ℕ) → slice_get arcs n ≡ Some arc → JoinsIn w (before n) arc
+      → JoinInUpTo w before arcs n → JoinInUpTo w before arcs (n + 1)
   JoinInUpTo-next n arc stands joins joined k other less there = elim (cases_lt k n) [
     | inl lower ↦ joined k other lower there
     | inr last ↦
         let same : n ≡ k = omega (arith, last, less) in
-        let both : Some arc ≡ Some other = sym stands ∙ subst (λ (m : ℕ). slice_get arcs m ≡ Some other) (sym same) there in
+        let both : Some arc ≡ Some other = sym stands
+        ∙ subst (λ (m : ℕ). slice_get arcs m ≡ Some other) (sym same) there in
         let one : arc ≡ other = cc in
         subst (λ (m : ℕ). JoinsIn w (before m) other) same (subst (JoinsIn w (before n)) one joins)
   ]

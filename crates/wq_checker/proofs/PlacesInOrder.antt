@@ -1,5 +1,6 @@
 -- Where each workqueue comes first in an order.
-use Rattle.std.proofs.Common.{◌≡◌, ◌≢◌, ℕ, ◌<◌, ◌≤◌, inl, inr, ltb, eqb, List, length, get_or, map, Option, Some, None, sym, ap, subst, ◌∙◌, arith}
+use Rattle.std.proofs.Common.{◌≡◌, ◌≢◌, ℕ, ◌<◌, ◌≤◌, inl, inr, ltb, eqb, List, length, get_or, map, Option, Some, None}
+use Rattle.std.proofs.Common.{sym, ap, subst, ◌∙◌, arith}
 use Rattle.std.specs.Prelude.{unwrap_or}
 use Rattle.std.specs.List.{position_or_len, range_with_len}
 use Rattle.std.proofs.lemmas.Bool.{cases_eq, cases_lt, eq-eqb, ne_eqb, lt-ltb, le-ltb, cond-true, cond-false}
@@ -17,10 +18,16 @@ module _ (order : List ℕ) where
   place_in-position : (q p : ℕ) → p ≤ length order → position_or_len (λ x. eqb x q) order ≡ p → place_in order q ≡ p
   place_in-position q p few is = elim (cases_lt p (length order)) [
     | inl less ↦
-        ap (λ (o : Option ℕ). unwrap_or o (length order)) (cond-true (ltb (position_or_len (λ x. eqb x q) order) (length order)) (Some (position_or_len (λ x. eqb x q) order)) None (lt-ltb (position_or_len (λ x. eqb x q) order) (length order) (omega (arith, is, less))))
+        ap (λ (o : Option ℕ). unwrap_or o (length order))
+        (cond-true (ltb (position_or_len (λ x. eqb x q) order) (length order))
+        (Some (position_or_len (λ x. eqb x q) order)) None
+        (lt-ltb (position_or_len (λ x. eqb x q) order) (length order) (omega (arith, is, less))))
         ∙ is
     | inr not_less ↦
-        ap (λ (o : Option ℕ). unwrap_or o (length order)) (cond-false (ltb (position_or_len (λ x. eqb x q) order) (length order)) (Some (position_or_len (λ x. eqb x q) order)) None (le-ltb (position_or_len (λ x. eqb x q) order) (length order) (omega (arith, is, not_less))))
+        ap (λ (o : Option ℕ). unwrap_or o (length order))
+        (cond-false (ltb (position_or_len (λ x. eqb x q) order) (length order))
+        (Some (position_or_len (λ x. eqb x q) order)) None
+        (le-ltb (position_or_len (λ x. eqb x q) order) (length order) (omega (arith, is, not_less))))
         ∙ (let end : length order ≡ p = omega (arith, few, not_less) in end)
   ]
 
@@ -32,7 +39,9 @@ module _ (order : List ℕ) where
         | inr differs ↦ (let less : p < length order = place.there differs in omega (arith, less))
       ] in
       place_in-position q p few
-      (position_or_len_is (λ x. eqb x q) order p 0 few (λ k less. ne_eqb (get_or order k 0) q (place.before k (omega (arith, less, few)) less)) (λ less. eq-eqb (get_or order p 0) q (place.at less)))
+      (position_or_len_is (λ x. eqb x q) order p 0 few
+      (λ k less. ne_eqb (get_or order k 0) q (place.before k (omega (arith, less, few)) less))
+      (λ less. eq-eqb (get_or order p 0) q (place.at less)))
 
 -- ---- the places of all lanes, as they are found
 
@@ -40,7 +49,10 @@ module _ (order : List ℕ) where
 abbrev pub ArePlacesBelow : List ℕ → ℕ → ℕ → List ℕ → Type 0
 ArePlacesBelow order lanes n places = (q : ℕ) → q < lanes → IsPlaceBelow order n q (get_or places q 0)
 
-pub places-all : (order : List ℕ) (lanes n : ℕ) (places : List ℕ) → n ≡ length order → length places ≡ lanes → ArePlacesBelow order lanes n places → places ≡ map (place_in order) (range_with_len 0 lanes)
+pub places-all : (order : List ℕ) (lanes n : ℕ) (places : List ℕ) → n ≡ length order → length places ≡ lanes
+    → ArePlacesBelow order lanes n places → places ≡ map (place_in order) (range_with_len 0 lanes)
 places-all order lanes n places all long placed =
     fill_by_all (place_in order) places lanes 0 long
-    (λ k less. sym (place_in-is order k (get_or places k 0) (subst (λ (m : ℕ). IsPlaceBelow order m k (get_or places k 0)) all (placed k less))))
+    (λ k less. sym
+    (place_in-is order k (get_or places k 0)
+    (subst (λ (m : ℕ). IsPlaceBelow order m k (get_or places k 0)) all (placed k less))))

@@ -189,8 +189,8 @@ AnswersAround d f (OfPlanAround c) answer = AnswersPlanAround d f c answer
 AnswersAround d f (OfCircleAround c) answer = AnswersCircleAround d f c answer
 AnswersAround d f (OfNoRescuer c) answer = AnswersNoRescuer d f c answer
 
--- the certificate shows what it says: a good plan; arcs that go round; or a flush to no rescuer; and the steps, if there
--- are any, are a run that deadlocks
+-- the certificate shows what it says: a good plan; or arcs that go round, or a flush to no rescuer, and the steps, if
+-- there are any, are a run that deadlocks
 abbrev pub IsGoodAround : Declaration → Fixed → AroundCertificate → Type 0
 IsGoodAround d f (OfPlanAround c) = IsGoodPlanAround d f c
 IsGoodAround d f (OfCircleAround c) =

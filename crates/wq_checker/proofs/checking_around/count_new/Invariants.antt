@@ -5,4 +5,5 @@ use Rattle.wq_checker.proofs.NewLanes.{new_targets}
 use Rattle.wq_checker.proofs.checking_around.count_new.Given as goal
 
 abbrev pub invariant-loop-arc : goal.invariant-loop-arc
-invariant-loop-arc g l = l.count ≡ new_targets (wiring_of (declared_waits l.start.declared) l.start.workqueues) l.new (take l.arc-index l.arcs)
+invariant-loop-arc g l = l.count ≡ new_targets (wiring_of (declared_waits l.start.declared) l.start.workqueues) l.new
+    (take l.arc-index l.arcs)

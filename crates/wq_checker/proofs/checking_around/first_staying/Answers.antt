@@ -16,9 +16,11 @@ pub first_not_falling-found-requires : goal.first_not_falling-found-requires
 first_not_falling-found-requires g c =
     let sound = c.table-table.ensures.assigned.declared in
     record {
-      grouped = ap (λ (p : Partition). length p.group_of) c.groups-groups.ensures.is ∙ sound.one_group_each ∙ sym (ap (λ (t : Table). length t.names) c.table-table.ensures.is);
+      grouped = ap (λ (p : Partition). length p.group_of) c.groups-groups.ensures.is ∙ sound.one_group_each
+          ∙ sym (ap (λ (t : Table). length t.names) c.table-table.ensures.is);
       assigned = c.requires.assigned ∙ sym (ap (λ (p : Partition). p.groups) c.groups-groups.ensures.is);
-      places = ap (λ (l : List ℕ). length l) (c.as_slice.ensures.value ∙ c.in_ok-places.ensures) ∙ length-map-range_with_len (place_in c.args.order.now) 0 c.lanes.result ∙ c.lanes.ensures.lanes;
+      places = ap (λ (l : List ℕ). length l) (c.as_slice.ensures.value ∙ c.in_ok-places.ensures)
+          ∙ length-map-range_with_len (place_in c.args.order.now) 0 c.lanes.result ∙ c.lanes.ensures.lanes;
     }
 
 pub returns : goal.returns
@@ -26,16 +28,24 @@ returns g c n arcs =
     let declared = c.args.start.now.declared in
     let d = declared_waits declared in
     let sound = c.table-table.ensures.assigned.declared in
-    let is : IsDeclaration d = IsDeclaration-of declared.table declared.partition sound.table sound.partition sound.one_group_each in
-    let plan : AroundPlan = record { assignment = c.args.assignment.now; order = c.args.order.now; length = n; arcs = arcs } in
-    let assignment : IsAssignment d.groups plan.assignment = record { one_each = c.requires.assigned; within = c.lanes.ensures.within } in
+    let is : IsDeclaration d = IsDeclaration-of declared.table declared.partition sound.table sound.partition
+    sound.one_group_each in
+    let plan : AroundPlan =
+    record { assignment = c.args.assignment.now; order = c.args.order.now; length = n; arcs = arcs } in
+    let assignment : IsAssignment d.groups plan.assignment =
+    record { one_each = c.requires.assigned; within = c.lanes.ensures.within } in
     let places = c.as_slice.result.now in
     let found = c.first_not_falling-found.result in
     let at : places ≡ map (place_in plan.order) (range_with_len 0 plan.assignment.lanes) =
-    c.as_slice.ensures.value ∙ c.in_ok-places.ensures ∙ ap (λ (lanes : ℕ). map (place_in plan.order) (range_with_len 0 lanes)) c.lanes.ensures.lanes in
+    c.as_slice.ensures.value ∙ c.in_ok-places.ensures
+    ∙ ap (λ (lanes : ℕ). map (place_in plan.order) (range_with_len 0 lanes)) c.lanes.ensures.lanes in
     let same : declaration_of c.table-table.result.now c.groups-groups.result.now ≡ d =
-    ap (λ (t : Table). declaration_of t c.groups-groups.result.now) c.table-table.ensures.is ∙ ap (λ (p : Partition). declaration_of declared.table p) c.groups-groups.ensures.is in
-    let here : FindsStaying (declaration_of c.table-table.result.now c.groups-groups.result.now) plan.assignment c.bare.result.now places found = (c.first_not_falling-found.ensures.some, c.first_not_falling-found.ensures.none) in
+    ap (λ (t : Table). declaration_of t c.groups-groups.result.now) c.table-table.ensures.is
+    ∙ ap (λ (p : Partition). declaration_of declared.table p) c.groups-groups.ensures.is in
+    let here : FindsStaying (declaration_of c.table-table.result.now c.groups-groups.result.now) plan.assignment
+    c.bare.result.now places found =
+    (c.first_not_falling-found.ensures.some, c.first_not_falling-found.ensures.none) in
     let moved : FindsStaying d plan.assignment c.args.fixed.now.bare places found =
-    subst (λ (bare : List Bool). FindsStaying d plan.assignment bare places found) c.bare.ensures (subst (λ (e : Declaration). FindsStaying e plan.assignment c.bare.result.now places found) same here) in
+    subst (λ (bare : List Bool). FindsStaying d plan.assignment bare places found) c.bare.ensures
+    (subst (λ (e : Declaration). FindsStaying e plan.assignment c.bare.result.now places found) same here) in
     FindsNotFalling-items d is c.args.fixed.now plan assignment places at found moved
