@@ -1,14 +1,14 @@
 -- What good certificates around fixed workqueues imply.
-use Rattle.std.proofs.Common.{◌≡◌, ◌≢◌, ℕ, zero, suc, ◌+◌, ◌-◌, ◌<◌, ◌≤◌, Bool, cond, List, [], ◌∷◌, length, Option}
-use Rattle.std.proofs.Common.{Some, None, Result, Ok, refl, sym, ap, subst, ◌∙◌, arith}
+use Rattle.std.proofs.Common.{◌≡◌, ◌≢◌, ℕ, zero, suc, ◌+◌, ◌-◌, ◌<◌, ◌≤◌, Bool, cond, List, [], ◌∷◌, length}
+use Rattle.std.proofs.Common.{None, Result, Ok, refl, sym, ap, subst, ◌∙◌, arith}
 use Rattle.std.specs.List.{All}
 use Rattle.std.proofs.lemmas.Bool.{le-leb}
 use Rattle.std.proofs.lemmas.List.Elements.{All-cons, All-nil}
-use Rattle.wq_items.specs.Chain.{IsChain, Circle}
+use Rattle.wq_items.specs.Chain.{IsChain}
 use Rattle.wq_groups.specs.Declaration.{Declaration, IsDeclaration}
 use Rattle.wq_groups.specs.Assignment.{IsAssignment}
 use Rattle.wq_groups.proofs.Declarations.{waiting-item, awaited-item}
-use Rattle.wq_core.specs.Wiring.{IsWiring, RescuedWaits, wiring, lane_of}
+use Rattle.wq_core.specs.Wiring.{IsWiring, RescuedWaits, wiring}
 use Rattle.wq_core.specs.Workqueues.{Workqueues, wiring_of}
 use Rattle.wq_core.specs.Deadlock.{IsSafe, Deadlocks}
 use Rattle.wq_core.proofs.BareWaits.{Deadlocks-bare}
@@ -21,10 +21,9 @@ use Rattle.wq_fixed.specs.Fixed.{start}
 use Rattle.wq_fixed.proofs.ChainsOfStart.{Circle-fewer}
 use Rattle.wq_fixed.proofs.Kept.{lane_now, waits_here, rescuer_here}
 use Rattle.wq_fixed.proofs.StartKeeps.{IsAssignmentOf-start}
-use Rattle.wq_cert.specs.AroundReading.{AroundPlan, NoRescuerCertificate, AroundCertificate, OfPlanAround}
+use Rattle.wq_cert.specs.AroundReading.{AroundPlan, AroundCertificate, OfPlanAround}
 use Rattle.wq_cert.specs.AroundReading.{OfCircleAround, OfNoRescuer}
 use Rattle.wq_cert.specs.Certificate.{CircleCertificate}
-use Rattle.wq_checker.specs.declared.answer.Yes.{Yes}
 use Rattle.wq_checker.specs.declared.answer.Yes.TheVariants as yes
 use Rattle.wq_checker.specs.declared.around.YesAround.{YesAround}
 use Rattle.wq_checker.specs.declared.around.YesAround.TheVariants as yes_around
@@ -32,7 +31,7 @@ use Rattle.wq_checker.specs.declared.around.NoAround.{NoAround}
 use Rattle.wq_checker.specs.Answers.{ArcsOfItems}
 use Rattle.wq_checker.specs.Chains.{before_in_chain, before_in_circle}
 use Rattle.wq_checker.specs.Around.{planned, start_wiring, place_in, AllFallAround, AllJoinAround, LeadsToNone}
-use Rattle.wq_checker.specs.Around.{lanes_along, new_along, new_planned, LacksFree}
+use Rattle.wq_checker.specs.Around.{lanes_along, new_along}
 use Rattle.wq_checker.specs.Around.{IsGoodPlanAround, IsPlanAroundAsked, IsCircleAroundAsked, IsAroundAsked}
 use Rattle.wq_checker.specs.Around.{AnswersPlanAround, AnswersCircleAround, AnswersNoRescuer, AnswersAround}
 use Rattle.wq_checker.specs.Around.{YesIsLeastAround, CircleIsOfAll, NoneIsOfAll}

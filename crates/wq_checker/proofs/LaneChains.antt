@@ -1,5 +1,5 @@
 -- Arcs that join, as chains and circles of lanes that have a rescuer.
-use Rattle.std.proofs.Common.{◌≡◌, ℕ, zero, suc, ◌+◌, ◌-◌, ◌<◌, List, [], ◌∷◌, length, map, get_or, Option, Some, refl}
+use Rattle.std.proofs.Common.{◌≡◌, ℕ, suc, ◌-◌, ◌<◌, List, [], ◌∷◌, length, map, get_or, Option, Some, refl}
 use Rattle.std.proofs.Common.{sym, ap, subst, ◌∙◌, arith}
 use Rattle.std.specs.Prelude.{slice_get}
 use Rattle.std.specs.List.{All}
@@ -9,7 +9,7 @@ use Rattle.wq_items.specs.Chain.{IsChain, Circle, last_of}
 use Rattle.wq_items.proofs.Tables.{ItemWaits-below, ItemWaits-item, VertexWaits-items}
 use Rattle.wq_core.specs.Wiring.{Wiring, IsWiring, RescuedWaits, items, lane_of}
 use Rattle.wq_core.proofs.Wirings.{lane_of-within}
-use Rattle.wq_checker.specs.Chains.{before_from, before_in_chain, before_in_circle}
+use Rattle.wq_checker.specs.Chains.{before_from, before_in_circle}
 use Rattle.wq_checker.specs.Around.{JoinsIn, AllJoinIn}
 use Rattle.wq_checker.proofs.GroupChains.{before_from-next}
 

@@ -23,7 +23,7 @@ use Rattle.wq_checker.specs.declared.answer.No.TheVariants.{RunBroken}
 use Rattle.wq_checker.specs.declared.run.RunEnd.{RunEnd}
 use Rattle.wq_checker.specs.declared.run.RunEnd.TheVariants.{NotLawful, Deadlock, Stuck, Free}
 use Rattle.wq_checker.specs.Chains.{AllJoin, IsFirstBreak, before_in_chain, before_in_circle}
-use Rattle.wq_checker.specs.Falling.{Falls, AllFall, Declares, IsFirstNotFalling}
+use Rattle.wq_checker.specs.Falling.{Falls, AllFall, IsFirstNotFalling}
 use Rattle.wq_checker.specs.Answers.{LacksGroup, IsChainBrokenAt, IsPlanAsked, IsAsked, AnswersPlan, AnswersCircle}
 use Rattle.wq_checker.specs.Answers.{AnswersCertificate}
 use Rattle.wq_checker.specs.RunEnds.{IsFirstUnlawful, EndsAs, EndsFor}

@@ -1,5 +1,5 @@
 -- Around fixed workqueues, a yes is answered exactly to a good certificate.
-use Rattle.std.proofs.Common.{ℕ, ◌-◌, ◌⊎◌, inl, inr, List, Option, Result, Ok, Err, refl}
+use Rattle.std.proofs.Common.{ℕ, ◌-◌, inl, inr, List, Option, Result, Ok, Err, refl}
 use Rattle.std.specs.Prelude.{◌↔◌, IsOk}
 use Rattle.std.proofs.lemmas.Bool.{false≢true}
 use Rattle.wq_groups.specs.Declaration.{Declaration}
@@ -8,9 +8,7 @@ use Rattle.wq_fixed.specs.Fixed.{Fixed}
 use Rattle.wq_cert.specs.AroundReading.{AroundPlan, NoRescuerCertificate, AroundCertificate, OfPlanAround}
 use Rattle.wq_cert.specs.AroundReading.{OfCircleAround, OfNoRescuer}
 use Rattle.wq_cert.specs.Certificate.{CircleCertificate}
-use Rattle.wq_checker.specs.declared.answer.Yes.{Yes}
 use Rattle.wq_checker.specs.declared.answer.Yes.TheVariants as yes
-use Rattle.wq_checker.specs.declared.answer.No.{No}
 use Rattle.wq_checker.specs.declared.answer.No.TheVariants.{NotFalling, LengthDiffers, ChainBroken, CircleBroken}
 use Rattle.wq_checker.specs.declared.answer.No.TheVariants.{RunBroken}
 use Rattle.wq_checker.specs.declared.around.YesAround.{YesAround}

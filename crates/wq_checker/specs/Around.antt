@@ -1,6 +1,6 @@
 -- Answers of the checker around fixed workqueues: what a certificate shows, or the first reason why it shows nothing.
 use Rattle.std.specs.Prelude.{◌≡◌, ◌≢◌, ◌⊎◌, ℕ, ◌-◌, ◌+◌, ◌<◌, ◌≤◌, ◌==◌, List, [], ◌∷◌, length, map, Option, Some}
-use Rattle.std.specs.Prelude.{None, IsSome, Result, Ok, Err, slice_get, unwrap_or}
+use Rattle.std.specs.Prelude.{None, Result, Ok, Err, slice_get, unwrap_or}
 use Rattle.std.specs.List.{All, position}
 use Rattle.wq_items.specs.declared.target.Target.{Target}
 use Rattle.wq_items.specs.Table.{ItemWaits}
@@ -16,9 +16,7 @@ use Rattle.wq_cert.specs.AroundReading.{AroundPlan, NoRescuerCertificate, Around
 use Rattle.wq_cert.specs.AroundReading.{OfCircleAround, OfNoRescuer}
 use Rattle.wq_cert.specs.Certificate.{CircleCertificate}
 use Rattle.wq_cert.specs.Reading.{max_count}
-use Rattle.wq_checker.specs.declared.answer.Yes.{Yes}
 use Rattle.wq_checker.specs.declared.answer.Yes.TheVariants as yes
-use Rattle.wq_checker.specs.declared.answer.No.{No}
 use Rattle.wq_checker.specs.declared.answer.No.TheVariants.{NotFalling, LengthDiffers, ChainBroken, CircleBroken}
 use Rattle.wq_checker.specs.declared.answer.No.TheVariants.{RunBroken}
 use Rattle.wq_checker.specs.declared.around.YesAround.{YesAround}

@@ -1,12 +1,12 @@
-use Rattle.std.proofs.Common.{◌≡◌, ℕ, ◌+◌, ◌⊎◌, inl, inr, Option, refl, sym, ap, subst, ◌∙◌, arith}
+use Rattle.std.proofs.Common.{◌≡◌, ℕ, ◌+◌, inl, inr, Option, refl, sym, ap, subst, ◌∙◌, arith}
 use Rattle.wq_groups.specs.Assignment.{Assignment}
 use Rattle.wq_groups.specs.DeclaredGroups.{declared_waits}
 use Rattle.wq_core.specs.Workqueues.{Workqueues, wiring_of}
 use Rattle.wq_fixed.specs.Fixed.{fixed_lanes, free_groups}
 use Rattle.wq_cert.specs.AroundReading.{AroundPlan}
 use Rattle.wq_checker.specs.Chains.{before_in_chain}
-use Rattle.wq_checker.specs.Around.{AllFallAround, IsFirstNotFallingAround, IsFirstBreakIn, AllJoinIn, IsBrokenAroundAt}
-use Rattle.wq_checker.specs.Around.{LacksFree, IsGoodPlanAround, new_along, new_planned}
+use Rattle.wq_checker.specs.Around.{AllFallAround, IsFirstBreakIn, AllJoinIn}
+use Rattle.wq_checker.specs.Around.{LacksFree, new_along, new_planned}
 use Rattle.wq_checker.specs.SearchingAround.{FindsNotFalling}
 use Rattle.wq_checker.proofs.checking_around.check_plan.Goals as goal
 use Rattle.wq_checker.proofs.checking_around.check_plan.Goals.{else-chain-eq1-via-then-chain-eq1+else-lanes-first_new}
