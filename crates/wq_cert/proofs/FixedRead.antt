@@ -99,12 +99,6 @@ module _ (names : List (List ℕ)) (p : Partition) where
         ap (fixed_plan_reading names p) stands
         ∙ ap (λ (r : Result ℕ CertError). and_read of_count (and_then (λ (m : ℕ). Ok (m, behind)) r)) (sym count)
 
-    pub fixed_plan-short : (e : CertError) → IsCertFaultOf e (next_workqueues names p.group_of n [] behind)
-        → IsCertFaultOf e (fixed_plan_reading names p lines)
-    fixed_plan-short e fault =
-        IsCertFaultOf-then (λ (q : List (List ℕ) × List CertLine). of_workqueues q.0 q.1) e
-        (next_workqueues names p.group_of n [] behind) (fixed_plan_reading names p lines) fixed_plan-count fault
-
     module _ (workqueues : List (List ℕ)) (rest : List CertLine)
         (read : next_workqueues names p.group_of n [] behind ≡ Ok (workqueues, rest)) where
       fixed_plan-workqueues : fixed_plan_reading names p lines ≡ of_workqueues workqueues rest
@@ -119,21 +113,9 @@ module _ (names : List (List ℕ)) (p : Partition) where
           ap length (unset ∙ ap (λ k. replicate k false) (sym fixed_plan-many) ∙ replicate-map workqueues)
           ∙ length-map workqueues (λ _. false)
 
-      pub fixed_plan-part : (e : CertError) → part_lanes p workqueues ≡ Err e
-          → IsCertFaultOf e (fixed_plan_reading names p lines)
-      fixed_plan-part e fault =
-          IsCertFaultOf-err e (fixed_plan_reading names p lines)
-          (fixed_plan-workqueues ∙ ap (and_then (of_lanes workqueues rest)) fault)
-
       module _ (lanes : List (Option ℕ)) (part : part_lanes p workqueues ≡ Ok lanes) where
         fixed_plan-lanes : fixed_plan_reading names p lines ≡ of_lanes workqueues rest lanes
         fixed_plan-lanes = fixed_plan-workqueues ∙ ap (and_then (of_lanes workqueues rest)) part
-
-        pub fixed_plan-chain : (e : CertError) → IsCertFaultOf e (chain_reading names rest)
-            → IsCertFaultOf e (fixed_plan_reading names p lines)
-        fixed_plan-chain e fault =
-            IsCertFaultOf-then (of_chain lanes workqueues) e (chain_reading names rest)
-            (fixed_plan_reading names p lines) fixed_plan-lanes fault
 
         pub fixed_plan-all : (chain : ℕ × List (ℕ × ℕ)) (bare : List Bool) → chain_reading names rest ≡ Ok chain
             → bare ≡ replicate n false

@@ -3,7 +3,7 @@ use Rattle.std.proofs.Common.{◌≡◌, ℕ, ◌+◌, ◌<◌, ◌≤◌, inl, 
 use Rattle.std.proofs.Common.{List, length, get_or, count_by, Option, Some, None, Result, Ok, Err, refl, sym, ap, ap₂}
 use Rattle.std.proofs.Common.{◌∙◌, arith}
 use Rattle.std.specs.List.{list_all, concat, range_with_len}
-use Rattle.std.proofs.lemmas.Bool.{cases_Bool, lt-ltb, le-ltb, ltb-false}
+use Rattle.std.proofs.lemmas.Bool.{cases_Bool, ltb-false}
 use Rattle.std.proofs.lemmas.List.{get_or_default}
 use Rattle.std.proofs.lemmas.List.Folds.{list_all_at}
 use Rattle.std.proofs.lemmas.List.FromFn.{length-range_with_len, get_or-range_with_len}
@@ -104,19 +104,6 @@ module _ (p : Partition) (workqueues : List (List ℕ)) where
   abbrev lanes_if : Bool → Bool → Result (List (Option ℕ)) CertError
   lanes_if whole far =
       cond (not whole) (Err (GroupSplit 0)) (cond far (Err (NumberOutOfRange 0)) (Ok (lanes_with p workqueues)))
-
-  pub part_lanes-split : are_all_whole ≡ false → part_lanes p workqueues ≡ Err (GroupSplit 0)
-  part_lanes-split split = ap (λ b. lanes_if b (ltb 4096 many)) split
-
-  pub part_lanes-many : are_all_whole ≡ true → 4096 < many → part_lanes p workqueues ≡ Err (NumberOutOfRange 0)
-  part_lanes-many whole far =
-      ap (λ b. lanes_if b (ltb 4096 many)) whole ∙ ap (lanes_if true) (lt-ltb 4096 many far)
-
-  pub part_lanes-all : (lanes : List (Option ℕ)) → are_all_whole ≡ true → many ≤ 4096 → lanes ≡ lanes_with p workqueues
-      → part_lanes p workqueues ≡ Ok lanes
-  part_lanes-all lanes whole few same =
-      ap (λ b. lanes_if b (ltb 4096 many)) whole ∙ ap (lanes_if true) (le-ltb 4096 many few)
-      ∙ ap (λ (ls : List (Option ℕ)). Ok ls) (sym same)
 
   -- what is known of the lanes
   record ArePart (lanes : List (Option ℕ)) : Type 0 where
