@@ -73,7 +73,7 @@ module _ {X : Type 0} (p : X → Bool) where
 
 -- ---- the workqueue of a group
 
-any_concat : (q : ℕ → Bool) (xss : List (List ℕ)) → list_any q (concat xss) ≡ list_any (λ xs. list_any q xs) xss
+pub any_concat : (q : ℕ → Bool) (xss : List (List ℕ)) → list_any q (concat xss) ≡ list_any (λ xs. list_any q xs) xss
 any_concat q [] = refl
 any_concat q (xs ∷ xss) = list_any-append q xs (concat xss) ∙ ap (λ b. list_any q xs || b) (any_concat q xss)
 
@@ -81,7 +81,8 @@ module _ (group_of : List ℕ) (workqueues : List (List ℕ)) (g : ℕ) where
   holds : List ℕ → Bool
   holds items = holds_member group_of items g
 
-  any_holds : (b : Bool) → holds_member group_of (concat workqueues) g ≡ b → list_any (λ items. holds_member group_of items g) workqueues ≡ b
+  pub any_holds : (b : Bool) → holds_member group_of (concat workqueues) g ≡ b
+      → list_any (λ items. holds_member group_of items g) workqueues ≡ b
   any_holds b is = sym (any_concat (λ i. get_or group_of i 0 == g) workqueues) ∙ is
 
   -- it is one of those that hold a member, if one does
