@@ -20,8 +20,8 @@ use Rattle.wq_cert.specs.declared.fault.CertError.{CertError}
 use Rattle.wq_cert.specs.declared.fault.CertError.TheVariants.{BadCertLine, NotAllItems, NumberOutOfRange}
 use Rattle.wq_cert.specs.AroundReading.{AroundCertificate, AroundPlan, NoRescuerCertificate, OfCircleAround, OfNoRescuer}
 use Rattle.wq_cert.specs.AroundReading.{OfPlanAround, around_of_text, around_plan_reading, around_reading}
-use Rattle.wq_cert.specs.AroundReading.{fixed_workqueues, new_count_reading, norescuer_count_reading, norescuer_reading}
-use Rattle.wq_cert.specs.AroundReading.{order_form, order_reading}
+use Rattle.wq_cert.specs.AroundReading.{fixed_workqueues, new_assignment, new_count_reading, norescuer_count_reading}
+use Rattle.wq_cert.specs.AroundReading.{norescuer_reading, order_form, order_reading}
 use Rattle.wq_cert.specs.Certificate.{Certificate, CircleCertificate, OfCircle}
 use Rattle.wq_cert.specs.Forms.{begins_with}
 use Rattle.wq_cert.specs.LineRows.{count_words}
@@ -129,17 +129,23 @@ module _ (s : Declared) (sound : IsSound s) (f : Fixed) (fixed : IsFixed s.parti
       λ a order chain. Ok (record { assignment = a; order = order; length = chain.0; arcs = chain.1 }) in
       let ordered : Assignment → List ℕ → List CertLine → Result AroundPlan CertError =
       λ a order rest. and_then (chained a order) (chain_reading names rest) in
-      let assigned : List CertLine → Assignment → Result AroundPlan CertError =
-      λ rest a. and_read (ordered a) (next_line (order_reading a.lanes) rest) in
-      let behind : List (List ℕ) → List CertLine → Result AroundPlan CertError =
-      λ workqueues rest. and_then (assigned rest) (whole_assignment p workqueues) in
+      let assigned : Assignment → List CertLine → Result AroundPlan CertError =
+      λ a rest. and_read (ordered a) (next_line (order_reading a.lanes) rest) in
       let counted : ℕ → List CertLine → Result AroundPlan CertError =
-      λ n rest. and_read behind (next_workqueues names p.group_of n (fixed_workqueues p f) rest) in
+      λ n rest. and_read assigned (new_assignment names p f n rest) in
+      let with_rest : List CertLine → Assignment → Read Assignment = λ rest a. Ok (a, rest) in
+      let behind : List (List ℕ) → List CertLine → Read Assignment =
+      λ workqueues rest. and_then (with_rest rest) (whole_assignment p workqueues) in
       let count = FollowsRead-and_read counted (next_line (new_count_reading f) lines) c e in
+      let made = FollowsRead-and_read assigned (new_assignment names p f count.value count.rest) c count.then in
       let all = FollowsRead-and_read behind
-      (next_workqueues names p.group_of count.value (fixed_workqueues p f) count.rest) c count.then in
-      let made = Follows-and_then (assigned all.rest) (whole_assignment p all.value) c all.then in
-      let order = FollowsRead-and_read (ordered made.value) (next_line (order_reading made.value.lanes) all.rest) c
+      (next_workqueues names p.group_of count.value (fixed_workqueues p f) count.rest) (made.value, made.rest)
+      made.first in
+      let own = Follows-and_then (with_rest all.rest) (whole_assignment p all.value) (made.value, made.rest) all.then in
+      let same_own : (own.value, all.rest) ≡ (made.value, made.rest) =
+      same_ok (own.value, all.rest) (made.value, made.rest) own.then in
+      let same_made : own.value ≡ made.value = ap (λ (q : Assignment × List CertLine). q.0) same_own in
+      let order = FollowsRead-and_read (ordered made.value) (next_line (order_reading made.value.lanes) made.rest) c
       made.then in
       let chain = Follows-and_then (chained made.value order.value) (chain_reading names order.rest) c order.then in
       let plan : AroundPlan = record {
@@ -150,8 +156,8 @@ module _ (s : Declared) (sound : IsSound s) (f : Fixed) (fixed : IsFixed s.parti
       } in
       let same : plan ≡ c = same_ok plan c chain.then in
       let more = follow names p.group_of count.value (fixed_workqueues p f) all.value count.rest all.rest all.first in
-      let whole = held p all.value made.value made.first in
-      let line = next_read (order_reading made.value.lanes) all.rest order.rest order.value order.first in
+      let whole = held p all.value made.value (own.first ∙ ap (λ (a : Assignment). Ok a) same_made) in
+      let line = next_read (order_reading made.value.lanes) made.rest order.rest order.value order.first in
       let read = chain_read names order.rest chain.value chain.first in
       let keeps : Keeps f (planned f plan) =
       subst (λ (a : Assignment). Keeps f (record { assignment = a; bare = f.bare })) whole.1

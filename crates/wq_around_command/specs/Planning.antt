@@ -6,7 +6,7 @@ use Rattle.wq_graph.specs.declared.arc.WaitArc.{WaitArc}
 use Rattle.wq_core.specs.declared.step.Step.{Step}
 use Rattle.wq_core.specs.Workqueues.{Workqueues}
 use Rattle.wq_deadlock.specs.Judging.{IsHang}
-use Rattle.wq_fixed.specs.Fixed.{Fixed, fixed_lanes, start}
+use Rattle.wq_fixed.specs.Fixed.{Fixed, IsFixed, fixed_lanes, start}
 use Rattle.wq_cert.specs.AroundText.{around_text, norescuer_text}
 use Rattle.wq_cert.specs.CircleText.{circle_text}
 use Rattle.wq_cert.specs.FixedReading.{fixed_of_text}
@@ -41,11 +41,13 @@ PrintsAround s f (around.NoRescuer arc) end out =
     × (steps : List Step) × IsHang (declared_waits s) (start f) steps
     × (out ≡ norescuer_text s.table.names (ends_of arc) steps)
 
--- the plan around these workqueues is found, or what is in the way of each, and printed
+-- the start of these fixed workqueues is found, and the plan around them, or what is in the way of each; and this is
+-- printed
 pub record FindsAround {A : Type 0} (s : Declared) (f : Fixed) (found : Found (Planned A)) (end : End) (out : List ℕ)
     : Type 0 where
   pub answer : Around A
   pub is : found ≡ Read (planned.Around (start f) answer)
+  pub fixed : IsFixed s.partition.groups f
   pub plans : PlansAround (declared_waits s) f answer
   pub printed : PrintsAround s f answer end out
 

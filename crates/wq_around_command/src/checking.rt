@@ -5,6 +5,7 @@
 ghost use Rattle.std.specs.Prelude.{◌≡◌, length, IfErr, IfOk};
 ghost use Rattle.wq_text.specs.LineText.{line_text};
 ghost use Rattle.wq_groups.specs.DeclaredGroups.{declared_waits};
+ghost use Rattle.wq_fixed.specs.Fixed.{IsFixed};
 ghost use Rattle.wq_cert.specs.AroundReading.{around_certificate, around_of_text};
 ghost use Rattle.wq_checker.specs.Around.{IsAroundAsked};
 ghost use Rattle.wq_commands.specs.Found.{AnswersIn};
@@ -95,7 +96,7 @@ fn check_claim<A: Allocator + Copy>(
     fixed: &Fixed<A>,
     claim: &AroundAnswer<A>,
 ) -> Result<Answered<A, Found<Result<YesAround, NoAround>>>, AllocError>
-    requires fixed { length fixed.now.lane_of_group ≡ declared.now.partition.groups }
+    requires fixed { IsFixed declared.now.partition.groups fixed.now }
     requires asked { IsAroundAsked (declared_waits declared.now) fixed.now (around_certificate claim.now) }
     ensures { IfOk result (λ a.
         FindsCheckAround declared.now fixed.now (around_certificate claim.now) a.found a.end a.text.items) }
@@ -118,7 +119,7 @@ fn check_fixed<A: Allocator + Copy>(
     text: &[u8],
     fixed: &Fixed<A>,
 ) -> Result<Answered<A, Found<Result<YesAround, NoAround>>>, AllocError>
-    requires { length fixed.now.lane_of_group ≡ declared.now.partition.groups }
+    requires { IsFixed declared.now.partition.groups fixed.now }
     ensures { IfOk result (λ a. AnswersIn SecondText
         (around_of_text declared.now.table.names declared.now.partition fixed.now text.now)
         (λ c. FindsCheckAround declared.now fixed.now c) a.found a.end a.text.items) }
@@ -141,7 +142,7 @@ fn check_behind<A: Allocator + Copy>(
     texts: &Texts<A>,
     fixed: &Fixed<A>,
 ) -> Result<Answered<A, Found<Checked>>, AllocError>
-    requires fixed { length fixed.now.lane_of_group ≡ declared.now.partition.groups }
+    requires { length fixed.now.lane_of_group ≡ declared.now.partition.groups }
     ensures { IfOk result (λ a. ChecksOn declared.now fixed.now texts.now.second a.found a.end a.text.items) }
 {
     if fixed.lanes() == 0 {

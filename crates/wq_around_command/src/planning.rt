@@ -9,7 +9,7 @@ ghost use Rattle.wq_groups.specs.DeclaredGroups.{declared_waits};
 ghost use Rattle.wq_core.specs.Deadlock.{IsSafe};
 ghost use Rattle.wq_core.specs.Workqueues.{wiring_of};
 ghost use Rattle.wq_deadlock.specs.Judging.{IsHang};
-ghost use Rattle.wq_fixed.specs.Fixed.{fixed_lanes, start as start_of};
+ghost use Rattle.wq_fixed.specs.Fixed.{IsFixed, fixed_lanes, start as start_of};
 ghost use Rattle.wq_cert.specs.AroundText.{around_text};
 ghost use Rattle.wq_around.specs.Around.{IsPlannedAround, PlansAround};
 ghost use Rattle.wq_commands.specs.Answer.{ends_of};
@@ -43,7 +43,7 @@ fn text_of_plan<A: Allocator + Copy>(
     order: &[LaneId],
     chain: &[WaitArc],
 ) -> Result<Vec<u8, A>, AllocError>
-    requires fixed { length fixed.now.lane_of_group ≡ declared.now.partition.groups }
+    requires fixed { IsFixed declared.now.partition.groups fixed.now }
     requires planned { IsPlannedAround (declared_waits declared.now) fixed.now workqueues.now order.now chain.now }
     ensures { IfOk result (λ text. text.items ≡ around_text declared.now.table.names (fixed_lanes fixed.now)
         workqueues.now.assignment.lanes (item_lanes workqueues.now.assignment declared.now.partition.group_of)
@@ -83,7 +83,7 @@ fn print_around<A: Allocator + Copy>(
     fixed: &Fixed<A>,
     around: &Around<A>,
 ) -> Result<(End, Vec<u8, A>), AllocError>
-    requires fixed { length fixed.now.lane_of_group ≡ start.now.declared.partition.groups }
+    requires fixed { IsFixed start.now.declared.partition.groups fixed.now }
     requires start { start.now.workqueues ≡ start_of fixed.now }
     requires plans { PlansAround (declared_waits start.now.declared) fixed.now around.now }
     ensures { IfOk result (λ printed.
@@ -118,7 +118,7 @@ fn plan_fixed<A: Allocator + Copy>(
     declared: &Declaration<'_, A>,
     fixed: &Fixed<A>,
 ) -> Result<Answered<A, Found<Planned<A>>>, AllocError>
-    requires { length fixed.now.lane_of_group ≡ declared.now.partition.groups }
+    requires { IsFixed declared.now.partition.groups fixed.now }
     ensures { IfOk result (λ a. FindsAround declared.now fixed.now a.found a.end a.text.items) }
 {
     let workqueues = start(alloc, fixed)?;

@@ -1,0 +1,226 @@
+-- From what is found to what is answered, and from the bytes that are kept to the texts.
+use Rattle.std.proofs.Common.{◌≡◌, ℕ, ◌+◌, ◌⊎◌, inl, inr, List, length, Result, Ok, Err, ap, subst, sym, ◌∙◌}
+use Rattle.std.specs.Prelude.{take}
+use Rattle.std.proofs.lemmas.Result.{MatchResult-weaker}
+use Rattle.wq_text.specs.Refusal.{Refusal}
+use Rattle.wq_groups.specs.DeclaredGroups.{declared_waits, Declared}
+use Rattle.wq_core.specs.Workqueues.{Workqueues}
+use Rattle.wq_fixed.specs.Fixed.{Fixed, start}
+use Rattle.wq_fixed.proofs.StartKeeps.{IsAssignmentOf-start}
+use Rattle.wq_cert.specs.declared.fault.CertError.{CertError}
+use Rattle.wq_cert.specs.AroundReading.{around_of_text, around_reading}
+use Rattle.wq_cert.specs.FixedReading.{fixed_of_text, fixed_reading}
+use Rattle.wq_cert.specs.Reading.{answer_reading}
+use Rattle.wq_cert.specs.Texts.{cert_refusal, max_certificate}
+use Rattle.wq_checker.specs.declared.answer.No.{No}
+use Rattle.wq_checker.specs.declared.answer.Yes.{Yes}
+use Rattle.wq_checker.specs.declared.around.NoAround.{NoAround}
+use Rattle.wq_checker.specs.declared.around.YesAround.{YesAround}
+use Rattle.wq_around.specs.declared.answer.Around.{Around}
+use Rattle.wq_around.specs.declared.answer.Around.TheVariants as around
+use Rattle.wq_around.specs.Around.{PlansAround}
+use Rattle.wq_meter.specs.Shell.{Given, kept}
+use Rattle.wq_commands.specs.declared.end.End.{End}
+use Rattle.wq_commands.specs.declared.found.Found.{Found}
+use Rattle.wq_commands.specs.declared.found.Found.TheVariants.{Read, Refused as RefusedText}
+use Rattle.wq_commands.specs.declared.found.Which.{Which}
+use Rattle.wq_commands.specs.declared.found.Which.TheVariants.{Certificate as SecondText, Run as ThirdText}
+use Rattle.wq_commands.specs.Answer.{PrintsRefusal}
+use Rattle.wq_commands.specs.Checking.{AnswersCheck}
+use Rattle.wq_commands.specs.Commands.{ChecksText, FindsPlan, three_texts, two_texts}
+use Rattle.wq_commands.specs.Declaration.{declaration}
+use Rattle.wq_commands.specs.Found.{AnswersIn, refused_for}
+use Rattle.wq_commands.specs.Shell.{AnswersTexts}
+use Rattle.wq_commands.proofs.FoundLemmas.{AnswersIn-match, AnswersTexts-match, ChecksText-declared}
+use Rattle.wq_commands.proofs.InputLemmas.{read-kept, text-kept}
+use Rattle.wq_circles.proofs.Found.{AnswersIn-read}
+use Rattle.wq_around_command.specs.declared.checking.Checked.{Checked}
+use Rattle.wq_around_command.specs.declared.checking.Checked.TheVariants as checked
+use Rattle.wq_around_command.specs.declared.planning.Planned.{Planned}
+use Rattle.wq_around_command.specs.declared.planning.Planned.TheVariants as planned
+use Rattle.wq_around_command.specs.Checking.{AnswersCheckAround, ChecksAround, ChecksDeclaredAround, ChecksFixed, ChecksOn}
+use Rattle.wq_around_command.specs.Checking.{ChecksTexts, FindsCheckAround}
+use Rattle.wq_around_command.specs.Planning.{AnswersFixed, FindsPlanned, Plans, PlansDeclared, PlansText, PrintsAround}
+use Rattle.wq_around_command.specs.Planning.{PrintsFixed}
+
+-- the text that is refused is this one, if what is read is found
+AnswersIn-refused : {V T : Type 0} (which : Which) (read : Result V CertError)
+    (Finds : V → Found T → End → List ℕ → Type 0) (refused : Which) (code line : ℕ) (end : End) (out : List ℕ)
+    → ((v : V) → ¬ Finds v (RefusedText refused code line) end out)
+    → AnswersIn which read Finds (RefusedText refused code line) end out → refused ≡ which
+AnswersIn-refused which (Ok v) Finds refused code line end out never h = absurd (never v h)
+AnswersIn-refused {V} {T} which (Err fault) Finds refused code line end out never h =
+    let found : Found T = RefusedText refused code line in
+    let same : found ≡ refused_for which (cert_refusal fault) = h.0 in
+    cc
+
+-- ---- `plan`
+
+module _ {A : Type 0} (s : Declared) where
+  -- what is printed of an answer is the answer to the fixed workqueues
+  printed : (f : Fixed) (answer : Around A) (end : End) (out : List ℕ) → PlansAround (declared_waits s) f answer
+      → PrintsAround s f answer end out → PrintsFixed s f end out
+  printed f (around.Plan workqueues order chain) end out plans (good, text) =
+      subst (λ (e : End). PrintsFixed s f e out) (sym good)
+      (record { workqueues = workqueues; order = order.items; chain = chain.items; planned = plans; text = text })
+  printed f (around.Circle arcs) end out plans (bad, steps, hang, text) =
+      subst (λ (e : End). PrintsFixed s f e out) (sym bad)
+      (inl (record { circle = arcs.items; circled = plans; steps = steps; hang = hang; text = text }))
+  printed f (around.NoRescuer arc) end out plans (bad, steps, hang, text) =
+      subst (λ (e : End). PrintsFixed s f e out) (sym bad)
+      (inr (record { arc = arc; held = plans; steps = steps; hang = hang; text = text }))
+
+  answered : (found : Found (Planned A)) (end : End) (out : List ℕ) (f : Fixed) → FindsPlanned s f found end out
+      → AnswersFixed s f end out
+  answered found end out f (inl (none, is, answers)) = inl (none, answers)
+  answered found end out f (inr (some, finds)) =
+      inr (some, printed f finds.answer end out finds.plans finds.printed)
+
+  pub PlansText-declared : (text : List ℕ) (found : Found (Planned A)) (end : End) (out : List ℕ)
+      → PlansText s text found end out → PlansDeclared s text end out
+  PlansText-declared text found end out =
+      AnswersIn-match SecondText (fixed_of_text s.table.names s.partition text) (λ f. FindsPlanned s f)
+      (λ f. AnswersFixed s f) found end out (answered found end out)
+
+  -- ---- what is said of what was found
+
+  -- the fixed workqueues are what is refused
+  pub PlansText-refused : (text : List ℕ) (which : Which) (code line : ℕ) (end : End) (out : List ℕ)
+      → PlansText {A = A} s text (RefusedText which code line) end out → which ≡ SecondText
+  PlansText-refused text which code line end out =
+      AnswersIn-refused SecondText (fixed_of_text s.table.names s.partition text) (λ f. FindsPlanned {A = A} s f) which code line
+      end out never
+    where
+      never : (f : Fixed) → ¬ FindsPlanned {A = A} s f (RefusedText which code line) end out
+      never f (inl (none, is, answers)) = cc
+      never f (inr (some, finds)) = let is = finds.is in cc
+
+  -- where there is none, `plan` ends as without
+  pub PlansText-plain : (text : List ℕ) (found end : End) (out : List ℕ)
+      → PlansText {A = A} s text (Read (planned.Plain found)) end out → FindsPlan s found end out
+  PlansText-plain text found end out h =
+      let (f, read, finds) = AnswersIn-read SecondText (fixed_of_text s.table.names s.partition text)
+      (λ f. FindsPlanned {A = A} s f) (planned.Plain found) end out h in
+      plain f finds
+    where
+      plain : (f : Fixed) → FindsPlanned {A = A} s f (Read (planned.Plain found)) end out → FindsPlan s found end out
+      plain f (inl (none, is, answers)) = (cc, answers)
+      plain f (inr (some, finds)) = absurd (let is = finds.is in cc)
+
+  -- else the start is one of the declared groups
+  pub PlansText-around : (text : List ℕ) (ws : Workqueues) (answer : Around A) (end : End) (out : List ℕ)
+      → PlansText {A = A} s text (Read (planned.Around ws answer)) end out
+      → length ws.assignment.lane_of_group ≡ s.partition.groups
+  PlansText-around text ws answer end out h =
+      let (f, read, finds) = AnswersIn-read SecondText (fixed_of_text s.table.names s.partition text)
+      (λ f. FindsPlanned {A = A} s f) (planned.Around ws answer) end out h in
+      around_groups f finds
+    where
+      around_groups : (f : Fixed) → FindsPlanned {A = A} s f (Read (planned.Around ws answer)) end out
+          → length ws.assignment.lane_of_group ≡ s.partition.groups
+      around_groups f (inl (none, is, answers)) = absurd cc
+      around_groups f (inr (some, finds)) =
+          let is = finds.is in
+          let same : start f ≡ ws = cc in
+          subst (λ (w : Workqueues). length w.assignment.lane_of_group ≡ s.partition.groups) same
+          (IsAssignmentOf-start s.partition.groups f finds.fixed).assignment.one_each
+
+-- what is past a limit changes no answer
+pub plan_around-kept : {A : Type 0} (texts : Given) (found : Result (Found (Planned A)) Refusal) (end : End)
+    (out : List ℕ)
+    → AnswersTexts (λ s t (f : Found (Planned A)) e o. PlansText s t.second f e o) (kept two_texts texts) found end out
+    → Plans texts.first texts.second end out
+plan_around-kept {A} texts found end out h =
+    let text = take (max_certificate + 1) texts.second in
+    read-kept end out (λ s. fixed_reading s.table.names s.partition) (λ _ _ s f. AnswersFixed s f end out) texts.first
+    texts.second
+    (AnswersTexts-match (λ s t (f : Found (Planned A)) e o. PlansText s t.second f e o) (λ s. PlansDeclared s text)
+    (kept two_texts texts) found end out (λ s f. PlansText-declared s text f end out) h)
+
+-- ---- `check`
+
+module _ (s : Declared) where
+  checks_fixed : (text : List ℕ) (found : Found Checked) (end : End) (out : List ℕ) (f : Fixed)
+      → ChecksOn s f text found end out → ChecksFixed s f text end out
+  checks_fixed text found end out f (inl (none, plain, is, checks)) =
+      inl (none, ChecksText-declared s text plain end out checks)
+  checks_fixed text found end out f (inr (some, own, is, checks)) =
+      inr (some, AnswersIn-match SecondText (around_of_text s.table.names s.partition f text)
+      (λ c. FindsCheckAround s f c) (λ c. AnswersCheckAround s f c) own end out (λ c h. (h.0, h.2, h.3)) checks)
+
+  pub ChecksTexts-declared : (text fixed : List ℕ) (found : Found Checked) (end : End) (out : List ℕ)
+      → ChecksTexts s text fixed found end out → ChecksDeclaredAround s text fixed end out
+  ChecksTexts-declared text fixed found end out =
+      AnswersIn-match ThirdText (fixed_of_text s.table.names s.partition fixed) (λ f. ChecksOn s f text)
+      (λ f. ChecksFixed s f text) found end out (checks_fixed text found end out)
+
+  -- ---- what is said of what was found
+
+  -- the fixed workqueues are what is refused
+  pub ChecksTexts-refused : (text fixed : List ℕ) (which : Which) (code line : ℕ) (end : End) (out : List ℕ)
+      → ChecksTexts s text fixed (RefusedText which code line) end out → which ≡ ThirdText
+  ChecksTexts-refused text fixed which code line end out =
+      AnswersIn-refused ThirdText (fixed_of_text s.table.names s.partition fixed) (λ f. ChecksOn s f text) which code line
+      end out never
+    where
+      never : (f : Fixed) → ¬ ChecksOn s f text (RefusedText which code line) end out
+      never f (inl (none, plain, is, checks)) = cc
+      never f (inr (some, own, is, checks)) = cc
+
+  -- where there is none, it is found what is found without
+  pub ChecksTexts-plain : (text fixed : List ℕ) (found : Found (Result Yes No)) (end : End) (out : List ℕ)
+      → ChecksTexts s text fixed (Read (checked.Plain found)) end out → ChecksText s text found end out
+  ChecksTexts-plain text fixed found end out h =
+      let (f, read, checks) = AnswersIn-read ThirdText (fixed_of_text s.table.names s.partition fixed)
+      (λ f. ChecksOn s f text) (checked.Plain found) end out h in
+      plain f checks
+    where
+      plain : (f : Fixed) → ChecksOn s f text (Read (checked.Plain found)) end out → ChecksText s text found end out
+      plain f (inl (none, own, is, checks)) =
+          let same : own ≡ found = cc in
+          subst (λ (r : Found (Result Yes No)). ChecksText s text r end out) same checks
+      plain f (inr (some, own, is, checks)) = absurd cc
+
+  -- else the certificate is what is refused
+  pub ChecksTexts-unread : (text fixed : List ℕ) (which : Which) (code line : ℕ) (end : End) (out : List ℕ)
+      → ChecksTexts s text fixed (Read (checked.Around (RefusedText which code line))) end out → which ≡ SecondText
+  ChecksTexts-unread text fixed which code line end out h =
+      let (f, read, checks) = AnswersIn-read ThirdText (fixed_of_text s.table.names s.partition fixed)
+      (λ f. ChecksOn s f text) (checked.Around (RefusedText which code line)) end out h in
+      unread f checks
+    where
+      unread : (f : Fixed) → ChecksOn s f text (Read (checked.Around (RefusedText which code line))) end out
+          → which ≡ SecondText
+      unread f (inl (none, own, is, checks)) = absurd cc
+      unread f (inr (some, own, is, checks)) =
+          let same : own ≡ RefusedText which code line = cc in
+          AnswersIn-refused SecondText (around_of_text s.table.names s.partition f text) (λ c. FindsCheckAround s f c)
+          which code line end out (λ c (answer, never, others). cc)
+          (subst (λ (r : Found (Result YesAround NoAround)).
+          AnswersIn SecondText (around_of_text s.table.names s.partition f text) (λ c. FindsCheckAround s f c) r end out)
+          same checks)
+
+-- an answer to what is kept of a certificate is one to its text
+checks-kept : (s : Declared) (text : List ℕ) (end : End) (out : List ℕ) (f : Fixed)
+    → ChecksFixed s f (take (max_certificate + 1) text) end out → ChecksFixed s f text end out
+checks-kept s text end out f (inl (none, checks)) =
+    inl (none, text-kept (answer_reading s.table.names s.partition) (λ _ c. AnswersCheck s c end out)
+    (λ fault. PrintsRefusal (cert_refusal fault) end out) text checks)
+checks-kept s text end out f (inr (some, checks)) =
+    inr (some, text-kept (around_reading s.table.names s.partition f) (λ _ c. AnswersCheckAround s f c end out)
+    (λ fault. PrintsRefusal (cert_refusal fault) end out) text checks)
+
+pub check_around-kept : (texts : Given) (found : Result (Found Checked) Refusal) (end : End) (out : List ℕ)
+    → AnswersTexts (λ s t f e o. ChecksTexts s t.second t.third f e o) (kept three_texts texts) found end out
+    → ChecksAround texts.first texts.second texts.third end out
+check_around-kept texts found end out h =
+    let text = take (max_certificate + 1) texts.second in
+    let fixed = take (max_certificate + 1) texts.third in
+    MatchResult-weaker (declaration texts.first)
+    (read-kept end out (λ s. fixed_reading s.table.names s.partition) (λ _ _ s f. ChecksFixed s f text end out) texts.first
+    texts.third
+    (AnswersTexts-match (λ s t f e o. ChecksTexts s t.second t.third f e o) (λ s. ChecksDeclaredAround s text fixed)
+    (kept three_texts texts) found end out (λ s f. ChecksTexts-declared s text fixed f end out) h))
+    (λ s read. MatchResult-weaker (fixed_of_text s.table.names s.partition texts.third) read
+    (checks-kept s texts.second end out) (λ fault refused. refused))
+    (λ r refused. refused)
