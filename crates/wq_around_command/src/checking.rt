@@ -104,7 +104,7 @@ fn check_claim<A: Allocator + Copy>(
     let workqueues = start(alloc, fixed)?;
     let assigned = Assigned::new(declared, &workqueues);
     let answer = check_around(alloc, &assigned, fixed, claim)?;
-    let (end, text) = print_check(alloc, &declared.table, &answer)?;
+    let (end, text) = print_check(alloc, assigned.table(), &answer)?;
     Ok(Answered {
         found: Found::Read(answer),
         end,
