@@ -1,5 +1,5 @@
 -- What it means that a declaration is planned around fixed workqueues.
-use Rattle.std.specs.Prelude.{◌≡◌, ◌×◌, ◌⊎◌, ℕ, ◌-◌, List, [], ◌∷◌}
+use Rattle.std.specs.Prelude.{◌≡◌, ◌⊎◌, ℕ, ◌-◌, List, [], ◌∷◌}
 use Rattle.wq_items.specs.Chain.{HasCircle}
 use Rattle.wq_groups.specs.Declaration.{Declaration}
 use Rattle.wq_core.specs.Workqueues.{Workqueues}

@@ -9,7 +9,7 @@ ghost use Rattle.std.specs.List.{All};
 ghost use Rattle.wq_graph.specs.declared.arc.WaitArc.{WaitArc};
 ghost use Rattle.wq_graph.specs.Graph.{IsGraph};
 ghost use Rattle.wq_levels.specs.Ranks.{AreRanks};
-ghost use Rattle.wq_fixed.specs.Fixed.{fixed_lanes};
+ghost use Rattle.wq_plan.specs.Plan.{lanes_of};
 ghost use Rattle.wq_around.specs.Heights.{AreHeights};
 
 use std::alloc::{AllocError, Allocator};
@@ -20,6 +20,7 @@ use wq_graph::{WaitArc, WaitGraph};
 /// One more than the greatest of these numbers, or 0 where there is none.
 pub(crate) fn count_of(numbers: &[u16]) -> u16
     requires { All (λ n. n < 4096) numbers.now }
+    ensures count { result ≡ lanes_of numbers.now }
     ensures above { All (λ n. n < result) numbers.now }
     ensures few { result ≤ 4096 }
 {
