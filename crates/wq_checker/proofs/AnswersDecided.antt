@@ -39,10 +39,10 @@ module _ (d : Declaration) (is : IsDeclaration d) (a : Assignment) where
   abbrev falls_at : ℕ → ℕ → Type 0
   falls_at i k = Falls d a i (get_or (targets_of d.waits i) k nothing).item
 
-  first_of : (i : ℕ) → (o : Option DeclaredFlush) × FindsFirst d a (OfItem d i) o
+  first_of : (i : ℕ) → (o : Option DeclaredFlush) × FindsFirst (Falls d a) (OfItem d i) o
   first_of i = found (first_below (falls_at i) (λ k. cases_Falls i (get_or (targets_of d.waits i) k nothing).item) (length (targets_of d.waits i)))
     where
-      found : ((k : ℕ) → k < length (targets_of d.waits i) → falls_at i k) ⊎ ((m : ℕ) × (m < length (targets_of d.waits i)) × (¬ falls_at i m) × ((k : ℕ) → k < m → falls_at i k)) → (o : Option DeclaredFlush) × FindsFirst d a (OfItem d i) o
+      found : ((k : ℕ) → k < length (targets_of d.waits i) → falls_at i k) ⊎ ((m : ℕ) × (m < length (targets_of d.waits i)) × (¬ falls_at i m) × ((k : ℕ) → k < m → falls_at i k)) → (o : Option DeclaredFlush) × FindsFirst (Falls d a) (OfItem d i) o
       found (inl each) = (
         None,
         λ k target of. (
@@ -54,21 +54,21 @@ module _ (d : Declaration) (is : IsDeclaration d) (a : Assignment) where
       found (inr (m, within, fails, before)) =
           let target : Target = get_or (targets_of d.waits i) m nothing in (
             Some (record { item = i; target = target }),
-            IsFirstOf-item d a i m target (targets_of-rise d.waits i is.places_rise) within (get_or_default (targets_of d.waits i) m nothing target within) fails
+            IsFirstOf-item d (Falls d a) i m target (targets_of-rise d.waits i is.places_rise) within (get_or_default (targets_of d.waits i) m nothing target within) fails
                 (λ k e less. subst (λ (t : Target). Falls d a i t.item) (get_or_default (targets_of d.waits i) k nothing e (omega (arith, less, within))) (before k less)),
           )
 
-  first_of_all : (n : ℕ) → (o : Option DeclaredFlush) × FindsFirst d a (OfItemsBelow d n) o
+  first_of_all : (n : ℕ) → (o : Option DeclaredFlush) × FindsFirst (Falls d a) (OfItemsBelow d n) o
   first_of_all zero = (None, λ k target of. absurd (omega (arith, of.0)))
   first_of_all (suc n) =
       let low = first_of_all n in
       let last = first_of n in
-      (earlier low.0 last.0, subst (λ (m : ℕ). FindsFirst d a (OfItemsBelow d m) (earlier low.0 last.0)) (let e : n + 1 ≡ suc n = omega arith in e) (FindsFirst-earlier d a n low.0 last.0 low.1 last.1))
+      (earlier low.0 last.0, subst (λ (m : ℕ). FindsFirst (Falls d a) (OfItemsBelow d m) (earlier low.0 last.0)) (let e : n + 1 ≡ suc n = omega arith in e) (FindsFirst-earlier d (Falls d a) n low.0 last.0 low.1 last.1))
 
   cases_fall : AllFall d a ⊎ ((i j : ℕ) × IsFirstNotFalling d a i j)
   cases_fall = of (first_of_all (length d.waits)).0 (first_of_all (length d.waits)).1
     where
-      of : (o : Option DeclaredFlush) → FindsFirst d a (OfItemsBelow d (length d.waits)) o → AllFall d a ⊎ ((i j : ℕ) × IsFirstNotFalling d a i j)
+      of : (o : Option DeclaredFlush) → FindsFirst (Falls d a) (OfItemsBelow d (length d.waits)) o → AllFall d a ⊎ ((i j : ℕ) × IsFirstNotFalling d a i j)
       of None found = inl (AllFall-found d a (length d.waits) (omega arith) found)
       of (Some flush) found = inr (flush.item, flush.target.item, IsFirstNotFalling-found d a (length d.waits) flush (omega arith) found)
 

@@ -27,7 +27,7 @@ before_from-suc : (first : Option (ℕ × ℕ)) (arcs : List (ℕ × ℕ)) (k : 
 before_from-suc first arcs k =
     cond-false (eqb (suc k) 0) first (slice_get arcs (suc k - 1)) (ne_eqb (suc k) 0 (λ e. absurd (omega (arith, e)))) ∙ ap (slice_get arcs) (let e : suc k - 1 ≡ k = omega arith in e)
 
-before_from-next : (first : Option (ℕ × ℕ)) (arc : ℕ × ℕ) (arcs : List (ℕ × ℕ)) (k : ℕ) → before_from first (arc ∷ arcs) (suc k) ≡ before_from (Some arc) arcs k
+pub before_from-next : (first : Option (ℕ × ℕ)) (arc : ℕ × ℕ) (arcs : List (ℕ × ℕ)) (k : ℕ) → before_from first (arc ∷ arcs) (suc k) ≡ before_from (Some arc) arcs k
 before_from-next first arc arcs zero = before_from-suc first (arc ∷ arcs) zero
 before_from-next first arc arcs (suc k) = before_from-suc first (arc ∷ arcs) (suc k) ∙ sym (before_from-suc (Some arc) arcs k)
 

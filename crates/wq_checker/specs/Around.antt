@@ -188,6 +188,14 @@ IsWithRun w steps said answer =
     (ShowsDeadlockIn w steps × (answer ≡ Ok said))
     ⊎ ((¬ ShowsDeadlockIn w steps) × (answer ≡ Err (no_around.Plain RunBroken)))
 
+-- the certificate shows what it says: a good plan; arcs that go round; or a flush to no rescuer; and the steps, if there
+-- are any, are a run that deadlocks
+abbrev pub IsGoodAround : Declaration → Fixed → AroundCertificate → Type 0
+IsGoodAround d f (OfPlanAround c) = IsGoodPlanAround d f c
+IsGoodAround d f (OfCircleAround c) =
+    AllJoinAround d f (before_in_circle c.arcs) c.arcs × ShowsDeadlockAround d f c.steps
+IsGoodAround d f (OfNoRescuer c) = LeadsToNone d f c.arc × ShowsDeadlockAround d f c.steps
+
 -- ---- certificates that can be asked about
 
 -- workqueues that keep the fixed ones; an order of these; and one arc fewer than there are lanes on the chain, or none

@@ -8,19 +8,20 @@
 //! arc's item declares. A circle takes that for its arcs, and for its run that of `check_run_on`.
 
 ghost use Rattle.std.specs.Prelude.{◌≡◌, ◌<◌, ◌≤◌, ◌↔◌, IsTrue, IfOk, IfSome, IfNone, option_map, length, map};
-ghost use Rattle.std.specs.Prelude.{slice_index_or, false};
+ghost use Rattle.std.specs.Prelude.{nat_le, slice_index_or, false};
 ghost use Rattle.std.specs.List.{All, range_with_len};
 ghost use Rattle.wq_items.specs.Table.{ItemWaits};
-ghost use Rattle.wq_groups.specs.Assignment.{item_lane};
 ghost use Rattle.wq_groups.specs.Declaration.{declaration_of};
 ghost use Rattle.wq_groups.specs.DeclaredGroups.{declared_waits};
+ghost use Rattle.wq_core.specs.Wiring.{HasRescuer, lane_of};
 ghost use Rattle.wq_core.specs.Workqueues.{wiring_of};
+ghost use Rattle.wq_core.specs.Deadlock.{DeadlocksBy};
 ghost use Rattle.wq_fixed.specs.Fixed.{Fixed as FixedView, IsFixed, fixed_lanes, start as start_of};
 ghost use Rattle.wq_cert.specs.AroundReading.{around_certificate};
 ghost use Rattle.wq_checker.specs.Answers.{ArcsOfItems};
 ghost use Rattle.wq_checker.specs.Chains.{before_from};
-ghost use Rattle.wq_checker.specs.Searching.{OfItem};
-ghost use Rattle.wq_checker.specs.SearchingAround.{AllItemsFall, FallsTo, FindsStaying, IsFirstItemStaying};
+ghost use Rattle.wq_checker.specs.Searching.{FindsFirst, OfItem};
+ghost use Rattle.wq_checker.specs.SearchingAround.{AllItemsFall, FallsTo, Follows, IsFirstItemStaying, ItemsFall};
 ghost use Rattle.wq_checker.specs.Around.{AnswersAround, IsAroundAsked, YesIsLeastAround, CircleIsOfAll, NoneIsOfAll};
 ghost use Rattle.wq_checker.specs.Around.{AllJoinIn, AnswersCircleAround, AnswersNoRescuer, AnswersPlanAround};
 ghost use Rattle.wq_checker.specs.Around.{HasFewSteps};
@@ -31,7 +32,7 @@ use crate::answer::{No, Yes};
 use crate::around::{NoAround, YesAround};
 use crate::chains::have_target;
 use crate::checking::is_deadlock;
-use crate::falling::{DeclaredFlush, earlier};
+use crate::falling::{DeclaredFlush, earlier, lane_of};
 use crate::running::check_run_on;
 use std::alloc::{AllocError, Allocator};
 use wq_cert::AroundAnswer;
@@ -92,13 +93,16 @@ fn first_of_item<A: Allocator + Copy>(
     requires assigned { length assignment.now.lane_of_group ≡ groups.now.groups }
     requires places { length places.now ≡ assignment.now.lanes }
     requires item { item < length table.now.names }
-    ensures { FindsStaying (declaration_of table.now groups.now) assignment.now bare.now places.now
+    ensures { FindsFirst (ItemsFall (declaration_of table.now groups.now) assignment.now bare.now places.now)
         (OfItem (declaration_of table.now groups.now) item) result }
 {
+    // What holds of every table, of all groups and of every assignment.
     let _items = table.len();
-    let from = assignment.lane(groups.of(item));
+    let _groups = groups.len();
+    let _lanes = assignment.lanes();
+    let from = lane_of(groups, assignment, item);
     for target in table.waits(item) {
-        if !falls(bare, places, from, assignment.lane(groups.of(target.item))) {
+        if !falls(bare, places, from, lane_of(groups, assignment, target.item)) {
             return Some(DeclaredFlush {
                 item,
                 target: *target,
@@ -134,30 +138,46 @@ fn first_not_falling<A: Allocator + Copy>(
     Some((item, target.item))
 }
 
-/// The workqueue of an item.
-fn lane_of<A: Allocator + Copy>(start: &Assigned<'_, '_, A>, item: ItemId) -> LaneId
-    requires { item < length start.now.declared.partition.group_of }
-    ensures { result ≡ item_lane start.now.workqueues.assignment start.now.declared.partition.group_of item }
+/// The workqueue of an item in the start.
+fn start_lane<A: Allocator + Copy>(start: &Assigned<'_, '_, A>, item: ItemId) -> LaneId
+    requires { item < length start.now.declared.table.waits }
+    ensures { result ≡ lane_of (wiring_of (declared_waits start.now.declared) start.now.workqueues) item }
 {
-    let group = start.groups().of(item);
-    start.workqueues().assignment().lane(group)
+    lane_of(start.groups(), start.workqueues().assignment(), item)
 }
 
-/// Whether an item is on a workqueue that has no rescuer.
-fn is_on_bare<A: Allocator + Copy>(start: &Assigned<'_, '_, A>, item: ItemId) -> bool
-    requires { item < length start.now.declared.partition.group_of }
-    ensures { result ≡ slice_index_or start.now.workqueues.bare
-        (item_lane start.now.workqueues.assignment start.now.declared.partition.group_of item) false }
+/// Whether the workqueue of an item has a rescuer in the start.
+fn is_rescued<A: Allocator + Copy>(start: &Assigned<'_, '_, A>, item: ItemId) -> bool
+    requires { item < length start.now.declared.table.waits }
+    ensures { IsTrue result ↔ HasRescuer (wiring_of (declared_waits start.now.declared) start.now.workqueues)
+        (lane_of (wiring_of (declared_waits start.now.declared) start.now.workqueues) item) }
 {
-    start.workqueues().is_bare(lane_of(start, item))
+    !start.workqueues().is_bare(start_lane(start, item))
 }
 
 /// Whether an item declares a flush of another one.
 fn declares<A: Allocator + Copy>(start: &Assigned<'_, '_, A>, arc: (ItemId, ItemId)) -> bool
-    requires { arc.0 < length start.now.declared.table.names }
+    requires { arc.0 < length start.now.declared.table.waits }
     ensures { IsTrue result ↔ ItemWaits start.now.declared.table.waits arc.0 arc.1 }
 {
     have_target(start.table().waits(arc.0), arc.1)
+}
+
+/// Whether an item is on the workqueue of the target of the arc before it, if there is one.
+fn follows<A: Allocator + Copy>(
+    start: &Assigned<'_, '_, A>,
+    before: Option<(ItemId, ItemId)>,
+    item: ItemId,
+) -> bool
+    requires before { IfSome before (λ b. b.1 < length start.now.declared.table.waits) }
+    requires item { item < length start.now.declared.table.waits }
+    ensures { IsTrue result
+        ↔ Follows (wiring_of (declared_waits start.now.declared) start.now.workqueues) before item }
+{
+    match before {
+        Some(before) => start_lane(start, before.1) == start_lane(start, item),
+        None => true,
+    }
 }
 
 /// Whether an arc joins the one before it, if there is one.
@@ -166,19 +186,15 @@ fn joins<A: Allocator + Copy>(
     before: Option<(ItemId, ItemId)>,
     arc: (ItemId, ItemId),
 ) -> bool
-    requires before { IfSome before (λ b. b.1 < length start.now.declared.table.names) }
-    requires item { arc.0 < length start.now.declared.table.names }
-    requires target { arc.1 < length start.now.declared.table.names }
+    requires before { IfSome before (λ b. b.1 < length start.now.declared.table.waits) }
+    requires item { arc.0 < length start.now.declared.table.waits }
+    requires target { arc.1 < length start.now.declared.table.waits }
     ensures { IsTrue result ↔ JoinsIn (wiring_of (declared_waits start.now.declared) start.now.workqueues) before arc }
 {
-    let (item, target) = arc;
-    declares(start, (item, target))
-        && !is_on_bare(start, item)
-        && !is_on_bare(start, target)
-        && match before {
-            Some((_, end)) => lane_of(start, end) == lane_of(start, item),
-            None => true,
-        }
+    declares(start, arc)
+        && is_rescued(start, arc.0)
+        && is_rescued(start, arc.1)
+        && follows(start, before, arc.0)
 }
 
 /// The number, counted from 1, of the first arc that doesn't join the one before it. The one before the first arc is
@@ -188,7 +204,7 @@ fn first_break<A: Allocator + Copy>(
     first: Option<(ItemId, ItemId)>,
     arcs: &[(ItemId, ItemId)],
 ) -> Option<u32>
-    requires first { IfSome first (λ b. b.1 < length start.now.declared.table.names) }
+    requires first { IfSome first (λ b. b.1 < length start.now.declared.table.waits) }
     requires arcs { ArcsOfItems (declared_waits start.now.declared) arcs.now }
     requires few { length arcs.now ≤ 4096 }
     ensures some { IfSome result (λ at. IsFirstBreakIn
@@ -208,6 +224,15 @@ fn first_break<A: Allocator + Copy>(
     None
 }
 
+/// Whether an item is on a new workqueue: one from this number on.
+fn is_on_new<A: Allocator + Copy>(start: &Assigned<'_, '_, A>, new: u16, item: ItemId) -> bool
+    requires { item < length start.now.declared.table.waits }
+    ensures { result
+        ≡ nat_le new (lane_of (wiring_of (declared_waits start.now.declared) start.now.workqueues) item) }
+{
+    start_lane(start, item).get() >= new
+}
+
 /// How many new workqueues a chain has that is said to have this many: those from this number on are new.
 fn new_along<A: Allocator + Copy>(
     start: &Assigned<'_, '_, A>,
@@ -223,9 +248,9 @@ fn new_along<A: Allocator + Copy>(
     let Some(first) = arcs.first() else {
         return chain;
     };
-    let mut count = u32::from(lane_of(start, first.0).get() >= new);
+    let mut count = u32::from(is_on_new(start, new, first.0));
     for arc in arcs {
-        count += u32::from(lane_of(start, arc.1).get() >= new);
+        count += u32::from(is_on_new(start, new, arc.1));
     }
     count
 }
@@ -266,6 +291,21 @@ fn check_plan<A: Allocator + Copy>(
     }
 }
 
+/// Whether the steps are a run that deadlocks in the start.
+fn deadlocks<A: Allocator + Copy>(
+    alloc: A,
+    start: &Assigned<'_, '_, A>,
+    steps: &[Step],
+) -> Result<bool, AllocError>
+    requires { length steps.now < 4294967295 }
+    ensures { IfOk result (λ b. IsTrue b
+        ↔ DeadlocksBy (wiring_of (declared_waits start.now.declared) start.now.workqueues) steps.now) }
+{
+    let (table, groups, workqueues) = (start.table(), start.groups(), start.workqueues());
+    let end = check_run_on(alloc, table, groups, workqueues, steps)?;
+    Ok(is_deadlock(end))
+}
+
 /// Whether the steps, if there are any, are a run that deadlocks in the start.
 fn show_deadlock<A: Allocator + Copy>(
     alloc: A,
@@ -278,16 +318,7 @@ fn show_deadlock<A: Allocator + Copy>(
         (option_map (λ s. s.items) steps.now)) }
 {
     match steps {
-        Some(steps) => {
-            let end = check_run_on(
-                alloc,
-                start.table(),
-                start.groups(),
-                start.workqueues(),
-                steps.as_slice(),
-            )?;
-            Ok(is_deadlock(end))
-        }
+        Some(steps) => deadlocks(alloc, start, steps.as_slice()),
         None => Ok(true),
     }
 }
@@ -348,11 +379,44 @@ fn check_norescuer<A: Allocator + Copy>(
         → AnswersNoRescuer (declared_waits start.now.declared) f
         (record { arc = arc; steps = option_map (λ s. s.items) steps.now }) r) }
 {
-    let (item, target) = arc;
-    if !declares(start, (item, target)) || is_on_bare(start, item) || !is_on_bare(start, target) {
-        return Ok(Err(NoAround::HasRescuer));
+    if declares(start, arc) && is_rescued(start, arc.0) && !is_rescued(start, arc.1) {
+        with_run(alloc, start, steps, YesAround::NoRescuer)
+    } else {
+        Ok(Err(NoAround::HasRescuer))
     }
-    with_run(alloc, start, steps, YesAround::NoRescuer)
+}
+
+/// The answer to a certificate.
+fn check_certificate<A: Allocator + Copy>(
+    alloc: A,
+    start: &Assigned<'_, '_, A>,
+    fixed: &Fixed<A>,
+    answer: &AroundAnswer<A>,
+) -> Result<Result<YesAround, NoAround>, AllocError>
+    requires fixed { IsFixed start.now.declared.partition.groups fixed.now }
+    requires start { start.now.workqueues ≡ start_of fixed.now }
+    requires asked { IsAroundAsked (declared_waits start.now.declared) fixed.now (around_certificate answer.now) }
+    ensures { IfOk result (λ r.
+        AnswersAround (declared_waits start.now.declared) fixed.now (around_certificate answer.now) r) }
+{
+    match answer {
+        AroundAnswer::Plan {
+            assignment,
+            order,
+            length,
+            arcs,
+        } => check_plan(
+            alloc,
+            start,
+            fixed,
+            assignment,
+            order.as_slice(),
+            *length,
+            arcs.as_slice(),
+        ),
+        AroundAnswer::Circle { arcs, steps } => check_circle(alloc, start, arcs.as_slice(), steps),
+        AroundAnswer::NoRescuer { arc, steps } => check_norescuer(alloc, start, *arc, steps),
+    }
 }
 
 /// Checks a certificate around fixed workqueues, where what is declared is on the workqueues of their start: what it
@@ -377,22 +441,7 @@ pub fn check_around<A: Allocator + Copy>(
     ensures circle { IfOk result (λ r. CircleIsOfAll (declared_waits start.now.declared) fixed.now r) }
     ensures none { IfOk result (λ r. NoneIsOfAll (declared_waits start.now.declared) fixed.now r) }
 {
-    match answer {
-        AroundAnswer::Plan {
-            assignment,
-            order,
-            length,
-            arcs,
-        } => check_plan(
-            alloc,
-            start,
-            fixed,
-            assignment,
-            order.as_slice(),
-            *length,
-            arcs.as_slice(),
-        ),
-        AroundAnswer::Circle { arcs, steps } => check_circle(alloc, start, arcs.as_slice(), steps),
-        AroundAnswer::NoRescuer { arc, steps } => check_norescuer(alloc, start, *arc, steps),
-    }
+    // What holds of all that is declared.
+    let _table = start.table();
+    check_certificate(alloc, start, fixed, answer)
 }
