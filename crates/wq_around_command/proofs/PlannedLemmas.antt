@@ -32,12 +32,12 @@ use Rattle.wq_core.proofs.Wirings.{IsWiring-wiring, IsWiring-with_bare}
 use Rattle.wq_deadlock.specs.Judging.{bare_waits}
 use Rattle.wq_deadlock.proofs.BareLanes.{IsArc-bare_waits}
 use Rattle.wq_deadlock.proofs.Renumbered.{not_safe-deadlocks}
-use Rattle.wq_fixed.specs.Fixed.{AllDeadlock, Fixed, IsFixed, IsLeastAround, Keeps, start}
+use Rattle.wq_fixed.specs.Fixed.{AllDeadlock, Fixed, IsFixed, IsLeastAround, fixed_lanes, start}
 use Rattle.wq_fixed.proofs.Kept.{lane_now, waits_here}
 use Rattle.wq_fixed.proofs.StartKeeps.{IsAssignmentOf-start, Keeps-start}
 use Rattle.wq_around.specs.Around.{IsChainOf, IsCircledAround, IsHeldByNone, IsPlannedAround, new_lanes}
 use Rattle.wq_around.specs.Heights.{start_graph}
-use Rattle.wq_around.specs.LongestChain.{LeadsDown}
+use Rattle.wq_around.specs.Down.{LeadsDown}
 use Rattle.wq_commands.specs.Answer.{ends_of}
 use Rattle.wq_commands.proofs.AnswerLemmas.{ArePrintable, IsDeclaration-sound, JoinsItems}
 
@@ -141,19 +141,19 @@ module _ (s : Declared) (sound : IsSound s) (f : Fixed) (fixed : IsFixed s.parti
         here) least.safe
 
     module _ (heights : List ℕ) where
-      chain-down : (q : ℕ) (arcs : List WaitArc) → LeadsDown d f heights q arcs
+      chain-down : (q : ℕ) (arcs : List WaitArc) → LeadsDown graph (fixed_lanes f) heights q arcs
           → IsChain (HasArc graph) (q ∷ map (λ (a : WaitArc). a.head) arcs)
       chain-down q [] down = tt
       chain-down q (arc ∷ arcs) (there, falls, some, down) =
           ((there.0, arc, there.1, there.2, refl), chain-down arc.head arcs down)
 
-      joins-down : (q : ℕ) (arcs : List WaitArc) → LeadsDown d f heights q arcs
+      joins-down : (q : ℕ) (arcs : List WaitArc) → LeadsDown graph (fixed_lanes f) heights q arcs
           → AllByRecursion (λ (a : WaitArc). JoinsItems s.table (ends_of a)) arcs
       joins-down q [] down = tt
       joins-down q (arc ∷ arcs) (there, falls, some, down) =
           (joins-start q arc there, joins-down arc.head arcs down)
 
-      few-down : (q : ℕ) (arcs : List WaitArc) → LeadsDown d f heights q arcs → length arcs ≤ 4096
+      few-down : (q : ℕ) (arcs : List WaitArc) → LeadsDown graph (fixed_lanes f) heights q arcs → length arcs ≤ 4096
       few-down q [] down = omega arith
       few-down q (arc ∷ arcs) down =
           let n = length graph in

@@ -82,8 +82,8 @@ yes_holds s f (OfCircleAround c) (Ok (Plain (Circle n))) out are (good, text) = 
 yes_holds s f (OfCircleAround c) (Ok (Plain (Plan number))) out are prints = absurd are.answered
 yes_holds s f (OfCircleAround c) (Ok NoRescuer) out are prints = absurd are.answered
 yes_holds s f (OfNoRescuer c) (Ok NoRescuer) out are (good, text) = (are.none refl, text)
-yes_holds s f (OfNoRescuer c) (Ok (Plain yes)) out are prints = absurd are.answered
-yes_holds s f c (Err no) out are (bad, text) = absurd (let never : Good ≡ Bad = bad in cc)
+yes_holds s f (OfNoRescuer c) (Ok (Plain own)) out are prints = absurd are.answered
+yes_holds s f c (Err reason) out are (bad, text) = absurd (let never : Good ≡ Bad = bad in cc)
 
 pub YesIsTrueAround-checks : (declared text fixed out : List ℕ) → ChecksAround declared text fixed Good out
     → YesIsTrueAround declared text fixed out

@@ -29,23 +29,23 @@ use Rattle.wq_around_command.specs.declared.checking.Checked.TheVariants as chec
 
 -- the words of a yes
 abbrev pub yes_around_words : YesAround → List (List ℕ)
-yes_around_words (yes_around.Plain yes) = yes_words yes
+yes_around_words (yes_around.Plain own) = yes_words own
 yes_around_words yes_around.NoRescuer = codes "yes" ∷ codes "norescuer" ∷ []
 
 -- the words of a no
 abbrev pub no_around_words : List (List ℕ) → NoAround → List (List ℕ)
-no_around_words names (no_around.Plain no) = no_words names no
+no_around_words names (no_around.Plain reason) = no_words names reason
 no_around_words names no_around.HasRescuer = codes "no" ∷ decimal 55 ∷ []
 
 -- the items that a no names exist
 abbrev pub NamesItemsAround : List (List ℕ) → NoAround → Type 0
-NamesItemsAround names (no_around.Plain no) = NamesItems names no
+NamesItemsAround names (no_around.Plain reason) = NamesItems names reason
 NamesItemsAround names no_around.HasRescuer = Unit {0}
 
 -- what is printed of this answer of the checker
 abbrev pub PrintsCheckAround : List (List ℕ) → Result YesAround NoAround → End → List ℕ → Type 0
-PrintsCheckAround names (Ok yes) end out = (end ≡ Good) × (out ≡ line_text (yes_around_words yes))
-PrintsCheckAround names (Err no) end out = (end ≡ Bad) × (out ≡ line_text (no_around_words names no))
+PrintsCheckAround names (Ok y) end out = (end ≡ Good) × (out ≡ line_text (yes_around_words y))
+PrintsCheckAround names (Err n) end out = (end ≡ Bad) × (out ≡ line_text (no_around_words names n))
 
 -- this is the checker's answer to a certificate around fixed workqueues, and a yes is true
 pub record IsAnsweredAround (d : Declaration) (f : Fixed) (c : AroundCertificate) (answer : Result YesAround NoAround)

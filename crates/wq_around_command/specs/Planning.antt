@@ -1,5 +1,5 @@
 -- The answer to a declaration and workqueues that stay as they are.
-use Rattle.std.specs.Prelude.{◌≡◌, ◌⊎◌, ◌<◌, ⊥, ℕ, List, Some, map, MatchResult}
+use Rattle.std.specs.Prelude.{◌≡◌, ◌⊎◌, ◌<◌, ℕ, List, Some, map, MatchResult}
 use Rattle.wq_groups.specs.Assignment.{item_lanes}
 use Rattle.wq_groups.specs.DeclaredGroups.{declared_waits, Declared}
 use Rattle.wq_graph.specs.declared.arc.WaitArc.{WaitArc}
@@ -55,7 +55,7 @@ pub record FindsAround {A : Type 0} (s : Declared) (f : Fixed) (found : Found (P
 abbrev pub FindsPlanned : {A : Type 0} → Declared → Fixed → Found (Planned A) → End → List ℕ → Type 0
 FindsPlanned {A} s f found end out =
     ((fixed_lanes f ≡ 0) × (found ≡ Read (planned.Plain end)) × AnswersDeclared s end out)
-    ⊎ ((0 < fixed_lanes f) × FindsAround {A} s f found end out)
+    ⊎ ((0 < fixed_lanes f) × FindsAround {A = A} s f found end out)
 
 -- `plan` around the fixed workqueues with this text
 abbrev pub PlansText : {A : Type 0} → Declared → List ℕ → Found (Planned A) → End → List ℕ → Type 0

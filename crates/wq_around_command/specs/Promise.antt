@@ -1,5 +1,5 @@
 -- What an answer around fixed workqueues promises, in terms of the bytes that are printed.
-use Rattle.std.specs.Prelude.{◌≡◌, ◌⊎◌, ◌-◌, ◌<◌, ⊥, ℕ, List, [], ◌∷◌, codes, decimal, length, MatchResult, Ok}
+use Rattle.std.specs.Prelude.{◌≡◌, ◌⊎◌, ◌-◌, ◌<◌, ℕ, List, [], ◌∷◌, codes, decimal, length, MatchResult, Ok}
 use Rattle.wq_text.specs.LineText.{line_text}
 use Rattle.wq_groups.specs.Assignment.{item_lanes}
 use Rattle.wq_groups.specs.Declaration.{Declaration}

@@ -40,7 +40,7 @@ SaysPlanAround first second third s texts found said =
 
 -- of an answer of the checker: its diagnosis, if it is a no
 abbrev pub SaysAnswerAround : List ℕ → List ℕ → Declared → Result YesAround NoAround → Option (List ℕ) → Type 0
-SaysAnswerAround first second s (Ok yes) said = NotesNoItem first s said
+SaysAnswerAround first second s (Ok _) said = NotesNoItem first s said
 SaysAnswerAround first second s (Err why) said =
     (text : List ℕ) × (said ≡ Some text) × IsDiagnosis second (codes "no") (no_around_code why) 0 text
 
