@@ -42,15 +42,17 @@ keeps_fixed s f Bad out (inl h) = h.circled.deadlock
 keeps_fixed s f Bad out (inr h) = h.held.deadlock
 keeps_fixed s f Refused out h = absurd h
 
+-- what is promised around fixed workqueues, or where there is none
+abbrev Keeps : List ℕ → End → List ℕ → Declared → Fixed → Type 0
+Keeps declared end out s f =
+    ((fixed_lanes f ≡ 0) × KeepsPromise declared end out) ⊎ ((0 < fixed_lanes f) × KeepsFixed s f end out)
+
 pub KeepsAround-plans : (declared text : List ℕ) (end : End) (out : List ℕ) → Plans declared text end out
     → KeepsAround declared text end out
 KeepsAround-plans declared text end out = by_declared (declaration declared) refl
   where
-    abbrev Keeps : Declared → Fixed → Type 0
-    Keeps s f =
-        ((fixed_lanes f ≡ 0) × KeepsPromise declared end out) ⊎ ((0 < fixed_lanes f) × KeepsFixed s f end out)
-
-    kept : (s : Declared) → declaration declared ≡ Ok s → (f : Fixed) → AnswersFixed s f end out → Keeps s f
+    kept : (s : Declared) → declaration declared ≡ Ok s → (f : Fixed) → AnswersFixed s f end out
+        → Keeps declared end out s f
     kept s is f (inl (none, answers)) =
         inl (none, KeepsPromise-answers declared end out
         (of_declared (λ s. AnswersDeclared s end out) (λ r. PrintsRefusal r end out) (declaration declared) s is answers))
@@ -58,8 +60,8 @@ KeepsAround-plans declared text end out = by_declared (declaration declared) ref
 
     by_declared : (r : Result Declared Refusal) → declaration declared ≡ r
         → MatchResult r (λ s. PlansDeclared s text end out) (λ r. PrintsRefusal r end out)
-        → MatchResult r (λ s. MatchResult (fixed_of_text s.table.names s.partition text) (Keeps s) (λ _. end ≡ Refused))
-        (λ _. end ≡ Refused)
+        → MatchResult r (λ s. MatchResult (fixed_of_text s.table.names s.partition text) (Keeps declared end out s)
+        (λ _. end ≡ Refused)) (λ _. end ≡ Refused)
     by_declared (Ok s) is h =
         MatchResult-weaker (fixed_of_text s.table.names s.partition text) h (kept s is) (λ fault refused. refused.0)
     by_declared (Err r) is h = h.0
@@ -85,17 +87,19 @@ yes_holds s f (OfNoRescuer c) (Ok NoRescuer) out are (good, text) = (are.none re
 yes_holds s f (OfNoRescuer c) (Ok (Plain own)) out are prints = absurd are.answered
 yes_holds s f c (Err reason) out are (bad, text) = absurd (let never : Good ≡ Bad = bad in cc)
 
+-- what is promised of a yes around fixed workqueues, or where there is none
+abbrev Holds : List ℕ → List ℕ → List ℕ → Declared → Fixed → Type 0
+Holds declared text out s f =
+    ((fixed_lanes f ≡ 0) × YesIsTrue declared text out)
+    ⊎ ((0 < fixed_lanes f) × (c : AroundCertificate)
+    × (around_of_text s.table.names s.partition f text ≡ Ok c) × YesHolds s f c out)
+
 pub YesIsTrueAround-checks : (declared text fixed out : List ℕ) → ChecksAround declared text fixed Good out
     → YesIsTrueAround declared text fixed out
 YesIsTrueAround-checks declared text fixed out = by_declared (declaration declared) refl
   where
-    abbrev Holds : Declared → Fixed → Type 0
-    Holds s f =
-        ((fixed_lanes f ≡ 0) × YesIsTrue declared text out)
-        ⊎ ((0 < fixed_lanes f) × (c : AroundCertificate)
-        × (around_of_text s.table.names s.partition f text ≡ Ok c) × YesHolds s f c out)
-
-    holds : (s : Declared) → declaration declared ≡ Ok s → (f : Fixed) → ChecksFixed s f text Good out → Holds s f
+    holds : (s : Declared) → declaration declared ≡ Ok s → (f : Fixed) → ChecksFixed s f text Good out
+        → Holds declared text out s f
     holds s is f (inl (none, checks)) =
         inl (none, YesIsTrue-checks declared text out
         (of_declared (λ s. ChecksDeclared s text Good out) (λ r. PrintsRefusal r Good out) (declaration declared) s is

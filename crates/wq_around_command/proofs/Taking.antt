@@ -1,17 +1,20 @@
 -- From what is found to what is answered, and from the bytes that are kept to the texts.
-use Rattle.std.proofs.Common.{◌≡◌, ℕ, ◌+◌, ◌⊎◌, inl, inr, List, length, Result, Ok, Err, ap, subst, sym, ◌∙◌}
+use Rattle.std.proofs.Common.{◌≡◌, ℕ, ◌+◌, inl, inr, List, length, None, Result, Ok, Err, subst, sym}
 use Rattle.std.specs.Prelude.{take}
 use Rattle.std.proofs.lemmas.Result.{MatchResult-weaker}
+use Rattle.wq_text.specs.Limits.{limit_fault}
 use Rattle.wq_text.specs.Refusal.{Refusal}
 use Rattle.wq_groups.specs.DeclaredGroups.{declared_waits, Declared}
 use Rattle.wq_core.specs.Workqueues.{Workqueues}
 use Rattle.wq_fixed.specs.Fixed.{Fixed, start}
 use Rattle.wq_fixed.proofs.StartKeeps.{IsAssignmentOf-start}
 use Rattle.wq_cert.specs.declared.fault.CertError.{CertError}
+use Rattle.wq_cert.specs.declared.fault.CertError.TheVariants as faults
 use Rattle.wq_cert.specs.AroundReading.{around_of_text, around_reading}
 use Rattle.wq_cert.specs.FixedReading.{fixed_of_text, fixed_reading}
 use Rattle.wq_cert.specs.Reading.{answer_reading}
-use Rattle.wq_cert.specs.Texts.{cert_refusal, max_certificate}
+use Rattle.wq_cert.specs.Texts.{IsCertFaultOf, cert_refusal, max_certificate, max_certificate_line}
+use Rattle.wq_cert.proofs.ReadRanges.{IsReadSo-text_reading}
 use Rattle.wq_checker.specs.declared.answer.No.{No}
 use Rattle.wq_checker.specs.declared.answer.Yes.{Yes}
 use Rattle.wq_checker.specs.declared.around.NoAround.{NoAround}
@@ -29,7 +32,7 @@ use Rattle.wq_commands.specs.Answer.{PrintsRefusal}
 use Rattle.wq_commands.specs.Checking.{AnswersCheck}
 use Rattle.wq_commands.specs.Commands.{ChecksText, FindsPlan, three_texts, two_texts}
 use Rattle.wq_commands.specs.Declaration.{declaration}
-use Rattle.wq_commands.specs.Found.{AnswersIn, refused_for}
+use Rattle.wq_commands.specs.Found.{AnswersIn, IsUnread, refused_for}
 use Rattle.wq_commands.specs.Shell.{AnswersTexts}
 use Rattle.wq_commands.proofs.FoundLemmas.{AnswersIn-match, AnswersTexts-match, ChecksText-declared}
 use Rattle.wq_commands.proofs.InputLemmas.{read-kept, text-kept}
@@ -42,6 +45,20 @@ use Rattle.wq_around_command.specs.Checking.{AnswersCheckAround, ChecksAround, C
 use Rattle.wq_around_command.specs.Checking.{ChecksTexts, FindsCheckAround}
 use Rattle.wq_around_command.specs.Planning.{AnswersFixed, FindsPlanned, Plans, PlansDeclared, PlansText, PrintsAround}
 use Rattle.wq_around_command.specs.Planning.{PrintsFixed}
+
+-- a text that can't be read is answered by its refusal
+pub AnswersIn-unread : {V T : Type 0} (which : Which) (read : Result V CertError)
+    (Finds : V → Found T → End → List ℕ → Type 0) (fault : CertError) (found : Found T) (end : End) (out : List ℕ)
+    → IsCertFaultOf fault read → IsUnread which fault found end out → AnswersIn which read Finds found end out
+AnswersIn-unread which read Finds (faults.BadCertLine line) found end out is unread =
+    subst (λ r. AnswersIn which r Finds found end out) (sym is) unread
+AnswersIn-unread which read Finds (faults.NotAllItems line) found end out is unread =
+    subst (λ r. AnswersIn which r Finds found end out) (sym is) unread
+AnswersIn-unread which read Finds (faults.GroupSplit line) found end out is unread =
+    subst (λ r. AnswersIn which r Finds found end out) (sym is) unread
+AnswersIn-unread which read Finds (faults.NumberOutOfRange line) found end out is unread =
+    subst (λ r. AnswersIn which r Finds found end out) (sym is) unread
+AnswersIn-unread which read Finds faults.OutOfMemory found end out is unread = absurd unread
 
 -- the text that is refused is this one, if what is read is found
 AnswersIn-refused : {V T : Type 0} (which : Which) (read : Result V CertError)
@@ -107,14 +124,15 @@ module _ {A : Type 0} (s : Declared) where
       plain f (inl (none, is, answers)) = (cc, answers)
       plain f (inr (some, finds)) = absurd (let is = finds.is in cc)
 
-  -- else the start is one of the declared groups
+  -- else the start is one of the declared groups, and the text is within the limits
   pub PlansText-around : (text : List ℕ) (ws : Workqueues) (answer : Around A) (end : End) (out : List ℕ)
       → PlansText {A = A} s text (Read (planned.Around ws answer)) end out
-      → length ws.assignment.lane_of_group ≡ s.partition.groups
+      → (limit_fault max_certificate max_certificate_line text ≡ None)
+      × (length ws.assignment.lane_of_group ≡ s.partition.groups)
   PlansText-around text ws answer end out h =
       let (f, read, finds) = AnswersIn-read SecondText (fixed_of_text s.table.names s.partition text)
       (λ f. FindsPlanned {A = A} s f) (planned.Around ws answer) end out h in
-      around_groups f finds
+      ((IsReadSo-text_reading (fixed_reading s.table.names s.partition) text f read).within, around_groups f finds)
     where
       around_groups : (f : Fixed) → FindsPlanned {A = A} s f (Read (planned.Around ws answer)) end out
           → length ws.assignment.lane_of_group ≡ s.partition.groups

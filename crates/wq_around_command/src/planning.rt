@@ -3,15 +3,17 @@
 //! It takes the time and the memory of reading both texts, of the plan, and, where there is none, of the deadlocking run
 //! of the start.
 
-ghost use Rattle.std.specs.Prelude.{◌≡◌, IfOk, length, map};
+ghost use Rattle.std.specs.Prelude.{◌≡◌, IfOk, List, Some, length, map};
 ghost use Rattle.wq_groups.specs.Assignment.{item_lanes};
 ghost use Rattle.wq_groups.specs.DeclaredGroups.{declared_waits};
+ghost use Rattle.wq_core.specs.declared.step.Step.{Step};
 ghost use Rattle.wq_core.specs.Deadlock.{IsSafe};
 ghost use Rattle.wq_core.specs.Workqueues.{wiring_of};
 ghost use Rattle.wq_deadlock.specs.Judging.{IsHang};
-ghost use Rattle.wq_fixed.specs.Fixed.{IsFixed, fixed_lanes, start as start_of};
-ghost use Rattle.wq_cert.specs.AroundText.{around_text};
-ghost use Rattle.wq_around.specs.Around.{IsPlannedAround, PlansAround};
+ghost use Rattle.wq_fixed.specs.Fixed.{Fixed as FixedView, IsFixed, fixed_lanes, start as start_of};
+ghost use Rattle.wq_cert.specs.AroundText.{around_text, norescuer_text};
+ghost use Rattle.wq_cert.specs.CircleText.{circle_text};
+ghost use Rattle.wq_around.specs.Around.{IsCircledAround, IsHeldByNone, IsPlannedAround, PlansAround};
 ghost use Rattle.wq_commands.specs.Answer.{ends_of};
 ghost use Rattle.wq_around_command.specs.Planning.{FindsAround, FindsPlanned, PlansText, PrintsAround};
 
@@ -76,6 +78,39 @@ fn run_of_start<A: Allocator + Copy>(
     }
 }
 
+/// The text of this circle, in which workqueues of the start wait, with the deadlocking run of the start.
+fn circle_of_start<A: Allocator + Copy>(
+    alloc: A,
+    start: &Assigned<'_, '_, A>,
+    arcs: &[WaitArc],
+) -> Result<Vec<u8, A>, AllocError>
+    requires { (f : FixedView) × IsFixed start.now.declared.partition.groups f × (start.now.workqueues ≡ start_of f)
+        × IsCircledAround (declared_waits start.now.declared) f arcs.now }
+    ensures { IfOk result (λ text. (steps : List Step)
+        × IsHang (declared_waits start.now.declared) start.now.workqueues steps
+        × (text.items ≡ circle_text start.now.declared.table.names (map ends_of arcs.now) (Some steps))) }
+{
+    let ends = ends_of(alloc, arcs)?;
+    let steps = run_of_start(alloc, start)?;
+    circle_text(alloc, start.table(), &ends, Some(steps.as_slice()))
+}
+
+/// The text of this flush, which leads in the start to no rescuer, with the deadlocking run of the start.
+fn norescuer_of_start<A: Allocator + Copy>(
+    alloc: A,
+    start: &Assigned<'_, '_, A>,
+    arc: &WaitArc,
+) -> Result<Vec<u8, A>, AllocError>
+    requires { (f : FixedView) × IsFixed start.now.declared.partition.groups f × (start.now.workqueues ≡ start_of f)
+        × IsHeldByNone (declared_waits start.now.declared) f arc.now }
+    ensures { IfOk result (λ text. (steps : List Step)
+        × IsHang (declared_waits start.now.declared) start.now.workqueues steps
+        × (text.items ≡ norescuer_text start.now.declared.table.names (ends_of arc.now) steps)) }
+{
+    let steps = run_of_start(alloc, start)?;
+    norescuer_text(alloc, start.table(), (arc.src, arc.dst), &steps)
+}
+
 /// How `plan` ends with this answer, and what is printed.
 fn print_around<A: Allocator + Copy>(
     alloc: A,
@@ -99,14 +134,11 @@ fn print_around<A: Allocator + Copy>(
             Ok((End::Good, text))
         }
         Around::Circle { arcs } => {
-            let ends = ends_of(alloc, arcs)?;
-            let steps = run_of_start(alloc, start)?;
-            let text = circle_text(alloc, start.table(), &ends, Some(steps.as_slice()))?;
+            let text = circle_of_start(alloc, start, arcs.as_slice())?;
             Ok((End::Bad, text))
         }
         Around::NoRescuer { arc } => {
-            let steps = run_of_start(alloc, start)?;
-            let text = norescuer_text(alloc, start.table(), (arc.src, arc.dst), &steps)?;
+            let text = norescuer_of_start(alloc, start, arc)?;
             Ok((End::Bad, text))
         }
     }

@@ -4,7 +4,9 @@
 //! `no` have a diagnosis. Where there is no fixed workqueue, all is said as without them. A call takes the time and the
 //! memory of the words and, where the start hangs, of the search for a shortest run.
 
-ghost use Rattle.std.specs.Prelude.{◌≡◌, ℕ, IfOk, List, Some, length, option_map};
+ghost use Rattle.std.specs.Prelude.{◌≡◌, ℕ, IfOk, List, None, Some, length, option_map};
+ghost use Rattle.wq_text.specs.Limits.{limit_fault};
+ghost use Rattle.wq_cert.specs.Texts.{max_certificate, max_certificate_line};
 ghost use Rattle.wq_commands.specs.declared.end.End.{End};
 ghost use Rattle.wq_commands.specs.declared.found.Found.TheVariants.{Read};
 ghost use Rattle.wq_diagnosis.specs.Refused.{Diagnoses};
@@ -36,7 +38,8 @@ fn say_start<'a, A: Allocator + Copy>(
     texts: &'a Texts<A>,
     start: &Workqueues<A>,
 ) -> Result<Option<Vec<u8, A>>, AllocError>
-    requires { length start.now.assignment.lane_of_group ≡ declared.now.partition.groups }
+    requires read { limit_fault max_certificate max_certificate_line texts.now.second ≡ None }
+    requires groups { length start.now.assignment.lane_of_group ≡ declared.now.partition.groups }
     ensures { IfOk result (λ said. SaysStart names.now.declaration.now texts.now.second declared.now start.now
         (option_map (λ text. text.items) said)) }
 {
@@ -71,7 +74,8 @@ fn say_around<'a, A: Allocator + Copy>(
     start: &Workqueues<A>,
     around: &Around<A>,
 ) -> Result<Option<Vec<u8, A>>, AllocError>
-    requires { length start.now.assignment.lane_of_group ≡ declared.now.partition.groups }
+    requires read { limit_fault max_certificate max_certificate_line texts.now.second ≡ None }
+    requires groups { length start.now.assignment.lane_of_group ≡ declared.now.partition.groups }
     ensures { IfOk result (λ said. SaysAround names.now.declaration.now texts.now.second declared.now start.now
         around.now (option_map (λ text. text.items) said)) }
 {
