@@ -1,5 +1,5 @@
 -- What is read of an answer around fixed workqueues can be asked about.
-use Rattle.std.proofs.Common.{◌≡◌, ℕ, ◌+◌, ◌-◌, ◌<◌, ◌≤◌, Bool, true, false, cond, leb, List, [], ◌∷◌, length, map, Option}
+use Rattle.std.proofs.Common.{◌≡◌, ℕ, ◌-◌, ◌<◌, ◌≤◌, Bool, true, false, cond, List, [], ◌∷◌, length, Option}
 use Rattle.std.proofs.Common.{Some, None, Result, Ok, Err, refl, sym, ap, subst, ◌∙◌, arith}
 use Rattle.std.specs.Prelude.{codes, nat_le, ok_or}
 use Rattle.std.specs.List.{All, AllByRecursion, list_any}
@@ -22,7 +22,7 @@ use Rattle.wq_cert.specs.AroundReading.{AroundCertificate, AroundPlan, NoRescuer
 use Rattle.wq_cert.specs.AroundReading.{OfPlanAround, around_of_text, around_plan_reading, around_reading}
 use Rattle.wq_cert.specs.AroundReading.{fixed_workqueues, new_assignment, new_count_reading, norescuer_count_reading}
 use Rattle.wq_cert.specs.AroundReading.{norescuer_reading, order_form, order_reading}
-use Rattle.wq_cert.specs.Certificate.{Certificate, CircleCertificate, OfCircle}
+use Rattle.wq_cert.specs.Certificate.{CircleCertificate, OfCircle}
 use Rattle.wq_cert.specs.Forms.{begins_with}
 use Rattle.wq_cert.specs.LineRows.{count_words}
 use Rattle.wq_cert.specs.Lines.{CertLine, cert_lines}

@@ -1,5 +1,5 @@
 -- What is found around fixed workqueues can be printed: few arcs, each between items.
-use Rattle.std.proofs.Common.{◌≡◌, ◌≢◌, ℕ, ◌+◌, ◌<◌, ◌≤◌, inl, inr, List, [], ◌∷◌, ◌++◌, length, map, get_or, refl, sym, ap}
+use Rattle.std.proofs.Common.{◌≡◌, ℕ, ◌<◌, ◌≤◌, inl, inr, List, [], ◌∷◌, length, map, get_or, refl, sym, ap}
 use Rattle.std.proofs.Common.{subst, ◌∙◌, arith}
 use Rattle.std.specs.Prelude.{Contains, slice_index}
 use Rattle.std.specs.List.{All, AllByRecursion}
@@ -19,11 +19,10 @@ use Rattle.wq_graph.specs.Graph.{HasArc, IsArc, IsGraph, arcs_at, arcs_from, lan
 use Rattle.wq_graph.proofs.Arcs.{src-below}
 use Rattle.wq_graph.proofs.Graphs.{AreArcsFrom-lane_graph, IsGraph-lane_graph, VertexWaits-lane_graph}
 use Rattle.wq_graph.proofs.LeavingOut.{Contains-without, HasArc-without, IsGraph-without, length-without}
-use Rattle.wq_levels.specs.Walks.{IsWalkedCircle, LeadsRound}
 use Rattle.wq_levels.proofs.Graphs.{HasArc-below}
 use Rattle.wq_levels.proofs.OneCircle.{IsWalkedCircle-few}
 use Rattle.wq_levels.proofs.Walks.{LeadsRound-walked}
-use Rattle.wq_core.specs.Deadlock.{Deadlocks, IsSafe}
+use Rattle.wq_core.specs.Deadlock.{IsSafe}
 use Rattle.wq_core.specs.Wiring.{RescuedWaits, wiring}
 use Rattle.wq_core.specs.Workqueues.{Workqueues, wiring_of}
 use Rattle.wq_core.proofs.CircleKnots.{Deadlocks-rescued_circle}

@@ -105,7 +105,8 @@ YesIsTrueAround-checks declared text fixed out = by_declared (declaration declar
         (of_declared (λ s. ChecksDeclared s text Good out) (λ r. PrintsRefusal r Good out) (declaration declared) s is
         checks))
     holds s is f (inr (some, checks)) =
-        inr (some, by_claim (around_of_text s.table.names s.partition f text) refl checks)
+        let (c, read, true_of) = by_claim (around_of_text s.table.names s.partition f text) refl checks in
+        inr (some, c, read, true_of)
       where
         by_claim : (r : Result AroundCertificate CertError) → around_of_text s.table.names s.partition f text ≡ r
             → MatchResult r (λ c. AnswersCheckAround s f c Good out)

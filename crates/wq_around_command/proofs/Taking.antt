@@ -1,5 +1,5 @@
 -- From what is found to what is answered, and from the bytes that are kept to the texts.
-use Rattle.std.proofs.Common.{◌≡◌, ℕ, ◌+◌, inl, inr, List, length, None, Result, Ok, Err, subst, sym}
+use Rattle.std.proofs.Common.{◌≡◌, ℕ, ◌+◌, inl, inr, List, length, None, Result, subst, sym}
 use Rattle.std.specs.Prelude.{take}
 use Rattle.std.proofs.lemmas.Result.{MatchResult-weaker}
 use Rattle.wq_text.specs.Limits.{limit_fault}
@@ -15,30 +15,25 @@ use Rattle.wq_cert.specs.FixedReading.{fixed_of_text, fixed_reading}
 use Rattle.wq_cert.specs.Reading.{answer_reading}
 use Rattle.wq_cert.specs.Texts.{IsCertFaultOf, cert_refusal, max_certificate, max_certificate_line}
 use Rattle.wq_cert.proofs.ReadRanges.{IsReadSo-text_reading}
-use Rattle.wq_checker.specs.declared.answer.No.{No}
-use Rattle.wq_checker.specs.declared.answer.Yes.{Yes}
-use Rattle.wq_checker.specs.declared.around.NoAround.{NoAround}
-use Rattle.wq_checker.specs.declared.around.YesAround.{YesAround}
 use Rattle.wq_around.specs.declared.answer.Around.{Around}
 use Rattle.wq_around.specs.declared.answer.Around.TheVariants as around
 use Rattle.wq_around.specs.Around.{PlansAround}
 use Rattle.wq_meter.specs.Shell.{Given, kept}
 use Rattle.wq_commands.specs.declared.end.End.{End}
 use Rattle.wq_commands.specs.declared.found.Found.{Found}
-use Rattle.wq_commands.specs.declared.found.Found.TheVariants.{Read, Refused as RefusedText}
+use Rattle.wq_commands.specs.declared.found.Found.TheVariants.{Read}
 use Rattle.wq_commands.specs.declared.found.Which.{Which}
 use Rattle.wq_commands.specs.declared.found.Which.TheVariants.{Certificate as SecondText, Run as ThirdText}
 use Rattle.wq_commands.specs.Answer.{PrintsRefusal}
 use Rattle.wq_commands.specs.Checking.{AnswersCheck}
-use Rattle.wq_commands.specs.Commands.{ChecksText, FindsPlan, three_texts, two_texts}
+use Rattle.wq_commands.specs.Commands.{three_texts, two_texts}
 use Rattle.wq_commands.specs.Declaration.{declaration}
-use Rattle.wq_commands.specs.Found.{AnswersIn, IsUnread, refused_for}
+use Rattle.wq_commands.specs.Found.{AnswersIn, IsUnread}
 use Rattle.wq_commands.specs.Shell.{AnswersTexts}
 use Rattle.wq_commands.proofs.FoundLemmas.{AnswersIn-match, AnswersTexts-match, ChecksText-declared}
 use Rattle.wq_commands.proofs.InputLemmas.{read-kept, text-kept}
 use Rattle.wq_circles.proofs.Found.{AnswersIn-read}
 use Rattle.wq_around_command.specs.declared.checking.Checked.{Checked}
-use Rattle.wq_around_command.specs.declared.checking.Checked.TheVariants as checked
 use Rattle.wq_around_command.specs.declared.planning.Planned.{Planned}
 use Rattle.wq_around_command.specs.declared.planning.Planned.TheVariants as planned
 use Rattle.wq_around_command.specs.Checking.{AnswersCheckAround, ChecksAround, ChecksDeclaredAround, ChecksFixed, ChecksOn}
@@ -59,17 +54,6 @@ AnswersIn-unread which read Finds (faults.GroupSplit line) found end out is unre
 AnswersIn-unread which read Finds (faults.NumberOutOfRange line) found end out is unread =
     subst (λ r. AnswersIn which r Finds found end out) (sym is) unread
 AnswersIn-unread which read Finds faults.OutOfMemory found end out is unread = absurd unread
-
--- the text that is refused is this one, if what is read is found
-AnswersIn-refused : {V T : Type 0} (which : Which) (read : Result V CertError)
-    (Finds : V → Found T → End → List ℕ → Type 0) (refused : Which) (code line : ℕ) (end : End) (out : List ℕ)
-    → ((v : V) → ¬ Finds v (RefusedText refused code line) end out)
-    → AnswersIn which read Finds (RefusedText refused code line) end out → refused ≡ which
-AnswersIn-refused which (Ok v) Finds refused code line end out never h = absurd (never v h)
-AnswersIn-refused {V} {T} which (Err fault) Finds refused code line end out never h =
-    let found : Found T = RefusedText refused code line in
-    let same : found ≡ refused_for which (cert_refusal fault) = h.0 in
-    cc
 
 -- ---- `plan`
 
@@ -101,30 +85,7 @@ module _ {A : Type 0} (s : Declared) where
 
   -- ---- what is said of what was found
 
-  -- the fixed workqueues are what is refused
-  pub PlansText-refused : (text : List ℕ) (which : Which) (code line : ℕ) (end : End) (out : List ℕ)
-      → PlansText {A = A} s text (RefusedText which code line) end out → which ≡ SecondText
-  PlansText-refused text which code line end out =
-      AnswersIn-refused SecondText (fixed_of_text s.table.names s.partition text) (λ f. FindsPlanned {A = A} s f) which code line
-      end out never
-    where
-      never : (f : Fixed) → ¬ FindsPlanned {A = A} s f (RefusedText which code line) end out
-      never f (inl (none, is, answers)) = cc
-      never f (inr (some, finds)) = let is = finds.is in cc
-
-  -- where there is none, `plan` ends as without
-  pub PlansText-plain : (text : List ℕ) (found end : End) (out : List ℕ)
-      → PlansText {A = A} s text (Read (planned.Plain found)) end out → FindsPlan s found end out
-  PlansText-plain text found end out h =
-      let (f, read, finds) = AnswersIn-read SecondText (fixed_of_text s.table.names s.partition text)
-      (λ f. FindsPlanned {A = A} s f) (planned.Plain found) end out h in
-      plain f finds
-    where
-      plain : (f : Fixed) → FindsPlanned {A = A} s f (Read (planned.Plain found)) end out → FindsPlan s found end out
-      plain f (inl (none, is, answers)) = (cc, answers)
-      plain f (inr (some, finds)) = absurd (let is = finds.is in cc)
-
-  -- else the start is one of the declared groups, and the text is within the limits
+  -- where there is a fixed workqueue, the start is one of the declared groups, and the text is within the limits
   pub PlansText-around : (text : List ℕ) (ws : Workqueues) (answer : Around A) (end : End) (out : List ℕ)
       → PlansText {A = A} s text (Read (planned.Around ws answer)) end out
       → (limit_fault max_certificate max_certificate_line text ≡ None)
@@ -171,52 +132,6 @@ module _ (s : Declared) where
   ChecksTexts-declared text fixed found end out =
       AnswersIn-match ThirdText (fixed_of_text s.table.names s.partition fixed) (λ f. ChecksOn s f text)
       (λ f. ChecksFixed s f text) found end out (checks_fixed text found end out)
-
-  -- ---- what is said of what was found
-
-  -- the fixed workqueues are what is refused
-  pub ChecksTexts-refused : (text fixed : List ℕ) (which : Which) (code line : ℕ) (end : End) (out : List ℕ)
-      → ChecksTexts s text fixed (RefusedText which code line) end out → which ≡ ThirdText
-  ChecksTexts-refused text fixed which code line end out =
-      AnswersIn-refused ThirdText (fixed_of_text s.table.names s.partition fixed) (λ f. ChecksOn s f text) which code line
-      end out never
-    where
-      never : (f : Fixed) → ¬ ChecksOn s f text (RefusedText which code line) end out
-      never f (inl (none, plain, is, checks)) = cc
-      never f (inr (some, own, is, checks)) = cc
-
-  -- where there is none, it is found what is found without
-  pub ChecksTexts-plain : (text fixed : List ℕ) (found : Found (Result Yes No)) (end : End) (out : List ℕ)
-      → ChecksTexts s text fixed (Read (checked.Plain found)) end out → ChecksText s text found end out
-  ChecksTexts-plain text fixed found end out h =
-      let (f, read, checks) = AnswersIn-read ThirdText (fixed_of_text s.table.names s.partition fixed)
-      (λ f. ChecksOn s f text) (checked.Plain found) end out h in
-      plain f checks
-    where
-      plain : (f : Fixed) → ChecksOn s f text (Read (checked.Plain found)) end out → ChecksText s text found end out
-      plain f (inl (none, own, is, checks)) =
-          let same : own ≡ found = cc in
-          subst (λ (r : Found (Result Yes No)). ChecksText s text r end out) same checks
-      plain f (inr (some, own, is, checks)) = absurd cc
-
-  -- else the certificate is what is refused
-  pub ChecksTexts-unread : (text fixed : List ℕ) (which : Which) (code line : ℕ) (end : End) (out : List ℕ)
-      → ChecksTexts s text fixed (Read (checked.Around (RefusedText which code line))) end out → which ≡ SecondText
-  ChecksTexts-unread text fixed which code line end out h =
-      let (f, read, checks) = AnswersIn-read ThirdText (fixed_of_text s.table.names s.partition fixed)
-      (λ f. ChecksOn s f text) (checked.Around (RefusedText which code line)) end out h in
-      unread f checks
-    where
-      unread : (f : Fixed) → ChecksOn s f text (Read (checked.Around (RefusedText which code line))) end out
-          → which ≡ SecondText
-      unread f (inl (none, own, is, checks)) = absurd cc
-      unread f (inr (some, own, is, checks)) =
-          let same : own ≡ RefusedText which code line = cc in
-          AnswersIn-refused SecondText (around_of_text s.table.names s.partition f text) (λ c. FindsCheckAround s f c)
-          which code line end out (λ c (answer, never, others). cc)
-          (subst (λ (r : Found (Result YesAround NoAround)).
-          AnswersIn SecondText (around_of_text s.table.names s.partition f text) (λ c. FindsCheckAround s f c) r end out)
-          same checks)
 
 -- an answer to what is kept of a certificate is one to its text
 checks-kept : (s : Declared) (text : List ℕ) (end : End) (out : List ℕ) (f : Fixed)

@@ -2,7 +2,6 @@
 use Rattle.std.specs.Prelude.{◌≡◌, ◌⊎◌, ◌-◌, ◌<◌, ℕ, List, [], ◌∷◌, codes, decimal, length, MatchResult, Ok}
 use Rattle.wq_text.specs.LineText.{line_text}
 use Rattle.wq_groups.specs.Assignment.{item_lanes}
-use Rattle.wq_groups.specs.Declaration.{Declaration}
 use Rattle.wq_groups.specs.DeclaredGroups.{declared_waits, Declared}
 use Rattle.wq_core.specs.Workqueues.{Workqueues}
 use Rattle.wq_fixed.specs.Fixed.{Fixed, IsLeastAround, AllDeadlock, fixed_lanes}

@@ -90,9 +90,10 @@ fn circle_of_start<A: Allocator + Copy>(
         × IsHang (declared_waits start.now.declared) start.now.workqueues steps
         × (text.items ≡ circle_text start.now.declared.table.names (map ends_of arcs.now) (Some steps))) }
 {
+    let table = start.table();
     let ends = ends_of(alloc, arcs)?;
     let steps = run_of_start(alloc, start)?;
-    circle_text(alloc, start.table(), &ends, Some(steps.as_slice()))
+    circle_text(alloc, table, &ends, Some(steps.as_slice()))
 }
 
 /// The text of this flush, which leads in the start to no rescuer, with the deadlocking run of the start.
@@ -107,8 +108,9 @@ fn norescuer_of_start<A: Allocator + Copy>(
         × IsHang (declared_waits start.now.declared) start.now.workqueues steps
         × (text.items ≡ norescuer_text start.now.declared.table.names (ends_of arc.now) steps)) }
 {
+    let table = start.table();
     let steps = run_of_start(alloc, start)?;
-    norescuer_text(alloc, start.table(), (arc.src, arc.dst), &steps)
+    norescuer_text(alloc, table, (arc.src, arc.dst), &steps)
 }
 
 /// How `plan` ends with this answer, and what is printed.
