@@ -52,9 +52,11 @@ next_read read [] rest v e = absurd cc
 next_read {V} read (line ∷ lines) rest v e =
     let next : V → Read V = λ u. Ok (u, lines) in
     let found = Follows-and_then next (read line) (v, rest) e in
-    let same : (found.value, lines) ≡ (v, rest) = same_ok (found.value, lines) (v, rest) found.then in
-    (line, ap (λ (p : V × List CertLine). line ∷ p.1) same,
-    found.first ∙ ap (λ (p : V × List CertLine). Ok p.0) same)
+    let same : (found.value, lines) ≡ (v, rest) = same_ok (found.value, lines) (v, rest) found.then in (
+      line,
+      ap (λ (p : V × List CertLine). line ∷ p.1) same,
+      found.first ∙ ap (λ (p : V × List CertLine). Ok p.0) same,
+    )
 
 -- ---- a plan
 

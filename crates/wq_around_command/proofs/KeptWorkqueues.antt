@@ -66,7 +66,7 @@ module _ (p : Partition) (f : Fixed) (partition : IsPartition p) (fixed : IsFixe
   holds_fixed g q within =
       let own : Bool = is_lane (get_or f.lane_of_group g None) q in
       let same : (i : ℕ) → (get_or p.group_of i 0 == g) ≡ true
-          → is_lane (get_or f.lane_of_group (get_or p.group_of i 0) None) q ≡ own =
+      → is_lane (get_or f.lane_of_group (get_or p.group_of i 0) None) q ≡ own =
       λ i is. ap (λ (h : ℕ). is_lane (get_or f.lane_of_group h None) q) (eqb-true (get_or p.group_of i 0) g is) in
       any-filter_same (λ i. get_or p.group_of i 0 == g)
       (λ i. is_lane (get_or f.lane_of_group (get_or p.group_of i 0) None) q) own same

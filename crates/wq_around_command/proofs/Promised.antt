@@ -54,8 +54,11 @@ KeepsAround-plans declared text end out = by_declared (declaration declared) ref
     kept : (s : Declared) → declaration declared ≡ Ok s → (f : Fixed) → AnswersFixed s f end out
         → Keeps declared end out s f
     kept s is f (inl (none, answers)) =
-        inl (none, KeepsPromise-answers declared end out
-        (of_declared (λ s. AnswersDeclared s end out) (λ r. PrintsRefusal r end out) (declaration declared) s is answers))
+        inl (
+          none,
+          KeepsPromise-answers declared end out
+              (of_declared (λ s. AnswersDeclared s end out) (λ r. PrintsRefusal r end out) (declaration declared) s is answers),
+        )
     kept s is f (inr (some, prints)) = inr (some, keeps_fixed s f end out prints)
 
     by_declared : (r : Result Declared Refusal) → declaration declared ≡ r
@@ -101,9 +104,12 @@ YesIsTrueAround-checks declared text fixed out = by_declared (declaration declar
     holds : (s : Declared) → declaration declared ≡ Ok s → (f : Fixed) → ChecksFixed s f text Good out
         → Holds declared text out s f
     holds s is f (inl (none, checks)) =
-        inl (none, YesIsTrue-checks declared text out
-        (of_declared (λ s. ChecksDeclared s text Good out) (λ r. PrintsRefusal r Good out) (declaration declared) s is
-        checks))
+        inl (
+          none,
+          YesIsTrue-checks declared text out
+              (of_declared (λ s. ChecksDeclared s text Good out) (λ r. PrintsRefusal r Good out) (declaration declared) s is
+              checks),
+        )
     holds s is f (inr (some, checks)) =
         let (c, read, true_of) = by_claim (around_of_text s.table.names s.partition f text) refl checks in
         inr (some, c, read, true_of)

@@ -124,8 +124,11 @@ module _ (s : Declared) where
   checks_fixed text found end out f (inl (none, plain, is, checks)) =
       inl (none, ChecksText-declared s text plain end out checks)
   checks_fixed text found end out f (inr (some, own, is, checks)) =
-      inr (some, AnswersIn-match SecondText (around_of_text s.table.names s.partition f text)
-      (λ c. FindsCheckAround s f c) (λ c. AnswersCheckAround s f c) own end out (λ c h. (h.0, h.2, h.3)) checks)
+      inr (
+        some,
+        AnswersIn-match SecondText (around_of_text s.table.names s.partition f text)
+            (λ c. FindsCheckAround s f c) (λ c. AnswersCheckAround s f c) own end out (λ c h. (h.0, h.2, h.3)) checks,
+      )
 
   pub ChecksTexts-declared : (text fixed : List ℕ) (found : Found Checked) (end : End) (out : List ℕ)
       → ChecksTexts s text fixed found end out → ChecksDeclaredAround s text fixed end out
@@ -137,11 +140,17 @@ module _ (s : Declared) where
 checks-kept : (s : Declared) (text : List ℕ) (end : End) (out : List ℕ) (f : Fixed)
     → ChecksFixed s f (take (max_certificate + 1) text) end out → ChecksFixed s f text end out
 checks-kept s text end out f (inl (none, checks)) =
-    inl (none, text-kept (answer_reading s.table.names s.partition) (λ _ c. AnswersCheck s c end out)
-    (λ fault. PrintsRefusal (cert_refusal fault) end out) text checks)
+    inl (
+      none,
+      text-kept (answer_reading s.table.names s.partition) (λ _ c. AnswersCheck s c end out)
+          (λ fault. PrintsRefusal (cert_refusal fault) end out) text checks,
+    )
 checks-kept s text end out f (inr (some, checks)) =
-    inr (some, text-kept (around_reading s.table.names s.partition f) (λ _ c. AnswersCheckAround s f c end out)
-    (λ fault. PrintsRefusal (cert_refusal fault) end out) text checks)
+    inr (
+      some,
+      text-kept (around_reading s.table.names s.partition f) (λ _ c. AnswersCheckAround s f c end out)
+          (λ fault. PrintsRefusal (cert_refusal fault) end out) text checks,
+    )
 
 pub check_around-kept : (texts : Given) (found : Result (Found Checked) Refusal) (end : End) (out : List ℕ)
     → AnswersTexts (λ s t f e o. ChecksTexts s t.second t.third f e o) (kept three_texts texts) found end out

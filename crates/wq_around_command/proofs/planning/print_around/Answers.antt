@@ -7,8 +7,7 @@ use Rattle.wq_around_command.proofs.planning.print_around.Goals as goal
 pub circle_of_start-requires : goal.circle_of_start-requires
 circle_of_start-requires g c =
     let d = declared_waits c.args.start.now.declared in
-    let circled : IsCircledAround d c.args.fixed.now c.in-Circle.arcs.items = rw c.in-Circle.is at c.requires.plans in
-    (
+    let circled : IsCircledAround d c.args.fixed.now c.in-Circle.arcs.items = rw c.in-Circle.is at c.requires.plans in (
       c.args.fixed.now,
       c.requires.fixed,
       c.requires.start,

@@ -1,5 +1,5 @@
--- Around fixed workqueues, and without any: the command ended on its files, and this was told of it, as of what is asked
--- for.
+-- Around fixed workqueues, and without any: the command ended on its files, and this was told of it, as of what is
+-- asked for.
 use Rattle.std.proofs.Common.{◌≡◌, true, false, refl, subst, sym, ◌∙◌}
 use Rattle.std.specs.declared.alloc.Global.{Global}
 use Rattle.wq_meter.specs.Input.{HasFailed, IsInput}
