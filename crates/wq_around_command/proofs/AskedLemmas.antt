@@ -18,7 +18,8 @@ use Rattle.wq_core.specs.declared.step.Step.{Step}
 use Rattle.wq_fixed.specs.Fixed.{Fixed, IsFixed, Keeps}
 use Rattle.wq_cert.specs.declared.fault.CertError.{CertError}
 use Rattle.wq_cert.specs.declared.fault.CertError.TheVariants.{BadCertLine, NotAllItems, NumberOutOfRange}
-use Rattle.wq_cert.specs.AroundReading.{AroundCertificate, AroundPlan, NoRescuerCertificate, OfCircleAround, OfNoRescuer}
+use Rattle.wq_cert.specs.AroundReading.{AroundCertificate, AroundPlan, NoRescuerCertificate, OfCircleAround}
+use Rattle.wq_cert.specs.AroundReading.{OfNoRescuer}
 use Rattle.wq_cert.specs.AroundReading.{OfPlanAround, around_of_text, around_plan_reading, around_reading}
 use Rattle.wq_cert.specs.AroundReading.{fixed_workqueues, new_assignment, new_count_reading, norescuer_count_reading}
 use Rattle.wq_cert.specs.AroundReading.{norescuer_reading, order_form, order_reading}
@@ -28,13 +29,15 @@ use Rattle.wq_cert.specs.LineRows.{count_words}
 use Rattle.wq_cert.specs.Lines.{CertLine, cert_lines}
 use Rattle.wq_cert.specs.PlanText.{arc_line}
 use Rattle.wq_cert.specs.Ranges.{IsArcOf}
-use Rattle.wq_cert.specs.Reading.{Read, and_read, next_line, next_lines, at_end, arc_reading, chain_reading, count_reading}
+use Rattle.wq_cert.specs.Reading.{Read, and_read, next_line, next_lines, at_end, arc_reading, chain_reading}
+use Rattle.wq_cert.specs.Reading.{count_reading}
 use Rattle.wq_cert.specs.Reading.{circle_reading, hold_all, assignment_of, max_count, next_workqueues, plan_reading}
 use Rattle.wq_cert.specs.Reading.{answer_reading, run_after, run_reading, whole_assignment}
 use Rattle.wq_cert.specs.RunText.{step_line}
 use Rattle.wq_cert.specs.Spelled.{words_of_lines}
 use Rattle.wq_cert.specs.Texts.{max_certificate, max_certificate_line, unless_too_long}
-use Rattle.wq_cert.proofs.ReadRanges.{IsCertificateOf-answer_of, IsReadSo-text_reading, circle_answer, length-cert_lines}
+use Rattle.wq_cert.proofs.ReadRanges.{IsCertificateOf-answer_of, IsReadSo-text_reading, circle_answer}
+use Rattle.wq_cert.proofs.ReadRanges.{length-cert_lines}
 use Rattle.wq_cert.proofs.ReadRanges.{plan_answer}
 use Rattle.wq_cert.proofs.SpelledLines.{Follows-and_then, FollowsRead-and_read, IsCount, Shows-arc, Shows-count}
 use Rattle.wq_cert.proofs.SpelledLines.{at_end-Ok, passed, same_ok, shown_line, shown_lines}
@@ -91,7 +94,8 @@ chain_read names lines chain e =
     let behind : ℕ → List CertLine → Result (ℕ × List (ℕ × ℕ)) CertError =
     λ n ls. and_read (last n) (next_lines (arc_reading names) (n - 1) ls) in
     let count = FollowsRead-and_read behind (next_line (count_reading (codes "chain")) lines) chain e in
-    let said = FollowsRead-and_read (last count.value) (next_lines (arc_reading names) (count.value - 1) count.rest) chain
+    let said = FollowsRead-and_read (last count.value) (next_lines (arc_reading names) (count.value - 1) count.rest)
+    chain
     count.then in
     let ends = at_end-Ok (count.value, said.value) chain said.rest said.then in
     let first = shown_line (count_reading (codes "chain")) (count_words (codes "chain")) IsCount
@@ -167,7 +171,8 @@ module _ (s : Declared) (sound : IsSound s) (f : Fixed) (fixed : IsFixed s.parti
       (Keeps-read p f sound.partition fixed more.0
       (subst (λ (ws : List (List ℕ)). hold_all (length p.group_of) ws ≡ true) more.1 whole.0))) in
       subst (IsPlanAroundAsked (declared_waits s) f) same (record {
-        assignment = subst (IsAssignment p.groups) whole.1 (IsAssignment-assignment_of p all.value sound.partition whole.0);
+        assignment = subst (IsAssignment p.groups) whole.1 (IsAssignment-assignment_of p all.value sound.partition
+            whole.0);
         keeps = keeps;
         lanes = order_below made.value.lanes line.0 order.value line.2;
         arcs = arcs_of_items chain.value.1 read.arcs;

@@ -1,5 +1,6 @@
 -- Workqueues that are read behind fixed ones keep these.
-use Rattle.std.proofs.Common.{◌≡◌, ℕ, zero, suc, ◌+◌, ◌<◌, ◌≤◌, ◌==◌, ◌&&◌, inl, inr, Bool, true, false, cond, ltb, List}
+use Rattle.std.proofs.Common.{◌≡◌, ℕ, zero, suc, ◌+◌, ◌<◌, ◌≤◌, ◌==◌, ◌&&◌, inl, inr, Bool, true, false, cond, ltb}
+use Rattle.std.proofs.Common.{List}
 use Rattle.std.proofs.Common.{[], ◌∷◌, ◌++◌, length, get_or, Option, Some, None, Ok, refl, sym, ap, ◌∙◌, arith}
 use Rattle.std.proofs.Common.{append_assoc, append-nil, length-append}
 use Rattle.std.specs.Prelude.{slice_get, unwrap_or}
@@ -17,7 +18,8 @@ use Rattle.wq_groups.specs.Partition.{Partition, IsPartition}
 use Rattle.wq_fixed.specs.Fixed.{Fixed, IsFixed, IsFree, Keeps, Stays, fixed_lanes}
 use Rattle.wq_cert.specs.AroundReading.{fixed_items, fixed_workqueues, is_lane}
 use Rattle.wq_cert.specs.Lines.{CertLine}
-use Rattle.wq_cert.specs.Reading.{Read, next_line, wq_reading, next_workqueues, holds_member, hold_all, workqueue_of_group}
+use Rattle.wq_cert.specs.Reading.{Read, next_line, wq_reading, next_workqueues, holds_member, hold_all}
+use Rattle.wq_cert.specs.Reading.{workqueue_of_group}
 use Rattle.wq_cert.specs.Reading.{assignment_of}
 use Rattle.wq_cert.proofs.LaneLemmas.{HasWorkqueue, HasWorkqueue-held}
 use Rattle.wq_cert.proofs.SpelledLines.{FollowsRead-and_read, same_ok}
@@ -26,7 +28,8 @@ use Rattle.wq_cert.proofs.WholeLemmas.{group_held}
 -- ---- workqueues that follow others
 
 -- those that were read before come first
-pub follow : (names : List (List ℕ)) (group_of : List ℕ) (n : ℕ) (before all : List (List ℕ)) (lines rest : List CertLine)
+pub follow : (names : List (List ℕ)) (group_of : List ℕ) (n : ℕ) (before all : List (List ℕ))
+    (lines rest : List CertLine)
     → next_workqueues names group_of n before lines ≡ Ok (all, rest) → (more : List (List ℕ)) × (all ≡ before ++ more)
 follow names group_of zero before all lines rest e =
     let same : (before, lines) ≡ (all, rest) = same_ok (before, lines) (all, rest) e in
@@ -97,7 +100,8 @@ module _ (p : Partition) (f : Fixed) (partition : IsPartition p) (fixed : IsFixe
         let lane : get_or f.lane_of_group g None ≡ Some q =
         get_or_from_slice_get f.lane_of_group g (Some q) None stays in
         let here : holds (get_or all q []) ≡ true =
-        ap holds (all_at q below) ∙ holds_fixed g q within ∙ ap (λ (o : Option ℕ). is_lane o q) lane ∙ eq-eqb q q refl in
+        ap holds (all_at q below) ∙ holds_fixed g q within ∙ ap (λ (o : Option ℕ). is_lane o q) lane
+        ∙ eq-eqb q q refl in
         let before : (k : ℕ) → k < q → holds (get_or all k []) ≡ false =
         λ k lt. ap holds (all_at k (omega (arith, lt, below))) ∙ holds_fixed g k within
         ∙ ap (λ (o : Option ℕ). is_lane o k) lane ∙ ne_eqb q k (λ e. omega (arith, e, lt)) in

@@ -136,7 +136,8 @@ module _ (s : Declared) (sound : IsSound s) (f : Fixed) (fixed : IsFixed s.parti
         (waits_here d f ws declaration fixed least.assignment least.keeps) waits in
         not_safe-deadlocks (wiring_of d ws)
         (Deadlocks-rescued_circle (wiring_of d ws)
-        (IsWiring-with_bare (wiring d ws.assignment) ws.bare (IsWiring-wiring d ws.assignment declaration least.assignment))
+        (IsWiring-with_bare (wiring d ws.assignment) ws.bare
+        (IsWiring-wiring d ws.assignment declaration least.assignment))
         here) least.safe
 
     module _ (heights : List ℕ) where
@@ -184,7 +185,8 @@ module _ (s : Declared) (sound : IsSound s) (f : Fixed) (fixed : IsFixed s.parti
         → ends ≡ map ends_of chain → ArePrintable s.table ends
     printable_chain chain ends (inl (none, empty)) is =
         printable s chain ends (omega (arith, ap (λ (l : List WaitArc). length l) empty))
-        (subst (All (λ (a : WaitArc). JoinsItems s.table (ends_of a))) (sym empty) (λ k e within. absurd (omega (arith, within)))) is
+        (subst (All (λ (a : WaitArc). JoinsItems s.table (ends_of a))) (sym empty)
+        (λ k e within. absurd (omega (arith, within)))) is
     printable_chain chain ends (inr (heights, are, best)) is =
         let down = best.down.down in
         printable s chain ends (few-down heights best.down.first chain down)

@@ -57,7 +57,8 @@ KeepsAround-plans declared text end out = by_declared (declaration declared) ref
         inl (
           none,
           KeepsPromise-answers declared end out
-              (of_declared (λ s. AnswersDeclared s end out) (λ r. PrintsRefusal r end out) (declaration declared) s is answers),
+              (of_declared (λ s. AnswersDeclared s end out) (λ r. PrintsRefusal r end out) (declaration declared) s is
+              answers),
         )
     kept s is f (inr (some, prints)) = inr (some, keeps_fixed s f end out prints)
 
@@ -107,7 +108,8 @@ YesIsTrueAround-checks declared text fixed out = by_declared (declaration declar
         inl (
           none,
           YesIsTrue-checks declared text out
-              (of_declared (λ s. ChecksDeclared s text Good out) (λ r. PrintsRefusal r Good out) (declaration declared) s is
+              (of_declared (λ s. ChecksDeclared s text Good out) (λ r. PrintsRefusal r Good out) (declaration declared)
+              s is
               checks),
         )
     holds s is f (inr (some, checks)) =

@@ -36,7 +36,8 @@ use Rattle.wq_circles.proofs.Found.{AnswersIn-read}
 use Rattle.wq_around_command.specs.declared.checking.Checked.{Checked}
 use Rattle.wq_around_command.specs.declared.planning.Planned.{Planned}
 use Rattle.wq_around_command.specs.declared.planning.Planned.TheVariants as planned
-use Rattle.wq_around_command.specs.Checking.{AnswersCheckAround, ChecksAround, ChecksDeclaredAround, ChecksFixed, ChecksOn}
+use Rattle.wq_around_command.specs.Checking.{AnswersCheckAround, ChecksAround, ChecksDeclaredAround, ChecksFixed}
+use Rattle.wq_around_command.specs.Checking.{ChecksOn}
 use Rattle.wq_around_command.specs.Checking.{ChecksTexts, FindsCheckAround}
 use Rattle.wq_around_command.specs.Planning.{AnswersFixed, FindsPlanned, Plans, PlansDeclared, PlansText, PrintsAround}
 use Rattle.wq_around_command.specs.Planning.{PrintsFixed}
@@ -159,7 +160,8 @@ check_around-kept texts found end out h =
     let text = take (max_certificate + 1) texts.second in
     let fixed = take (max_certificate + 1) texts.third in
     MatchResult-weaker (declaration texts.first)
-    (read-kept end out (λ s. fixed_reading s.table.names s.partition) (λ _ _ s f. ChecksFixed s f text end out) texts.first
+    (read-kept end out (λ s. fixed_reading s.table.names s.partition) (λ _ _ s f. ChecksFixed s f text end out)
+    texts.first
     texts.third
     (AnswersTexts-match (λ s t f e o. ChecksTexts s t.second t.third f e o) (λ s. ChecksDeclaredAround s text fixed)
     (kept three_texts texts) found end out (λ s f. ChecksTexts-declared s text fixed f end out) h))

@@ -101,8 +101,8 @@ ChecksDeclaredAround s text fixed end out =
     (λ f. ChecksFixed s f text end out)
     (λ fault. PrintsRefusal (cert_refusal fault) end out)
 
--- the answer to the texts of a declaration, of a certificate and of fixed workqueues: a refusal of the declaration comes
--- first
+-- the answer to the texts of a declaration, of a certificate and of fixed workqueues: a refusal of the declaration
+-- comes first
 abbrev pub ChecksAround : List ℕ → List ℕ → List ℕ → End → List ℕ → Type 0
 ChecksAround declared text fixed end out =
     MatchResult (declaration declared) (λ s. ChecksDeclaredAround s text fixed end out) (λ r. PrintsRefusal r end out)

@@ -45,9 +45,9 @@ KeepsAround declared text end out =
 
 -- ---- what a yes implies
 
--- the yes of a certificate: to a plan `yes K`, where K is the number of its new workqueues; it is least around the fixed
--- ones. To a circle `yes circle N`, where N is the number of its arcs, or to a flush to no rescuer `yes norescuer`; and
--- all workqueues that keep the fixed ones deadlock
+-- the yes of a certificate: to a plan `yes K`, where K is the number of its new workqueues; it is least around the
+-- fixed ones. To a circle `yes circle N`, where N is the number of its arcs, or to a flush to no rescuer
+-- `yes norescuer`; and all workqueues that keep the fixed ones deadlock
 abbrev pub YesHolds : Declared → Fixed → AroundCertificate → List ℕ → Type 0
 YesHolds s f (OfPlanAround c) out =
     IsLeastAround (declared_waits s) f (planned f c)
@@ -58,8 +58,8 @@ YesHolds s f (OfCircleAround c) out =
 YesHolds s f (OfNoRescuer c) out =
     AllDeadlock (declared_waits s) f × (out ≡ line_text (codes "yes" ∷ codes "norescuer" ∷ []))
 
--- the texts are a declaration, a certificate and fixed workqueues, and the yes that is printed is true; where there is no
--- fixed workqueue, as without
+-- the texts are a declaration, a certificate and fixed workqueues, and the yes that is printed is true; where there is
+-- no fixed workqueue, as without
 abbrev pub YesIsTrueAround : List ℕ → List ℕ → List ℕ → List ℕ → Type 0
 YesIsTrueAround declared text fixed out =
     (s : Declared) × (declaration declared ≡ Ok s)

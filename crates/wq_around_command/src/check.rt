@@ -1,5 +1,5 @@
-//! The command `check` around fixed workqueues: from what is declared and the bytes of a certificate and of these to the
-//! bytes of the checker's answer.
+//! The command `check` around fixed workqueues: from what is declared and the bytes of a certificate and of these to
+//! the bytes of the checker's answer.
 //!
 //! The answer is built in full before its first byte is written.
 

@@ -1,7 +1,7 @@
 //! The answer to a declaration and fixed workqueues, built in full in memory.
 //!
-//! It takes the time and the memory of reading both texts, of the plan, and, where there is none, of the deadlocking run
-//! of the start.
+//! It takes the time and the memory of reading both texts, of the plan, and, where there is none, of the deadlocking
+//! run of the start.
 
 ghost use Rattle.std.specs.Prelude.{◌≡◌, IfOk, List, Some, length, map};
 ghost use Rattle.wq_groups.specs.Assignment.{item_lanes};

@@ -17,7 +17,8 @@ use Rattle.wq_hang_command.proofs.HoldPromised.{KeepsHold-holds}
 use Rattle.wq_hang_command.proofs.Promised.{KeepsHang-hangs}
 use Rattle.wq_run.specs.declared.fault.CommandFault.{CommandFault}
 use Rattle.wqplan.specs.CommandLine.{Asked, Behind, names_asked}
-use Rattle.wqplan.specs.Ended.{EndedBy, EndsAsAsked, EndsCheck, EndsCircles, EndsHang, EndsOn, EndsPlan, has_second, has_third}
+use Rattle.wqplan.specs.Ended.{EndedBy, EndsAsAsked, EndsCheck, EndsCircles, EndsHang, EndsOn, EndsPlan, has_second}
+use Rattle.wqplan.specs.Ended.{has_third}
 use Rattle.wqplan.specs.Promised.{Keeps, KeepsAllCircles, KeepsAllHangs, KeepsAnyPlan, KeepsYes, PromisesAsAsked}
 use Rattle.wqplan.specs.declared.command_line.Files.{Files}
 use Rattle.wqplan.specs.declared.commands.Verb.{Verb}

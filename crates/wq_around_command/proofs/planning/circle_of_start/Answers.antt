@@ -27,7 +27,11 @@ circle_text-requires-clause-few g c =
     let s = c.args.start.now.declared in
     let (f, fixed, is, circled) = c.requires in
     let ends = c.deref.ensures.value ∙ c.in_ok-ends.ensures in
-    omega (arith, (ArePrintable-circled s c.table-table.ensures.assigned.declared f fixed c.args.arcs.now _ circled ends).few)
+    omega (
+      arith,
+      (ArePrintable-circled s c.table-table.ensures.assigned.declared f fixed c.args.arcs.now _ circled
+          ends).few,
+    )
 
 pub circle_text-requires-clause-items : goal.circle_text-requires-clause-items
 circle_text-requires-clause-items g c =
@@ -70,7 +74,8 @@ returns g c =
     IfOk-weaker c.circle_text.result _ _ (λ text printed. (
       steps,
       c.in_ok-steps.ensures,
-      printed ∙ ap (λ (t : Table). circle_text t.names c.deref.result.now (Some c.as_slice.result.now)) c.table-table.ensures.is
+      printed ∙ ap (λ (t : Table). circle_text t.names c.deref.result.now (Some c.as_slice.result.now))
+          c.table-table.ensures.is
           ∙ ap (λ (arcs : List (ℕ × ℕ)). circle_text s.table.names arcs (Some c.as_slice.result.now)) ends
           ∙ ap (λ (run : List Step). circle_text s.table.names (map ends_of c.args.arcs.now) (Some run))
           c.as_slice.ensures.value,

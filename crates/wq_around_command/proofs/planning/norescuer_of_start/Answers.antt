@@ -69,6 +69,7 @@ returns g c =
       steps,
       c.in_ok-steps.ensures,
       printed
-          ∙ ap (λ (t : Table). norescuer_text t.names (ends_of c.args.arc.now) c.deref.result.now) c.table-table.ensures.is
+          ∙ ap (λ (t : Table). norescuer_text t.names (ends_of c.args.arc.now) c.deref.result.now)
+          c.table-table.ensures.is
           ∙ ap (λ (run : List Step). norescuer_text s.table.names (ends_of c.args.arc.now) run) c.deref.ensures.value,
     )) c.norescuer_text.ensures

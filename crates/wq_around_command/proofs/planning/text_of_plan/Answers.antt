@@ -44,7 +44,8 @@ returns g c =
     let chain = c.as_slice.result.now in
     let own = c.assignment.result.now in
     IfOk-weaker c.around_text.result _ _ (λ text printed. printed
-    ∙ ap (λ (d : Declared). around_text d.table.names c.lanes.result own.lanes (item_lanes own d.partition.group_of) order
+    ∙ ap (λ (d : Declared). around_text d.table.names c.lanes.result own.lanes (item_lanes own d.partition.group_of)
+    order
     chain) c.declared.view_is
     ∙ ap (λ (n : ℕ). around_text s.table.names n own.lanes (item_lanes own s.partition.group_of) order chain)
     c.lanes.ensures.lanes
