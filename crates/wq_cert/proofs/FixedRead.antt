@@ -1,6 +1,6 @@
 -- Reading fixed workqueues: a workqueue for each line, and what the texts say.
 use Rattle.std.proofs.Common.{◌≡◌, ℕ, zero, suc, ◌+◌, Bool, true, false, cond, List, [], ◌∷◌, ◌++◌, length, map, Option}
-use Rattle.std.proofs.Common.{Some, None, Result, Ok, Err, refl, sym, ap, ap₂, ◌∙◌, arith, length-append}
+use Rattle.std.proofs.Common.{Some, None, Result, Ok, Err, refl, sym, ap, ◌∙◌, arith, length-append}
 use Rattle.std.specs.Prelude.{codes, replicate}
 use Rattle.std.proofs.lemmas.List.{length-map}
 use Rattle.wq_groups.specs.Partition.{Partition}
@@ -36,6 +36,10 @@ module _ (names : List (List ℕ)) (group_of : List ℕ) where
         length-append first (found.value ∷ []),
       )
 
+  -- what comes after one more workqueue
+  abbrev after : List (List ℕ) → List CertLine → List ℕ → Read (List (List ℕ))
+  after first lines items = all_workqueues names group_of (first ++ (items ∷ [])) lines
+
   pub length-all_workqueues : (lines : List CertLine) (first all : List (List ℕ)) (rest : List CertLine)
       → all_workqueues names group_of first lines ≡ Ok (all, rest)
       → length all + length rest ≡ length first + length lines
@@ -46,22 +50,21 @@ module _ (names : List (List ℕ)) (group_of : List ℕ) where
         ap (λ (q : List (List ℕ) × List CertLine). length q.0) same,
         ap (λ (q : List (List ℕ) × List CertLine). length q.1) same,
       )
-  length-all_workqueues (line ∷ lines) first all rest e = chosen (begins_with (codes "wq") line.words) e
+  length-all_workqueues (line ∷ lines) first all rest e =
+      chosen (λ more is. length-all_workqueues lines more all rest is) (begins_with (codes "wq") line.words) e
     where
-      more : List ℕ → Read (List (List ℕ))
-      more items = all_workqueues names group_of (first ++ (items ∷ [])) lines
-
-      chosen : (b : Bool) → cond b (and_then more (wq_reading names group_of first line)) (Ok (first, line ∷ lines))
+      chosen : ((more : List (List ℕ)) → all_workqueues names group_of more lines ≡ Ok (all, rest)
+          → length all + length rest ≡ length more + length lines) → (b : Bool)
+          → cond b (and_then (after first lines) (wq_reading names group_of first line)) (Ok (first, line ∷ lines))
           ≡ Ok (all, rest) → length all + length rest ≡ length first + length (line ∷ lines)
-      unfolding more
-      chosen true e =
-          let found = Follows-and_then more (wq_reading names group_of first line) (all, rest) e in
+      chosen others true e =
+          let found = Follows-and_then (after first lines) (wq_reading names group_of first line) (all, rest) e in
           omega (
             arith,
-            length-all_workqueues lines (first ++ (found.value ∷ [])) all rest found.then,
+            others (first ++ (found.value ∷ [])) found.then,
             length-append first (found.value ∷ []),
           )
-      chosen false e =
+      chosen others false e =
           let same : (first, line ∷ lines) ≡ (all, rest) = same_ok (first, line ∷ lines) (all, rest) e in
           omega (
             arith,
@@ -89,54 +92,40 @@ module _ (names : List (List ℕ)) (p : Partition) where
   abbrev of_count : ℕ → List CertLine → Result Fixed CertError
   of_count n behind = and_read of_workqueues (next_workqueues names p.group_of n [] behind)
 
-  pub fixed_plan-count : (line : CertLine) (behind : List CertLine) (n : ℕ) → Ok n ≡ count_reading (codes "plan") line
-      → fixed_plan_reading names p (line ∷ behind) ≡ of_count n behind
-  fixed_plan-count line behind n count =
-      ap (λ (r : Result ℕ CertError). and_read of_count (and_then (λ m. Ok (m, behind)) r)) (sym count)
-
-  module _ (line : CertLine) (behind : List CertLine) (n : ℕ) (count : Ok n ≡ count_reading (codes "plan") line) where
-    pub fixed_plan-short : (e : CertError) → IsCertFaultOf e (next_workqueues names p.group_of n [] behind)
-        → IsCertFaultOf e (fixed_plan_reading names p (line ∷ behind))
-    fixed_plan-short e fault =
-        IsCertFaultOf-then (λ (q : List (List ℕ) × List CertLine). of_workqueues q.0 q.1) e
-        (next_workqueues names p.group_of n [] behind) (fixed_plan_reading names p (line ∷ behind))
-        (fixed_plan-count line behind n count) fault
+  module _ (lines : List CertLine) (line : CertLine) (behind : List CertLine) (stands : lines ≡ line ∷ behind) (n : ℕ)
+      (count : Ok n ≡ count_reading (codes "plan") line) where
+    fixed_plan-count : fixed_plan_reading names p lines ≡ of_count n behind
+    fixed_plan-count =
+        ap (fixed_plan_reading names p) stands
+        ∙ ap (λ (r : Result ℕ CertError). and_read of_count (and_then (λ (m : ℕ). Ok (m, behind)) r)) (sym count)
 
     module _ (workqueues : List (List ℕ)) (rest : List CertLine)
         (read : next_workqueues names p.group_of n [] behind ≡ Ok (workqueues, rest)) where
-      fixed_plan-workqueues : fixed_plan_reading names p (line ∷ behind) ≡ of_workqueues workqueues rest
-      fixed_plan-workqueues = fixed_plan-count line behind n count ∙ ap (and_read of_workqueues) read
+      fixed_plan-workqueues : fixed_plan_reading names p lines ≡ of_workqueues workqueues rest
+      fixed_plan-workqueues = fixed_plan-count ∙ ap (and_read of_workqueues) read
 
-      pub fixed_plan-part : (e : CertError) → part_lanes p workqueues ≡ Err e
-          → IsCertFaultOf e (fixed_plan_reading names p (line ∷ behind))
-      fixed_plan-part e fault =
-          IsCertFaultOf-err e (fixed_plan_reading names p (line ∷ behind))
-          (fixed_plan-workqueues ∙ ap (and_then (of_lanes workqueues rest)) fault)
+      -- a workqueue for each that is counted
+      pub fixed_plan-many : length workqueues ≡ n
+      fixed_plan-many = omega (arith, length-next_workqueues names p.group_of n [] workqueues behind rest read)
+
+      pub fixed_plan-bare : (bare : List Bool) → bare ≡ replicate n false → length bare ≡ length workqueues
+      fixed_plan-bare bare unset =
+          ap length (unset ∙ ap (λ k. replicate k false) (sym fixed_plan-many) ∙ replicate-map workqueues)
+          ∙ length-map workqueues (λ _. false)
 
       module _ (lanes : List (Option ℕ)) (part : part_lanes p workqueues ≡ Ok lanes) where
-        fixed_plan-lanes : fixed_plan_reading names p (line ∷ behind) ≡ of_lanes workqueues rest lanes
+        fixed_plan-lanes : fixed_plan_reading names p lines ≡ of_lanes workqueues rest lanes
         fixed_plan-lanes = fixed_plan-workqueues ∙ ap (and_then (of_lanes workqueues rest)) part
-
-        pub fixed_plan-chain : (e : CertError) → IsCertFaultOf e (chain_reading names rest)
-            → IsCertFaultOf e (fixed_plan_reading names p (line ∷ behind))
-        fixed_plan-chain e fault =
-            IsCertFaultOf-then (of_chain lanes workqueues) e (chain_reading names rest)
-            (fixed_plan_reading names p (line ∷ behind)) fixed_plan-lanes fault
 
         pub fixed_plan-all : (chain : ℕ × List (ℕ × ℕ)) (bare : List Bool) → chain_reading names rest ≡ Ok chain
             → bare ≡ replicate n false
-            → fixed_plan_reading names p (line ∷ behind) ≡ Ok (record { lane_of_group = lanes; bare = bare })
+            → fixed_plan_reading names p lines ≡ Ok (record { lane_of_group = lanes; bare = bare })
         fixed_plan-all chain bare read_chain unset =
-            let many : n ≡ length workqueues =
-            omega (arith, length-next_workqueues names p.group_of n [] workqueues behind rest read) in
             fixed_plan-lanes ∙ ap (and_then (of_chain lanes workqueues)) read_chain
             ∙ ap (λ (bs : List Bool). let fixed : Fixed = record { lane_of_group = lanes; bare = bs } in Ok fixed)
-            (sym (replicate-map workqueues) ∙ ap (λ k. replicate k false) (sym many) ∙ sym unset)
+            (sym (replicate-map workqueues) ∙ ap (λ k. replicate k false) fixed_plan-many ∙ sym unset)
 
-        pub fixed_plan-bare : length workqueues ≡ n
-        fixed_plan-bare = omega (arith, length-next_workqueues names p.group_of n [] workqueues behind rest read)
-
--- ---- lines of workqueues
+  -- ---- lines of workqueues
 
   module _ (lines : List CertLine) where
     -- what follows the lanes and the workqueues
@@ -190,10 +179,11 @@ module _ (names : List (List ℕ)) (p : Partition) where
 
       pub fixed_lines-bare : None ≡ first_number rest → length workqueues ≡ length lines
       fixed_lines-bare none =
-          ended rest none (length-all_workqueues names p.group_of (map as_wq lines) [] workqueues rest read)
+          let many : length workqueues + length rest ≡ length (map as_wq lines) =
+          omega (arith, length-all_workqueues names p.group_of (map as_wq lines) [] workqueues rest read) in
+          ended rest none many
         where
           ended : (ls : List CertLine) → None ≡ first_number ls
-              → length workqueues + length ls ≡ length {A = List ℕ} [] + length (map as_wq lines)
-              → length workqueues ≡ length lines
+              → length workqueues + length ls ≡ length (map as_wq lines) → length workqueues ≡ length lines
           ended [] e many = omega (arith, many, length-map lines as_wq)
           ended (line ∷ ls) e many = absurd cc

@@ -1,12 +1,11 @@
 -- The fixed workqueues as workqueues that have been read: what is noted about them.
-use Rattle.std.proofs.Common.{◌≡◌, ◌≢◌, ℕ, ◌+◌, ◌<◌, ◌≤◌, ◌==◌, inl, inr, Bool, true, false, not, ◌||◌, ◌&&◌, cond}
-use Rattle.std.proofs.Common.{List, [], ◌∷◌, length, map, get_or, Option, Some, None, refl, sym, ap, subst, ◌∙◌, arith}
+use Rattle.std.proofs.Common.{◌≡◌, ℕ, ◌<◌, ◌==◌, inl, inr, Bool, true, false, not, ◌||◌}
+use Rattle.std.proofs.Common.{List, [], ◌∷◌, length, map, get_or, Option, Some, None, refl, sym, ap, ◌∙◌, arith}
 use Rattle.std.specs.Prelude.{Contains, filter}
 use Rattle.std.specs.List.{AllByRecursion, list_any, concat, range_with_len}
-use Rattle.std.proofs.lemmas.Bool.{cases_Bool, cases_eq, both_ways, eq-eqb, ne_eqb, eqb-true, false_from_ne_true}
+use Rattle.std.proofs.lemmas.Bool.{cases_Bool, both_ways, eq-eqb, ne_eqb, eqb-true, false_from_ne_true}
 use Rattle.std.proofs.lemmas.List.{length-map, get_or-map, get_or_default}
 use Rattle.std.proofs.lemmas.List.FromFn.{length-map-range_with_len, get_or-map-range_with_len, fill_by_all}
-use Rattle.std.proofs.lemmas.List.FromFn.{length-range_with_len, get_or-range_with_len}
 use Rattle.std.proofs.lemmas.Option.{slice_get-get_or}
 use Rattle.wq_groups.specs.Partition.{Partition, IsPartition}
 use Rattle.wq_fixed.specs.Fixed.{Fixed, IsFixed, fixed_lanes, has_none}
@@ -97,6 +96,10 @@ module _ (p : Partition) (f : Fixed) (partition : IsPartition p) (one_each : len
 
   -- ---- groups
 
+  -- some of these items are in the group
+  abbrev holds : ℕ → List ℕ → Bool
+  holds g is = holds_member p.group_of is g
+
   holds-fixed : (g q : ℕ) → g < p.groups → holds_member p.group_of (fixed_items p f q) g ≡ is_lane (lane g) q
   holds-fixed g q lt = elim (cases_Bool (is_lane (lane g) q)) [ inl here ↦ held here | inr other ↦ absent other ]
     where
@@ -130,23 +133,19 @@ module _ (p : Partition) (f : Fixed) (partition : IsPartition p) (one_each : len
   workqueue_with-fixed : (g : ℕ) → g < p.groups → workqueue_with p.group_of (fixed_workqueues p f) g ≡ lane g
   workqueue_with-fixed g lt = chosen (lane g) refl
     where
-      test : List ℕ → Bool
-      test is = holds_member p.group_of is g
-
       chosen : (o : Option ℕ) → lane g ≡ o → workqueue_with p.group_of (fixed_workqueues p f) g ≡ lane g
-      unfolding test
       chosen None is =
-          position-none test (fixed_workqueues p f)
-          (any_of (fixed_items p f) test 0 (fixed_lanes f)
-          ∙ list_any-none (λ q. test (fixed_items p f q)) (range_with_len 0 (fixed_lanes f))
-          (AllByRecursion-range_with_len (λ q. test (fixed_items p f q) ≡ false) 0 (fixed_lanes f)
+          position-none (holds g) (fixed_workqueues p f)
+          (any_of (fixed_items p f) (holds g) 0 (fixed_lanes f)
+          ∙ list_any-none (λ q. holds g (fixed_items p f q)) (range_with_len 0 (fixed_lanes f))
+          (AllByRecursion-range_with_len (λ q. holds g (fixed_items p f q) ≡ false) 0 (fixed_lanes f)
           (λ q low high. holds-fixed g q lt ∙ ap (λ o. is_lane o q) is)))
           ∙ sym is
       chosen (Some q) is =
           let below : q < fixed_lanes f = lane-below g q lt is in
           let long : length (fixed_workqueues p f) ≡ fixed_lanes f =
           length-map-range_with_len (fixed_items p f) 0 (fixed_lanes f) in
-          position-first test (fixed_workqueues p f) q [] (omega (arith, below, long))
+          position-first (holds g) (fixed_workqueues p f) q [] (omega (arith, below, long))
           (λ k before.
           fixed_at g k lt (omega (arith, before, below)) ∙ ap (λ o. is_lane o k) is
           ∙ ne_eqb q k (λ e. omega (arith, e, before)))

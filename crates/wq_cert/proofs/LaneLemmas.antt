@@ -4,7 +4,7 @@ use Rattle.std.specs.List.{list_any, position, position_or_len, concat}
 use Rattle.std.specs.Prelude.{slice_get}
 use Rattle.std.proofs.Math.Bool.{or-false}
 use Rattle.std.proofs.lemmas.Bool.{cases_Bool, cases_eq, cases_lt, le-ltb, eq-eqb, ne_eqb, both_ways, cond-true, cond-false}
-use Rattle.std.proofs.lemmas.List.{length-set, length-append, get_or-set_same, get_or-set_other, take_all}
+use Rattle.std.proofs.lemmas.List.{length-set, length-append, get_or-set_same, get_or-set_other}
 use Rattle.std.proofs.lemmas.List.Folds.{list_any-append, list_any_more, list_any_at, Any-from_list_any, position_or_len_push}
 use Rattle.std.proofs.lemmas.List.FromFn.{length-map-range_with_len, get_or-map-range_with_len, fill_by_all}
 use Rattle.std.proofs.lemmas.List.Sums.{fails_before_first, passes_at_first, prefix_len-le-length}
@@ -148,7 +148,8 @@ pub record Settled (p : Partition) (lane : ℕ) (old new : List (Option ℕ)) (i
 pub length-lanes_with : (p : Partition) (workqueues : List (List ℕ)) → length (lanes_with p workqueues) ≡ p.groups
 length-lanes_with p workqueues = length-map-range_with_len (workqueue_with p.group_of workqueues) 0 p.groups
 
-get_or-lanes_with : (p : Partition) (workqueues : List (List ℕ)) (g : ℕ) (d : Option ℕ) → g < p.groups → get_or (lanes_with p workqueues) g d ≡ workqueue_with p.group_of workqueues g
+pub get_or-lanes_with : (p : Partition) (workqueues : List (List ℕ)) (g : ℕ) (d : Option ℕ) → g < p.groups
+    → get_or (lanes_with p workqueues) g d ≡ workqueue_with p.group_of workqueues g
 get_or-lanes_with p workqueues g d lt = get_or-map-range_with_len (workqueue_with p.group_of workqueues) 0 p.groups g g d lt (omega arith)
 
 -- item x of group g is the next

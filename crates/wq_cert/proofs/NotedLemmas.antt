@@ -1,5 +1,7 @@
 -- What is noted about the workqueues that have been read so far, and the assignment that they are.
-use Rattle.std.proofs.Common.{◌≡◌, ℕ, zero, suc, ◌+◌, ◌-◌, ◌<◌, ◌≤◌, ◌==◌, inl, inr, Bool, true, false, not, ◌||◌, cond, leb, List, [], ◌∷◌, ◌++◌, length, map, Option, Some, None, Result, Ok, Err, refl, sym, ap, ap₂, subst, subst₂, ◌∙◌, arith}
+use Rattle.std.proofs.Common.{◌≡◌, ℕ, zero, suc, ◌+◌, ◌-◌, ◌<◌, ◌==◌, inl, inr, Bool, true, false, not, ◌||◌, cond}
+use Rattle.std.proofs.Common.{leb, List, [], ◌∷◌, ◌++◌, length, map, Option, Some, None, Result, Ok, Err, refl, sym}
+use Rattle.std.proofs.Common.{ap, ap₂, subst, subst₂, ◌∙◌, arith}
 use Rattle.std.specs.Prelude.{replicate, option_map, ok_or, bytes_eq, codes}
 use Rattle.std.specs.List.{All, concat, range_with_len}
 use Rattle.std.specs.Option.{option_zip}
@@ -16,7 +18,7 @@ use Rattle.wq_cert.specs.Lines.{CertLine, cert_line}
 use Rattle.wq_cert.specs.Forms.{begins_with, number_of, wq_form, items_of}
 use Rattle.wq_items.specs.Building.{and_then}
 use Rattle.wq_cert.specs.Reading.{Read, and_read, has_stood, splits_group, wq_items, fresh_items, wq_reading, next_workqueues, all_workqueues}
-use Rattle.wq_cert.specs.Noted.{marks, lanes_with, AreNoted, IsNextNoted, AreRead, AreAllRead, said_line}
+use Rattle.wq_cert.specs.Noted.{marks, lanes_with, AreNoted, IsNextNoted, AreAllRead, said_line}
 use Rattle.wq_cert.specs.Texts.{IsCertFaultOf}
 use Rattle.wq_cert.proofs.ReadLemmas.{IsCertFaultOf-then}
 use Rattle.wq_cert.proofs.WorkqueueLists.{concat-push}

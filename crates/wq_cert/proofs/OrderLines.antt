@@ -1,15 +1,12 @@
 -- Lines of a plan text around fixed workqueues, as they grow, and an order of workqueues as it is read.
-use Rattle.std.proofs.Common.{◌≡◌, ℕ, zero, suc, ◌+◌, ◌<◌, ◌≤◌, Bool, true, false, ◌||◌, leb, List, [], ◌∷◌, ◌++◌}
-use Rattle.std.proofs.Common.{length, map, take, get_or, refl, sym, ap, ap₂, ◌∙◌, append_assoc, append-nil, arith}
+use Rattle.std.proofs.Common.{◌≡◌, ℕ, zero, suc, ◌+◌, ◌<◌, ◌≤◌, false, leb, List, [], ◌∷◌, ◌++◌}
+use Rattle.std.proofs.Common.{length, map, take, get_or, sym, ap, ◌∙◌, append_assoc, append-nil, arith}
 use Rattle.std.specs.Prelude.{codes, decimal, flat_map}
 use Rattle.std.specs.List.{list_any, range_with_len}
-use Rattle.std.proofs.lemmas.Bool.{le-leb, lt-leb}
 use Rattle.std.proofs.lemmas.Grind.{flat_map-append}
 use Rattle.std.proofs.lemmas.List.{map-append, take_more, take_all}
-use Rattle.std.proofs.lemmas.List.Folds.{list_any_more, list_any_at}
 use Rattle.wq_text.specs.LineText.{spaced, line_text}
 use Rattle.wq_cert.specs.AroundText.{order_line}
-use Rattle.wq_cert.proofs.LineLemmas.{plan_text-parts}
 
 -- ---- `order Q..`
 
@@ -49,22 +46,12 @@ order_front-all out order k all =
 -- ---- lines one after the other
 
 -- one more number
-pub range_with_len-more : (a n : ℕ) → range_with_len a (suc n) ≡ range_with_len a n ++ (a + n ∷ [])
+pub range_with_len-more : (a n : ℕ) → range_with_len a (suc n) ≡ range_with_len a n ++ ((a + n) ∷ [])
 range_with_len-more a zero = let same : a ≡ a + 0 = omega arith in ap (λ (k : ℕ). k ∷ []) same
 range_with_len-more a (suc n) =
     let same : a + 1 + n ≡ a + suc n = omega arith in
     ap (λ (ks : List ℕ). a ∷ ks)
     (range_with_len-more (a + 1) n ∙ ap (λ (k : ℕ). range_with_len (a + 1) n ++ (k ∷ [])) same)
-
--- a first line, lines, two lines and lines
-pub around_text-parts : (first : List (List ℕ)) (wqs : List (List (List ℕ))) (order chain : List (List ℕ))
-    (arcs : List (List (List ℕ)))
-    → (((line_text first ++ flat_map line_text wqs) ++ line_text order) ++ line_text chain) ++ flat_map line_text arcs
-    ≡ flat_map line_text (first ∷ (wqs ++ (order ∷ chain ∷ arcs)))
-around_text-parts first wqs order chain arcs =
-    append_assoc ((line_text first ++ flat_map line_text wqs) ++ line_text order) (line_text chain)
-    (flat_map line_text arcs)
-    ∙ plan_text-parts first wqs order (chain ∷ arcs)
 
 -- ---- numbers below
 
@@ -72,23 +59,3 @@ around_text-parts first wqs order chain arcs =
 pub record AreBelow (lanes : ℕ) (numbers order : List ℕ) (k : ℕ) : Type 0 where
   pub items : order ≡ take k numbers
   pub below : list_any (leb lanes) (take k numbers) ≡ false
-
-module _ (lanes : ℕ) (numbers order : List ℕ) (k : ℕ) (h : AreBelow lanes numbers order k) (within : k < length numbers)
-    where
-  pub AreBelow-more : (q : ℕ) → get_or numbers k 0 < lanes → q ≡ get_or numbers k 0
-      → AreBelow lanes numbers (order ++ (q ∷ [])) (k + 1)
-  AreBelow-more q lt is = record {
-    items = ap₂ (λ (os : List ℕ) (r : ℕ). os ++ (r ∷ [])) h.items is ∙ sym (take_more numbers k 0 within);
-    below = list_any_more (leb lanes) numbers k 0 within
-        ∙ ap₂ (λ (a b : Bool). a || b) h.below (lt-leb lanes (get_or numbers k 0) lt);
-  }
-
-  pub AreBelow-far : lanes ≤ get_or numbers k 0 → list_any (leb lanes) numbers ≡ true
-  AreBelow-far le = list_any_at (leb lanes) numbers k 0 within (le-leb lanes (get_or numbers k 0) le)
-
-pub AreBelow-all : (lanes : ℕ) (numbers order : List ℕ) (k : ℕ) → AreBelow lanes numbers order k → length numbers ≤ k
-    → (order ≡ numbers) × (list_any (leb lanes) numbers ≡ false)
-AreBelow-all lanes numbers order k h all = (
-  h.items ∙ take_all k numbers all,
-  ap (list_any (leb lanes)) (sym (take_all k numbers all)) ∙ h.below,
-)

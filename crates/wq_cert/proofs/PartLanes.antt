@@ -1,22 +1,22 @@
 -- Workqueues on which items may be missing: whether their groups are whole, and the lanes of these groups.
-use Rattle.std.proofs.Common.{◌≡◌, ℕ, ◌+◌, ◌<◌, ◌≤◌, ◌==◌, inl, inr, Bool, true, false, not, ◌||◌, cond, ltb, leb}
+use Rattle.std.proofs.Common.{◌≡◌, ℕ, ◌+◌, ◌<◌, ◌≤◌, inl, inr, Bool, true, false, not, ◌||◌, cond, ltb}
 use Rattle.std.proofs.Common.{List, length, get_or, count_by, Option, Some, None, Result, Ok, Err, refl, sym, ap, ap₂}
 use Rattle.std.proofs.Common.{◌∙◌, arith}
-use Rattle.std.specs.Prelude.{slice_get}
-use Rattle.std.specs.List.{list_all, concat, position, position_or_len, range_with_len}
-use Rattle.std.proofs.lemmas.Bool.{cases_Bool, cases_lt, both_ways, lt-ltb, le-ltb, ltb-false}
+use Rattle.std.specs.List.{list_all, concat, range_with_len}
+use Rattle.std.proofs.lemmas.Bool.{cases_Bool, ltb-false}
+use Rattle.std.proofs.lemmas.List.{get_or_default}
 use Rattle.std.proofs.lemmas.List.Folds.{list_all_at}
 use Rattle.std.proofs.lemmas.List.FromFn.{length-range_with_len, get_or-range_with_len}
 use Rattle.std.proofs.lemmas.List.Sums.{list_all-from_AllPass}
 use Rattle.std.proofs.lemmas.Option.{get_or_from_slice_get, slice_get_within}
 use Rattle.wq_groups.specs.Partition.{Partition, IsPartition}
-use Rattle.wq_fixed.specs.Fixed.{Fixed, IsFixed, has_none}
+use Rattle.wq_fixed.specs.Fixed.{IsFixed, has_none}
 use Rattle.wq_cert.specs.declared.fault.CertError.{CertError}
 use Rattle.wq_cert.specs.declared.fault.CertError.TheVariants.{GroupSplit, NumberOutOfRange}
 use Rattle.wq_cert.specs.FixedReading.{is_with_its_group, part_lanes}
-use Rattle.wq_cert.specs.Noted.{marks, lanes_with, AreNoted}
-use Rattle.wq_cert.specs.Reading.{stands_in, holds_member, workqueue_with}
-use Rattle.wq_cert.proofs.LaneLemmas.{HasWorkqueue, HasWorkqueue-held, any_holds, position-none, get_or-lanes_with}
+use Rattle.wq_cert.specs.Noted.{marks, lanes_with}
+use Rattle.wq_cert.specs.Reading.{holds_member, workqueue_with}
+use Rattle.wq_cert.proofs.LaneLemmas.{HasWorkqueue-held, any_holds, position-none, get_or-lanes_with}
 use Rattle.wq_cert.proofs.LaneLemmas.{length-lanes_with}
 use Rattle.wq_cert.proofs.StoodLemmas.{get_or-marks}
 
@@ -30,7 +30,7 @@ is_whole_at stood lanes group_of i = get_or stood i false || has_none (get_or la
 has_none-with : (group_of : List ℕ) (workqueues : List (List ℕ)) (g : ℕ)
     → has_none (workqueue_with group_of workqueues g) ≡ not (holds_member group_of (concat workqueues) g)
 has_none-with group_of workqueues g = elim (cases_Bool (holds_member group_of (concat workqueues) g)) [
-  | inl held ↦ ap has_none (HasWorkqueue-held group_of workqueues g held).is ∙ ap not (sym held)
+  | inl held ↦ let own = HasWorkqueue-held group_of workqueues g held in ap has_none own.is ∙ ap not (sym held)
   | inr free ↦
       ap has_none
       (position-none (λ items. holds_member group_of items g) workqueues (any_holds group_of workqueues g false free))
@@ -74,6 +74,24 @@ module _ (p : Partition) (stood : List Bool) (lanes : List (Option ℕ)) (workqu
       (omega (arith, lt, length-range_with_len 0 (length p.group_of)))
       (at_range i 0 lt ∙ sym (whole_is i lt) ∙ split))
 
+-- ---- one item
+
+not_true : (b : Bool) → not b ≡ true → b ≡ false
+not_true true e = absurd cc
+not_true false e = refl
+
+-- item k, of this group, splits it
+pub is_split : (p : Partition) (stood : List Bool) (lanes : List (Option ℕ)) (k group at : ℕ) (is_marked : Bool)
+    (lane : Option ℕ) → IsPartition p → length lanes ≡ p.groups → k < length p.group_of → group ≡ get_or p.group_of k 0
+    → at ≡ group → is_marked ≡ get_or stood k false → lane ≡ get_or lanes at lane
+    → not (is_marked || has_none lane) ≡ true → is_whole_at stood lanes p.group_of k ≡ false
+is_split p stood lanes k group at is_marked lane partition long within of same marked found splits =
+    let own : at ≡ get_or p.group_of k 0 = same ∙ of in
+    let below : at < length lanes = omega (arith, own, partition.within k 0 within, long) in
+    let held : lane ≡ get_or lanes (get_or p.group_of k 0) None =
+    found ∙ get_or_default lanes at lane None below ∙ ap (λ (i : ℕ). get_or lanes i None) own in
+    sym (ap₂ (λ (a : Bool) (l : Option ℕ). a || has_none l) marked held) ∙ not_true (is_marked || has_none lane) splits
+
 -- ---- the lanes
 
 module _ (p : Partition) (workqueues : List (List ℕ)) where
@@ -86,19 +104,6 @@ module _ (p : Partition) (workqueues : List (List ℕ)) where
   abbrev lanes_if : Bool → Bool → Result (List (Option ℕ)) CertError
   lanes_if whole far =
       cond (not whole) (Err (GroupSplit 0)) (cond far (Err (NumberOutOfRange 0)) (Ok (lanes_with p workqueues)))
-
-  pub part_lanes-split : are_all_whole ≡ false → part_lanes p workqueues ≡ Err (GroupSplit 0)
-  part_lanes-split split = ap (λ b. lanes_if b (ltb 4096 many)) split
-
-  pub part_lanes-many : are_all_whole ≡ true → 4096 < many → part_lanes p workqueues ≡ Err (NumberOutOfRange 0)
-  part_lanes-many whole far =
-      ap (λ b. lanes_if b (ltb 4096 many)) whole ∙ ap (lanes_if true) (lt-ltb 4096 many far)
-
-  pub part_lanes-all : (lanes : List (Option ℕ)) → are_all_whole ≡ true → many ≤ 4096 → lanes ≡ lanes_with p workqueues
-      → part_lanes p workqueues ≡ Ok lanes
-  part_lanes-all lanes whole few same =
-      ap (λ b. lanes_if b (ltb 4096 many)) whole ∙ ap (lanes_if true) (le-ltb 4096 many few)
-      ∙ ap (λ (ls : List (Option ℕ)). Ok ls) (sym same)
 
   -- what is known of the lanes
   record ArePart (lanes : List (Option ℕ)) : Type 0 where
@@ -154,4 +159,4 @@ IsFixed-part p workqueues lanes bare e long =
 pub length-part : (p : Partition) (workqueues : List (List ℕ)) (lanes : List (Option ℕ))
     → part_lanes p workqueues ≡ Ok lanes → length lanes ≡ p.groups
 length-part p workqueues lanes e =
-    ap length (ArePart-part_lanes p workqueues lanes e).same ∙ length-lanes_with p workqueues
+    let part = ArePart-part_lanes p workqueues lanes e in ap length part.same ∙ length-lanes_with p workqueues

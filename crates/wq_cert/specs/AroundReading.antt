@@ -3,7 +3,7 @@
 use Rattle.std.specs.Prelude.{ℕ, ◌-◌, ◌==◌, nat_lt, nat_le, if◌then◌else◌, Bool, false, List, [], ◌∷◌, length, map}
 use Rattle.std.specs.Prelude.{Option, Some, None, Result, Ok, Err, ok_or, bytes_eq, codes, option_map, filter}
 use Rattle.std.specs.Prelude.{slice_index, slice_index_or}
-use Rattle.std.specs.List.{list_any, concat, range_with_len}
+use Rattle.std.specs.List.{list_any, range_with_len}
 use Rattle.std.specs.Option.{option_zip}
 use Rattle.wq_items.specs.Building.{and_then}
 use Rattle.wq_groups.specs.Partition.{Partition}
@@ -18,7 +18,7 @@ use Rattle.wq_cert.specs.Certificate.{CircleCertificate}
 use Rattle.wq_cert.specs.Lines.{CertLine}
 use Rattle.wq_cert.specs.Forms.{begins_with, count_form, number_of}
 use Rattle.wq_cert.specs.Reading.{Read, and_read, next_line, next_workqueues, whole_assignment, chain_reading}
-use Rattle.wq_cert.specs.Reading.{count_reading, circle_reading, arc_reading, run_after}
+use Rattle.wq_cert.specs.Reading.{circle_reading, arc_reading, run_after}
 use Rattle.wq_cert.specs.Texts.{text_reading}
 
 -- what a plan text around fixed workqueues says: where the groups are, on the fixed workqueues and the new ones; an

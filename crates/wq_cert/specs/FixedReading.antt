@@ -11,7 +11,7 @@ use Rattle.wq_cert.specs.declared.fault.CertError.{CertError}
 use Rattle.wq_cert.specs.declared.fault.CertError.TheVariants.{GroupSplit, NumberOutOfRange}
 use Rattle.wq_cert.specs.Lines.{CertLine}
 use Rattle.wq_cert.specs.Noted.{lanes_with}
-use Rattle.wq_cert.specs.Reading.{Read, and_read, next_line, at_end, count_reading, next_workqueues, all_workqueues}
+use Rattle.wq_cert.specs.Reading.{and_read, next_line, at_end, count_reading, next_workqueues, all_workqueues}
 use Rattle.wq_cert.specs.Reading.{stands_in, holds_member, chain_reading, begins_plan, as_wq, is_bare_line}
 use Rattle.wq_cert.specs.Texts.{text_reading}
 

@@ -9,7 +9,7 @@ ghost use Rattle.wq_core.specs.declared.step.Step.{Step};
 ghost use Rattle.wq_core.specs.Runs.{HasNoHelp};
 ghost use Rattle.wq_text.specs.LineText.{line_text};
 ghost use Rattle.wq_groups.specs.Assignment.{item_lanes};
-ghost use Rattle.wq_cert.specs.AroundText.{order_line, around_text, norescuer_line, norescuer_text};
+ghost use Rattle.wq_cert.specs.AroundText.{order_line, around_text, norescuer_text};
 ghost use Rattle.wq_cert.specs.RunText.{step_item};
 
 use crate::arc_printing::put_arc_line;

@@ -31,10 +31,7 @@ use wq_items::ItemTable;
 use wq_text::{Line, Words};
 
 /// Reads `plan K`: K isn't above what is left beside the fixed workqueues.
-fn read_new_count<A: Allocator + Copy>(
-    line: &Line<'_>,
-    fixed: &Fixed<A>,
-) -> Result<u32, CertError>
+fn read_new_count<A: Allocator + Copy>(line: &Line<'_>, fixed: &Fixed<A>) -> Result<u32, CertError>
     ensures { result ≡ new_count_reading fixed.now (cert_line line.now) }
 {
     let Some(count) = count_form(b"plan", line.words()) else {

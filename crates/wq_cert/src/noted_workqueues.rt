@@ -8,7 +8,6 @@ ghost use Rattle.std.specs.Prelude.{◌≡◌, ◌<◌, ℕ, ◌∷◌, ◌++◌
 ghost use Rattle.std.specs.Prelude.{◌≤◌, ◌||◌, IfErr, Option, Some, None, MatchOption, slice_index_or, unwrap_or};
 ghost use Rattle.std.specs.List.{All, concat, count_by, list_all, range_with_len};
 ghost use Rattle.wq_fixed.specs.Fixed.{has_none};
-ghost use Rattle.wq_groups.specs.Partition.{IsPartition};
 ghost use Rattle.wq_cert.specs.Lines.{cert_line};
 ghost use Rattle.wq_cert.specs.Noted.{marks, lanes_with, AreNoted, IsNextNoted, is_other, said_line};
 ghost use Rattle.wq_cert.specs.Reading.{has_stood, splits_group, fresh_items, wq_items, wq_reading, whole_assignment};
@@ -205,9 +204,9 @@ impl<A: Allocator + Copy> NotedWorkqueues<A> {
         ensures { IfOk result (λ q. AreNoted groups.now (fixed_workqueues groups.now fixed.now) q.count q.stood.items
             q.lane_of_group.items) }
     {
+        let _groups = groups.len();
         let stood = fixed_items(alloc, groups, fixed.lane_of_group())?;
-        let mut lane_of_group = Vec::with_capacity(alloc, fixed.lane_of_group().len())?;
-        lane_of_group.extend_from_slice(fixed.lane_of_group())?;
+        let lane_of_group = Vec::from_slice(alloc, fixed.lane_of_group())?;
         Ok(NotedWorkqueues {
             count: fixed.lanes(),
             stood,
