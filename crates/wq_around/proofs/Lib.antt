@@ -10,3 +10,5 @@ pub mod PlanLemmas
 pub mod TopLemmas
 pub mod OrderLemmas
 pub mod StartHangs
+pub mod Outcomes
+pub mod HeightsSoFar

@@ -1,5 +1,5 @@
 -- The plan that heights make is safe, and takes as few new workqueues as can be.
-use Rattle.std.proofs.Common.{◌≡◌, ℕ, ◌+◌, ◌-◌, ◌*◌, ◌<◌, ◌≤◌, inl, inr, cond, ltb, List, [], ◌∷◌, length}
+use Rattle.std.proofs.Common.{◌≡◌, ℕ, ◌+◌, ◌-◌, ◌*◌, ◌<◌, ◌≤◌, ◌⊎◌, inl, inr, cond, ltb, List, [], ◌∷◌, length}
 use Rattle.std.proofs.Common.{slice_index, refl, sym, ap, subst, ◌∙◌, arith}
 use Rattle.std.specs.List.{All}
 use Rattle.std.proofs.lemmas.Bool.{cases_lt, lt-ltb, le-ltb, cond-true, cond-false}
@@ -9,6 +9,7 @@ use Rattle.wq_groups.specs.Declaration.{Declaration, IsDeclaration}
 use Rattle.wq_groups.specs.Assignment.{IsAssignment, IsAssignmentOf, group_lane}
 use Rattle.wq_groups.proofs.Declarations.{waiting-item, awaited-item}
 use Rattle.wq_groups.proofs.Lanes.{item_lanes-at}
+use Rattle.wq_graph.specs.declared.arc.WaitArc.{WaitArc}
 use Rattle.wq_graph.specs.Graph.{IsGraph, HasArc}
 use Rattle.wq_levels.specs.Ranks.{AreRanks}
 use Rattle.wq_levels.proofs.Ranks.{AreRanks-fall, AreRanks-few}
@@ -27,6 +28,9 @@ use Rattle.wq_plan.proofs.Relations.{IsChain-implied}
 use Rattle.wq_around.specs.Heights.{AreHeights, IsPlanAround, start_graph}
 use Rattle.wq_around.specs.Down.{one_if_new, IsTop}
 use Rattle.wq_around.specs.Planned.{planned_lane, planned}
+use Rattle.wq_around.specs.LongestChain.{IsBestChain}
+use Rattle.wq_around.specs.Order.{IsOrder}
+use Rattle.wq_around.specs.Around.{IsPlannedAround, new_lanes}
 use Rattle.wq_around.proofs.HeightLemmas.{one_if_new-cases, heights-new, heights-fall}
 use Rattle.wq_around.proofs.Descents.{AllLeadDown-heights}
 use Rattle.wq_around.proofs.PlannedLanes.{planned-fixed, planned-new, planned-at, Keeps-planned, IsAssignment-planned}
@@ -37,11 +41,12 @@ use Rattle.wq_around.proofs.RescuedGraphs.{not_safe-circle, safe-ranks, awaited-
 -- ---- numbers that fall: by height; of one height that of the new lane is lowest, and those of fixed ones go by rank
 
 module _ (new : ℕ) (heights ranks : List ℕ) where
-  abbrev number : ℕ → ℕ
+  number : ℕ → ℕ
   number q = cond (ltb q new) (4097 * slice_index heights q + 1 + slice_index ranks q) (4097 * (q + 1 - new))
 
   number-fixed : (q : ℕ) → q < new → number (planned_lane heights new q)
       ≡ 4097 * slice_index heights q + 1 + slice_index ranks q
+  unfolding number
   number-fixed q low =
       ap number (planned-fixed new heights q low)
       ∙ cond-true (ltb q new) (4097 * slice_index heights q + 1 + slice_index ranks q) (4097 * (q + 1 - new))
@@ -49,6 +54,7 @@ module _ (new : ℕ) (heights ranks : List ℕ) where
 
   number-new : (q : ℕ) → new ≤ q → 0 < slice_index heights q → number (planned_lane heights new q)
       ≡ 4097 * slice_index heights q
+  unfolding number
   number-new q from some =
       let p : ℕ = new + slice_index heights q - 1 in
       let same : 4097 * (p + 1 - new) ≡ 4097 * slice_index heights q = omega (arith, some) in
@@ -180,3 +186,19 @@ module _ (d : Declaration) (f : Fixed) (declaration : IsDeclaration d) (fixed : 
         Deadlocks-rescued_circle (wiring_of d others) (IsWiring-workqueues d others declaration assignment)
         (circle-fewer others assignment kept few);
   }
+
+  pub IsPlannedAround-planned : (ws : Workqueues) (order : List ℕ) (chain : List WaitArc) → ws ≡ planned f heights most
+      → IsOrder d ws order → ((most ≡ 0) × (chain ≡ [])) ⊎ IsBestChain d f heights most chain
+      → IsPlannedAround d f ws order chain
+  IsPlannedAround-planned ws order chain same sorted best =
+      let count : new_lanes f (planned f heights most) ≡ most = omega arith in
+      let lanes : new_lanes f ws ≡ most = ap (new_lanes f) same ∙ count in
+      record {
+        plan = subst (IsPlanAround d f) (sym same) planned-is;
+        least = subst (IsLeastAround d f) (sym same) planned-least;
+        order = sorted;
+        chain = elim best [
+          | inl none ↦ inl (lanes ∙ none.0, none.1)
+          | inr some ↦ inr (heights, are, subst (λ (n : ℕ). IsBestChain d f heights n chain) (sym lanes) some)
+        ];
+      }

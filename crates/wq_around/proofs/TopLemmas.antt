@@ -30,7 +30,7 @@ module _ (new : ℕ) (heights : List ℕ) (most : ℕ) (doubts : List ℕ) where
         top = top;
         fewest = λ q below is. elim (cases_lt q n) [
           | inl before ↦ absurd (so_far.1 q before is)
-          | inr here ↦ omega (arith, ap (slice_index doubts) {x = q} {y = n} (omega (arith, below, here)))
+          | inr here ↦ (let e : q ≡ n = omega (arith, below, here) in omega (arith, ap (slice_index doubts) e))
         ];
         lowest = λ q below is same. elim (cases_lt q n) [
           | inl before ↦ absurd (so_far.1 q before is)
@@ -45,7 +45,7 @@ module _ (new : ℕ) (heights : List ℕ) (most : ℕ) (doubts : List ℕ) where
         top = top;
         fewest = λ q below is. elim (cases_lt q n) [
           | inl before ↦ omega (arith, so_far.2.fewest q before is, so_far.0, less)
-          | inr here ↦ omega (arith, ap (slice_index doubts) {x = q} {y = n} (omega (arith, below, here)))
+          | inr here ↦ (let e : q ≡ n = omega (arith, below, here) in omega (arith, ap (slice_index doubts) e))
         ];
         lowest = λ q below is same. elim (cases_lt q n) [
           | inl before ↦ absurd (omega (arith, so_far.2.fewest q before is, so_far.0, less, same))
@@ -66,7 +66,7 @@ module _ (new : ℕ) (heights : List ℕ) (most : ℕ) (doubts : List ℕ) where
         fewest = λ q below is. elim (cases_lt q n) [
           | inl before ↦ so_far.2.fewest q before is
           | inr here ↦
-              omega (arith, ap (slice_index doubts) {x = q} {y = n} (omega (arith, below, here)), more, so_far.0)
+              (let e : q ≡ n = omega (arith, below, here) in omega (arith, ap (slice_index doubts) e, more, so_far.0))
         ];
         lowest = λ q below is same. elim (cases_lt q n) [
           | inl before ↦ so_far.2.lowest q before is same
@@ -82,7 +82,7 @@ module _ (new : ℕ) (heights : List ℕ) (most : ℕ) (doubts : List ℕ) where
       so_far.0,
       λ q below is. elim (cases_lt q n) [
         | inl before ↦ so_far.1 q before is
-        | inr here ↦ other (subst (IsTop new heights most) {x = q} {y = n} (omega (arith, below, here)) is)
+        | inr here ↦ (let e : q ≡ n = omega (arith, below, here) in other (subst (IsTop new heights most) e is))
       ],
     )
     IsTopSoFar-other (Some best) fewest so_far other = (
@@ -92,7 +92,7 @@ module _ (new : ℕ) (heights : List ℕ) (most : ℕ) (doubts : List ℕ) where
         top = so_far.2.top;
         fewest = λ q below is. elim (cases_lt q n) [
           | inl before ↦ so_far.2.fewest q before is
-          | inr here ↦ absurd (other (subst (IsTop new heights most) {x = q} {y = n} (omega (arith, below, here)) is))
+          | inr here ↦ absurd (let e : q ≡ n = omega (arith, below, here) in other (subst (IsTop new heights most) e is))
         ];
         lowest = λ q below is same. elim (cases_lt q n) [
           | inl before ↦ so_far.2.lowest q before is same

@@ -15,7 +15,7 @@ ghost use Rattle.wq_plan.specs.Plan.{least_of};
 ghost use Rattle.wq_around.specs.Down.{leads_on, doubts_by, AllLeadDown, AreDoubts, IsTop, IsFirstTop, IsFirstDown};
 ghost use Rattle.wq_around.specs.Down.{IsBestDown};
 
-use crate::heights::count_of;
+use crate::heights::{count_of, zeros};
 use std::alloc::{AllocError, Allocator};
 use wq_buckets::Buckets;
 use wq_graph::{WaitArc, WaitGraph};
@@ -101,7 +101,7 @@ fn all_doubts<A: Allocator + Copy>(
     ensures few { IfOk result (λ doubts. All (λ n. n < 4096) doubts.items) }
     ensures memory { OnErr result (0 < length graph.now) }
 {
-    let mut doubts = vec![in alloc; 0; ranks.len()]?;
+    let mut doubts = zeros(alloc, ranks.len())?;
     let levels = count_of(ranks);
     let by_rank = Buckets::new(alloc, ranks, levels)?;
     for rank in 0..levels {

@@ -5,7 +5,7 @@
 
 ghost use Rattle.std.specs.Prelude.{◌≡◌, ◌+◌, ◌<◌, ◌≤◌, ℕ, length, map, slice_index, IfOk};
 ghost use Rattle.std.specs.List.{All};
-ghost use Rattle.wq_fixed.specs.Fixed.{fixed_lanes, start};
+ghost use Rattle.wq_fixed.specs.Fixed.{fixed_lanes, start as start_of};
 ghost use Rattle.wq_around.specs.Down.{IsTop};
 ghost use Rattle.wq_around.specs.Planned.{planned_lane, planned};
 
@@ -71,8 +71,8 @@ pub(crate) fn place<A: Allocator + Copy>(
     heights: &[u16],
     most: u16,
 ) -> Result<Workqueues<A>, AllocError>
-    requires start { start.now ≡ (start fixed.now).assignment }
-    requires one_each { length heights.now ≡ (start fixed.now).assignment.lanes }
+    requires start { start.now ≡ (start_of fixed.now).assignment }
+    requires one_each { length heights.now ≡ (start_of fixed.now).assignment.lanes }
     requires few { All (λ n. n ≤ 4096) heights.now }
     requires some { (q : ℕ) → fixed_lanes fixed.now ≤ q → q < length heights.now → 0 < slice_index heights.now q }
     requires most { (q : ℕ) → fixed_lanes fixed.now ≤ q → q < length heights.now → slice_index heights.now q ≤ most }
