@@ -1,4 +1,5 @@
 pub mod AnswersDecided
+pub mod Arcs
 pub mod AroundFalling
 pub mod Breaks
 pub mod Decided

@@ -8,8 +8,8 @@
 //! arc's item declares. A circle takes that for its arcs, and for its run that of `check_run_on`.
 
 ghost use Rattle.std.specs.Prelude.{◌≡◌, ◌<◌, ◌≤◌, ◌↔◌, IsTrue, IfOk, IfSome, IfNone, option_map, length, map};
-ghost use Rattle.std.specs.Prelude.{nat_le, slice_index_or, false};
-ghost use Rattle.std.specs.List.{All, range_with_len};
+ghost use Rattle.std.specs.Prelude.{ℕ, List, nat_le, slice_index_or, false};
+ghost use Rattle.std.specs.List.{All, count_by, range_with_len};
 ghost use Rattle.wq_items.specs.Table.{ItemWaits};
 ghost use Rattle.wq_groups.specs.Declaration.{declaration_of};
 ghost use Rattle.wq_groups.specs.DeclaredGroups.{declared_waits};
@@ -21,12 +21,13 @@ ghost use Rattle.wq_cert.specs.AroundReading.{around_certificate};
 ghost use Rattle.wq_checker.specs.Answers.{ArcsOfItems};
 ghost use Rattle.wq_checker.specs.Chains.{before_from};
 ghost use Rattle.wq_checker.specs.Searching.{FindsFirst, OfItem};
-ghost use Rattle.wq_checker.specs.SearchingAround.{AllItemsFall, FallsTo, Follows, IsFirstItemStaying, ItemsFall};
-ghost use Rattle.wq_checker.specs.Around.{AnswersAround, IsAroundAsked, YesIsLeastAround, CircleIsOfAll, NoneIsOfAll};
-ghost use Rattle.wq_checker.specs.Around.{AllJoinIn, AnswersCircleAround, AnswersNoRescuer, AnswersPlanAround};
-ghost use Rattle.wq_checker.specs.Around.{HasFewSteps};
+ghost use Rattle.wq_checker.specs.SearchingAround.{AllItemsFall, FallsTo, FindsNotFalling, Follows};
+ghost use Rattle.wq_checker.specs.SearchingAround.{IsFirstItemStaying, ItemsFall};
+ghost use Rattle.wq_checker.specs.Around.{AllJoinIn, AnswersAround, AnswersCircleIn, AnswersNoRescuerIn};
+ghost use Rattle.wq_checker.specs.Around.{AnswersPlanAround, CircleIsOfAll, HasFewSteps, IsAroundAsked};
 ghost use Rattle.wq_checker.specs.Around.{IsCircleAroundAsked, IsFirstBreakIn, IsNoRescuerAsked, IsPlanAroundAsked};
-ghost use Rattle.wq_checker.specs.Around.{IsWithRun, JoinsIn, ShowsDeadlockIn, new_along, place_in};
+ghost use Rattle.wq_checker.specs.Around.{JoinsIn, LeadsToNoneIn, NoneIsOfAll, ShowsDeadlockIn, YesIsLeastAround};
+ghost use Rattle.wq_checker.specs.Around.{new_along, place_in};
 
 use crate::answer::{No, Yes};
 use crate::around::{NoAround, YesAround};
@@ -156,11 +157,11 @@ fn is_rescued<A: Allocator + Copy>(start: &Assigned<'_, '_, A>, item: ItemId) ->
 }
 
 /// Whether an item declares a flush of another one.
-fn declares<A: Allocator + Copy>(start: &Assigned<'_, '_, A>, arc: (ItemId, ItemId)) -> bool
-    requires { arc.0 < length start.now.declared.table.waits }
-    ensures { IsTrue result ↔ ItemWaits start.now.declared.table.waits arc.0 arc.1 }
+fn declares<A: Allocator + Copy>(start: &Assigned<'_, '_, A>, item: ItemId, target: ItemId) -> bool
+    requires { item < length start.now.declared.table.waits }
+    ensures { IsTrue result ↔ ItemWaits start.now.declared.table.waits item target }
 {
-    have_target(start.table().waits(arc.0), arc.1)
+    have_target(start.table().waits(item), target)
 }
 
 /// Whether an item is on the workqueue of the target of the arc before it, if there is one.
@@ -191,10 +192,11 @@ fn joins<A: Allocator + Copy>(
     requires target { arc.1 < length start.now.declared.table.waits }
     ensures { IsTrue result ↔ JoinsIn (wiring_of (declared_waits start.now.declared) start.now.workqueues) before arc }
 {
-    declares(start, arc)
-        && is_rescued(start, arc.0)
-        && is_rescued(start, arc.1)
-        && follows(start, before, arc.0)
+    let (item, target) = arc;
+    declares(start, item, target)
+        && is_rescued(start, item)
+        && is_rescued(start, target)
+        && follows(start, before, item)
 }
 
 /// The number, counted from 1, of the first arc that doesn't join the one before it. The one before the first arc is
@@ -233,6 +235,27 @@ fn is_on_new<A: Allocator + Copy>(start: &Assigned<'_, '_, A>, new: u16, item: I
     start_lane(start, item).get() >= new
 }
 
+/// How many of the targets of these arcs are on new workqueues: those from this number on.
+fn count_new<A: Allocator + Copy>(
+    start: &Assigned<'_, '_, A>,
+    new: u16,
+    arcs: &[(ItemId, ItemId)],
+) -> u32
+    requires arcs { ArcsOfItems (declared_waits start.now.declared) arcs.now }
+    requires few { length arcs.now ≤ 4096 }
+    ensures count { result ≡ count_by (λ (arc : ℕ × ℕ).
+        nat_le new (lane_of (wiring_of (declared_waits start.now.declared) start.now.workqueues) arc.1)) arcs.now }
+    ensures few { result ≤ 4096 }
+{
+    let mut count = 0;
+    for arc in arcs {
+        if is_on_new(start, new, arc.1) {
+            count += 1;
+        }
+    }
+    count
+}
+
 /// How many new workqueues a chain has that is said to have this many: those from this number on are new.
 fn new_along<A: Allocator + Copy>(
     start: &Assigned<'_, '_, A>,
@@ -248,11 +271,32 @@ fn new_along<A: Allocator + Copy>(
     let Some(first) = arcs.first() else {
         return chain;
     };
-    let mut count = u32::from(is_on_new(start, new, first.0));
-    for arc in arcs {
-        count += u32::from(is_on_new(start, new, arc.1));
+    let behind = count_new(start, new, arcs);
+    if is_on_new(start, new, first.0) {
+        behind + 1
+    } else {
+        behind
     }
-    count
+}
+
+/// The item and the target of the first declared flush, by place, that doesn't fall by the order of a plan.
+fn first_staying<A: Allocator + Copy>(
+    alloc: A,
+    start: &Assigned<'_, '_, A>,
+    fixed: &Fixed<A>,
+    assignment: &Assignment<A>,
+    order: &[LaneId],
+) -> Result<Option<(ItemId, ItemId)>, AllocError>
+    requires assigned { length assignment.now.lane_of_group ≡ start.now.declared.partition.groups }
+    requires order { All (λ q. q < assignment.now.lanes) order.now }
+    ensures { IfOk result (λ stays. (n : ℕ) (arcs : List (ℕ × ℕ))
+        → FindsNotFalling (declared_waits start.now.declared) fixed.now
+        (record { assignment = assignment.now; order = order.now; length = n; arcs = arcs }) stays) }
+{
+    let places = places_in(alloc, order, assignment.lanes())?;
+    let (table, groups) = (start.table(), start.groups());
+    let found = first_not_falling(table, groups, assignment, fixed.bare(), places.as_slice());
+    Ok(found)
 }
 
 /// The answer to the text of a plan.
@@ -272,17 +316,21 @@ fn check_plan<A: Allocator + Copy>(
     ensures { IfOk result (λ r. AnswersPlanAround (declared_waits start.now.declared) fixed.now
         (record { assignment = assignment.now; order = order.now; length = chain; arcs = arcs.now }) r) }
 {
-    let places = places_in(alloc, order, assignment.lanes())?;
-    let (table, groups) = (start.table(), start.groups());
-    let stays = first_not_falling(table, groups, assignment, fixed.bare(), places.as_slice());
-    if let Some((item, target)) = stays {
-        return Ok(Err(NoAround::Plain(No::NotFalling { item, target })));
+    let stays = first_staying(alloc, start, fixed, assignment, order)?;
+    if let Some(first) = stays {
+        return Ok(Err(NoAround::Plain(No::NotFalling {
+            item: first.0,
+            target: first.1,
+        })));
     }
-    let new = u32::from(assignment.lanes() - fixed.lanes());
-    if new_along(start, fixed.lanes(), chain, arcs) != new {
+    let first_new = fixed.lanes();
+    let new = u32::from(assignment.lanes() - first_new);
+    let along = new_along(start, first_new, chain, arcs);
+    if along != new {
         return Ok(Err(NoAround::Plain(No::LengthDiffers)));
     }
-    if chain == 1 && start.workqueues().assignment().lanes() == fixed.lanes() {
+    let lanes = start.workqueues().assignment().lanes();
+    if chain == 1 && lanes == first_new {
         return Ok(Err(NoAround::Plain(No::ChainBroken { at: 0 })));
     }
     match first_break(start, None, arcs) {
@@ -323,24 +371,6 @@ fn show_deadlock<A: Allocator + Copy>(
     }
 }
 
-/// This yes, if the steps, where there are any, are a run that deadlocks in the start.
-fn with_run<A: Allocator + Copy>(
-    alloc: A,
-    start: &Assigned<'_, '_, A>,
-    steps: &Option<Vec<Step, A>>,
-    yes: YesAround,
-) -> Result<Result<YesAround, NoAround>, AllocError>
-    requires { HasFewSteps (option_map (λ s. s.items) steps.now) }
-    ensures { IfOk result (λ r. IsWithRun (wiring_of (declared_waits start.now.declared) start.now.workqueues)
-        (option_map (λ s. s.items) steps.now) yes r) }
-{
-    if show_deadlock(alloc, start, steps)? {
-        Ok(Ok(yes))
-    } else {
-        Ok(Err(NoAround::Plain(No::RunBroken)))
-    }
-}
-
 /// The answer to the text of a circle.
 fn check_circle<A: Allocator + Copy>(
     alloc: A,
@@ -350,20 +380,31 @@ fn check_circle<A: Allocator + Copy>(
 ) -> Result<Result<YesAround, NoAround>, AllocError>
     requires asked { IsCircleAroundAsked (declared_waits start.now.declared)
         (record { arcs = arcs.now; steps = option_map (λ s. s.items) steps.now }) }
-    ensures { IfOk result (λ r. (f : FixedView) → start.now.workqueues ≡ start_of f
-        → AnswersCircleAround (declared_waits start.now.declared) f
+    ensures { IfOk result (λ r.
+        AnswersCircleIn (wiring_of (declared_waits start.now.declared) start.now.workqueues)
         (record { arcs = arcs.now; steps = option_map (λ s. s.items) steps.now }) r) }
 {
     if let Some(at) = first_break(start, arcs.last().copied(), arcs) {
         return Ok(Err(NoAround::Plain(No::CircleBroken { at })));
     }
-    let length = arcs.len() as u32;
-    with_run(
-        alloc,
-        start,
-        steps,
-        YesAround::Plain(Yes::Circle { length }),
-    )
+    if show_deadlock(alloc, start, steps)? {
+        Ok(Ok(YesAround::Plain(Yes::Circle {
+            length: arcs.len() as u32,
+        })))
+    } else {
+        Ok(Err(NoAround::Plain(No::RunBroken)))
+    }
+}
+
+/// Whether an arc is a declared flush from a workqueue that has a rescuer to one that has none.
+fn leads_to_none<A: Allocator + Copy>(start: &Assigned<'_, '_, A>, arc: (ItemId, ItemId)) -> bool
+    requires item { arc.0 < length start.now.declared.table.waits }
+    requires target { arc.1 < length start.now.declared.table.waits }
+    ensures { IsTrue result
+        ↔ LeadsToNoneIn (wiring_of (declared_waits start.now.declared) start.now.workqueues) arc }
+{
+    let (item, target) = arc;
+    declares(start, item, target) && is_rescued(start, item) && !is_rescued(start, target)
 }
 
 /// The answer to a norescuer text.
@@ -375,14 +416,17 @@ fn check_norescuer<A: Allocator + Copy>(
 ) -> Result<Result<YesAround, NoAround>, AllocError>
     requires asked { IsNoRescuerAsked (declared_waits start.now.declared)
         (record { arc = arc; steps = option_map (λ s. s.items) steps.now }) }
-    ensures { IfOk result (λ r. (f : FixedView) → start.now.workqueues ≡ start_of f
-        → AnswersNoRescuer (declared_waits start.now.declared) f
+    ensures { IfOk result (λ r.
+        AnswersNoRescuerIn (wiring_of (declared_waits start.now.declared) start.now.workqueues)
         (record { arc = arc; steps = option_map (λ s. s.items) steps.now }) r) }
 {
-    if declares(start, arc) && is_rescued(start, arc.0) && !is_rescued(start, arc.1) {
-        with_run(alloc, start, steps, YesAround::NoRescuer)
+    if !leads_to_none(start, arc) {
+        return Ok(Err(NoAround::HasRescuer));
+    }
+    if show_deadlock(alloc, start, steps)? {
+        Ok(Ok(YesAround::NoRescuer))
     } else {
-        Ok(Err(NoAround::HasRescuer))
+        Ok(Err(NoAround::Plain(No::RunBroken)))
     }
 }
 

@@ -9,5 +9,6 @@ abbrev pub invariant-loop-arc : goal.invariant-loop-arc
 invariant-loop-arc g l = record {
   counted : l.at ≡ l.arc-index;
   behind : l.before ≡ before_from l.fn.first l.arcs l.arc-index;
-  joined : JoinInUpTo (wiring_of (declared_waits l.start.declared) l.start.workqueues) (before_from l.fn.first l.arcs) l.arcs l.arc-index;
+  joined : JoinInUpTo (wiring_of (declared_waits l.start.declared) l.start.workqueues) (before_from l.fn.first l.arcs)
+      l.arcs l.arc-index;
 }

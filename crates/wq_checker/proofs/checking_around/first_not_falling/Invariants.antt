@@ -5,4 +5,5 @@ use Rattle.wq_checker.proofs.checking_around.first_not_falling.Given as goal
 
 abbrev pub invariant-loop-number : goal.invariant-loop-number
 invariant-loop-number g l =
-    FindsFirst (ItemsFall (declaration_of l.table l.groups) l.assignment l.bare l.places) (OfItemsBelow (declaration_of l.table l.groups) l.number) l.least
+    FindsFirst (ItemsFall (declaration_of l.table l.groups) l.assignment l.bare l.places)
+    (OfItemsBelow (declaration_of l.table l.groups) l.number) l.least

@@ -12,6 +12,16 @@ returns-then-get-lane g c =
     let d = declaration_of table c.args.groups.now in
     let same = c.waits-target-items.ensures in
     let target = c.target-item.result in
-    IsFirstOf-item d (Falls d c.args.assignment.now) c.args.item c.loop-target.target-index target (targets_of-rise table.waits c.args.item c.len-items.ensures.table.places_rise)
-    (omega (arith, c.loop-target-test.true, ap length same)) (subst (λ (l : List Target). target ≡ get_or l c.loop-target.target-index target) same c.target-item.is)
-    (λ falls. omega (arith, falls, c.if-get-lane.true, c.get.ensures, c.lane_of-in-loop-target.ensures, c.get-lane.ensures, c.lane_of.ensures)) c.loop-target.invariant
+    IsFirstOf-item d (Falls d c.args.assignment.now) c.args.item c.loop-target.target-index target
+    (targets_of-rise table.waits c.args.item c.len-items.ensures.table.places_rise)
+    (omega (arith, c.loop-target-test.true, ap length same))
+    (subst (λ (l : List Target). target ≡ get_or l c.loop-target.target-index target) same c.target-item.is)
+    (λ falls. omega (
+      arith,
+      falls,
+      c.if-get-lane.true,
+      c.get.ensures,
+      c.lane_of-in-loop-target.ensures,
+      c.get-lane.ensures,
+      c.lane_of.ensures,
+    )) c.loop-target.invariant
