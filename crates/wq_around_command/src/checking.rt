@@ -135,7 +135,7 @@ fn check_fixed<A: Allocator + Copy>(
     }
 }
 
-/// The answer where there are these workqueues.
+/// The answer to a certificate around these workqueues. If there is none, it is that without them.
 fn check_behind<A: Allocator + Copy>(
     alloc: A,
     declared: &Declaration<'_, A>,

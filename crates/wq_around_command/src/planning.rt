@@ -166,7 +166,7 @@ fn plan_fixed<A: Allocator + Copy>(
     })
 }
 
-/// The answer where there are these workqueues.
+/// The answer to a declaration and these workqueues. If there is none, it is that without them.
 fn plan_behind<A: Allocator + Copy>(
     alloc: A,
     declared: &Declaration<'_, A>,
