@@ -8,7 +8,7 @@ ghost use Rattle.std.specs.Prelude.{◌≡◌, ◌<◌, [], length, IfOk, OnErr}
 ghost use Rattle.wq_groups.specs.DeclaredGroups.{declared_waits};
 ghost use Rattle.wq_deadlock.specs.Judging.{bare_waits};
 ghost use Rattle.wq_levels.specs.Ranks.{AreRanks};
-ghost use Rattle.wq_fixed.specs.Fixed.{IsFixed, start};
+ghost use Rattle.wq_fixed.specs.Fixed.{IsFixed, start as start_of};
 ghost use Rattle.wq_around.specs.Heights.{start_graph};
 ghost use Rattle.wq_around.specs.Around.{PlansAround};
 
@@ -33,8 +33,8 @@ fn plan_by_ranks<A: Allocator + Copy>(
     graph: &WaitGraph<A>,
     ranks: &[u16],
 ) -> Result<Around<A>, AllocError>
-    requires start { start.now.workqueues ≡ start fixed.now }
-    requires none { bare_waits (declared_waits start.now.declared) (start fixed.now) ≡ [] }
+    requires start { start.now.workqueues ≡ start_of fixed.now }
+    requires none { bare_waits (declared_waits start.now.declared) (start_of fixed.now) ≡ [] }
     requires graph { graph.now ≡ start_graph (declared_waits start.now.declared) fixed.now }
     requires ranks { AreRanks graph.now ranks.now }
     ensures answer { IfOk result (PlansAround (declared_waits start.now.declared) fixed.now) }
@@ -77,8 +77,8 @@ fn plan_rescued<A: Allocator + Copy>(
     start: &Assigned<'_, '_, A>,
     fixed: &Fixed<A>,
 ) -> Result<Around<A>, AllocError>
-    requires start { start.now.workqueues ≡ start fixed.now }
-    requires none { bare_waits (declared_waits start.now.declared) (start fixed.now) ≡ [] }
+    requires start { start.now.workqueues ≡ start_of fixed.now }
+    requires none { bare_waits (declared_waits start.now.declared) (start_of fixed.now) ≡ [] }
     ensures answer { IfOk result (PlansAround (declared_waits start.now.declared) fixed.now) }
 {
     let graph = rescued_graph(alloc, start)?;
@@ -99,7 +99,7 @@ pub fn plan_around<A: Allocator + Copy>(
     fixed: &Fixed<A>,
 ) -> Result<Around<A>, AllocError>
     requires fixed { IsFixed start.now.declared.partition.groups fixed.now }
-    requires start { start.now.workqueues ≡ start fixed.now }
+    requires start { start.now.workqueues ≡ start_of fixed.now }
     ensures answer { IfOk result (PlansAround (declared_waits start.now.declared) fixed.now) }
 {
     let waits = bare_waits(alloc, start)?;
