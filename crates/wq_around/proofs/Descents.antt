@@ -1,7 +1,9 @@
 -- Chains that lead down by heights.
-use Rattle.std.proofs.Common.{◌≡◌, ◌≢◌, ℕ, zero, suc, ◌+◌, ◌<◌, ◌≤◌, ◌⊎◌, inl, inr, List, [], ◌∷◌, length, slice_index}
-use Rattle.std.proofs.Common.{refl, arith}
-use Rattle.std.proofs.lemmas.Bool.{cases_eq, cases_lt}
+use Rattle.std.proofs.Common.{◌≡◌, ◌≢◌, ℕ, zero, suc, ◌<◌, ◌≤◌, ◌⊎◌, inl, inr, List, [], ◌∷◌, length, slice_index}
+use Rattle.std.proofs.Common.{true, false, nat_le, ◌==◌, refl, sym, ◌∙◌, eq-eqb, eqb-true, arith}
+use Rattle.std.specs.Prelude.{◌&&◌}
+use Rattle.std.proofs.lemmas.Bool.{cases_eq, cases_lt, and_parts, and_from, leb-true, le-leb, true≢false}
+use Rattle.std.proofs.lemmas.List.{get_or_past}
 use Rattle.wq_graph.specs.declared.arc.WaitArc.{WaitArc}
 use Rattle.wq_graph.specs.Graph.{IsGraph}
 use Rattle.wq_levels.specs.Ranks.{AreRanks}
@@ -21,6 +23,27 @@ ends_or_not new heights q = elim (cases_eq (slice_index heights q) 1) [
   ]
   | inr other ↦ inr (λ from. other)
 ]
+
+-- a height above 0 is that of a lane
+pub height-within : (heights : List ℕ) (q : ℕ) → 0 < slice_index heights q → q < length heights
+height-within heights q some = elim (cases_lt q (length heights)) [
+  | inl within ↦ within
+  | inr past ↦ absurd (omega (arith, some, get_or_past heights q 0 past))
+]
+
+-- the test tells which
+pub ends_by : (new : ℕ) (heights : List ℕ) (q : ℕ) → (nat_le new q && (slice_index heights q == 1)) ≡ true → (new ≤ q)
+    × (slice_index heights q ≡ 1)
+ends_by new heights q passes =
+    let parts = and_parts (nat_le new q) (slice_index heights q == 1) passes in
+    (leb-true new q parts.0, eqb-true (slice_index heights q) 1 parts.1)
+
+pub leads_by : (new : ℕ) (heights : List ℕ) (q : ℕ) → (nat_le new q && (slice_index heights q == 1)) ≡ false → new ≤ q
+    → slice_index heights q ≢ 1
+leads_by new heights q fails from one =
+    let passes =
+    and_from (nat_le new q) (slice_index heights q == 1) (le-leb new q from) (eq-eqb (slice_index heights q) 1 one) in
+    true≢false (sym passes ∙ fails)
 
 module _ (graph : List (List WaitArc)) (new : ℕ) (heights : List ℕ) where
   -- they begin at a height above 0

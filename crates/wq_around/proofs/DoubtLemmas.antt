@@ -1,6 +1,6 @@
 -- With how few unsure flushes chains lead down.
-use Rattle.std.proofs.Common.{◌≡◌, ◌≢◌, ℕ, ◌+◌, ◌<◌, ◌≤◌, ◌⊎◌, inl, inr, Bool, true, false, cond, List, [], ◌∷◌, length}
-use Rattle.std.proofs.Common.{map, get_or, take, set, slice_index, slice_index_or, replicate, refl, sym, ap, subst, ◌∙◌}
+use Rattle.std.proofs.Common.{◌≡◌, ◌≢◌, ℕ, ◌+◌, ◌<◌, ◌≤◌, inl, inr, Bool, true, false, cond, List, [], ◌∷◌, length}
+use Rattle.std.proofs.Common.{map, take, set, slice_index, slice_index_or, replicate, refl, sym, ap, subst, ◌∙◌}
 use Rattle.std.proofs.Common.{eq-eqb, eqb-true, arith}
 use Rattle.std.specs.Prelude.{Contains, filter}
 use Rattle.std.specs.List.{All}
@@ -19,7 +19,6 @@ use Rattle.wq_plan.specs.Plan.{lanes_of, least_of}
 use Rattle.wq_plan.proofs.LeastOf.{least_by-le, least_by-some}
 use Rattle.wq_around.specs.Down.{one_if_new, leads_on, LeadsDown, AllLeadDown, doubts_on, doubts_by, IsFewest, AreDoubts}
 use Rattle.wq_around.proofs.HeightLemmas.{one_if_new-cases}
-use Rattle.wq_around.proofs.Descents.{ends_or_not}
 use Rattle.wq_around.proofs.SoFar.{AreSoFar, AreSoFar-none, AreSoFar-set, AreSoFar-kept, AreSoFar-taken, AreSoFar-all}
 
 -- what passes a test and is in a list

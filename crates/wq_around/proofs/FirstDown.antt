@@ -1,6 +1,6 @@
 -- The chain that is followed down from a lane, and the best one of those that begin at the greatest height.
-use Rattle.std.proofs.Common.{◌≡◌, ◌≢◌, ℕ, ◌+◌, ◌<◌, ◌≤◌, ◌==◌, ◌⊎◌, inl, inr, Bool, true, cond, List, [], ◌∷◌, length}
-use Rattle.std.proofs.Common.{get_or, slice_index, find, Option, Some, refl, sym, ap, subst, ◌∙◌, eq-eqb, eqb-true, arith}
+use Rattle.std.proofs.Common.{◌≡◌, ◌≢◌, ℕ, ◌+◌, ◌<◌, ◌≤◌, ◌==◌, inl, inr, Bool, List, [], ◌∷◌}
+use Rattle.std.proofs.Common.{slice_index, find, Some, refl, sym, ap, subst, ◌∙◌, eq-eqb, eqb-true, arith}
 use Rattle.std.specs.Prelude.{Contains, ◌&&◌}
 use Rattle.std.specs.List.{Any}
 use Rattle.std.proofs.lemmas.Bool.{cases_lt, and_parts, and_from, true≢false}
@@ -10,8 +10,8 @@ use Rattle.wq_levels.proofs.First.{IsFirst, IsFirst-find, Tells}
 use Rattle.wq_levels.proofs.Graphs.{ArcsRise, arcs_at-rise}
 use Rattle.wq_levels.proofs.WaysOn.{same_place}
 use Rattle.wq_plan.proofs.Places.{earlier_place}
-use Rattle.wq_around.specs.Down.{one_if_new, leads_on, LeadsDown, doubts_on, doubts_by, IsFewest, AreDoubts}
-use Rattle.wq_around.specs.Down.{IsTop, IsFirstTop, GoesFirst, IsFirstDown, IsBestDown}
+use Rattle.wq_around.specs.Down.{one_if_new, leads_on, LeadsDown, doubts_on, doubts_by, AreDoubts}
+use Rattle.wq_around.specs.Down.{IsFirstTop, GoesFirst, IsFirstDown, IsBestDown}
 use Rattle.wq_around.proofs.Descents.{down-above}
 use Rattle.wq_around.proofs.DoubtLemmas.{doubts_on-cons, leads-above}
 

@@ -1,11 +1,12 @@
 -- Heights: what the arcs of a lane say of its height.
-use Rattle.std.proofs.Common.{◌≡◌, ◌≢◌, ℕ, ◌+◌, ◌<◌, ◌≤◌, ◌⊎◌, inl, inr, Bool, cond, nat_le, List, [], ◌∷◌, length}
-use Rattle.std.proofs.Common.{map, fold, max, slice_index, refl, sym, ap, subst, ◌∙◌, arith}
+use Rattle.std.proofs.Common.{◌≡◌, ◌≢◌, ℕ, ◌+◌, ◌<◌, ◌≤◌, ◌⊎◌, inl, inr, Bool, true, false, cond, nat_le, List, [], ◌∷◌, length}
+use Rattle.std.proofs.Common.{map, fold, max, slice_index, refl, sym, ap, subst, arith}
 use Rattle.std.specs.Prelude.{Contains}
-use Rattle.std.specs.List.{All, Any}
-use Rattle.std.proofs.lemmas.Bool.{cases_eq, cases_lt, lt-leb, le-leb}
+use Rattle.std.specs.List.{Any}
+use Rattle.std.proofs.lemmas.Bool.{cases_lt, lt-leb, le-leb}
 use Rattle.std.proofs.lemmas.List.{get_or_past}
 use Rattle.std.proofs.lemmas.List.Sums.{sum_by-cons, count_by-le-length}
+use mir.Val.{bool_byte}
 use Rattle.wq_items.specs.Chain.{IsChain}
 use Rattle.wq_items.proofs.Chains.{IsRank-greatest}
 use Rattle.wq_items.proofs.Lists.{Contains-later}
@@ -51,6 +52,14 @@ one_if_new-cases new q = elim (cases_lt q new) [
   | inr from ↦ inr (from, ap (λ (b : Bool). cond b 1 0) (le-leb new q from))
 ]
 
+-- as a number of a test
+pub one_if_new-byte : (new q : ℕ) → bool_byte (nat_le new q) ≡ one_if_new new q
+one_if_new-byte new q = by (nat_le new q)
+  where
+    by : (b : Bool) → bool_byte b ≡ cond b 1 0
+    by true = refl
+    by false = refl
+
 pub one_if_new-few : (new q : ℕ) → one_if_new new q ≤ 1
 one_if_new-few new q = elim (one_if_new-cases new q) [
   | inl fixed ↦ omega (arith, fixed.1)
@@ -87,43 +96,43 @@ module _ (graph : List (List WaitArc)) (f : Fixed) where
   -- from the heights of the lanes that its arcs lead to
   module _ (heights : List ℕ) (v n : ℕ) (each : (w : ℕ) → HasArc graph v w → IsHeight graph f w (slice_index heights w))
     where
-    abbrev over : WaitArc → ℕ
-    over a = slice_index heights a.head
+      abbrev over : WaitArc → ℕ
+      over a = slice_index heights a.head
 
-    abbrev most_over : ℕ
-    most_over = fold max 0 (map over (arcs_at graph v))
+      abbrev most_over : ℕ
+      most_over = fold max 0 (map over (arcs_at graph v))
 
-    module _ (is : n ≡ most_over + one_if_new (fixed_lanes f) v) where
-      step-most : (more : List ℕ) → IsChain (HasArc graph) (v ∷ more) → new_among f (v ∷ more) ≤ n
-      step-most [] chain = omega (arith, new_among-cons f v [], is)
-      step-most (w ∷ ws) chain =
-          let arc = chain.0 in
-          let on : new_among f (w ∷ ws) ≤ slice_index heights w = (each w arc).most ws chain.1 in
-          let le : over arc.1 ≤ most_over =
-          most_from-le 0 (map over (arcs_at graph v)) (over arc.1)
-          (Contains-map over (arcs_at graph v) arc.1 (arc.0, arc.2, arc.3)) in
-          let same : over arc.1 ≡ slice_index heights w = ap (slice_index heights) arc.4 in
-          omega (arith, new_among-cons f v (w ∷ ws), on, le, same, is)
+      module _ (is : n ≡ most_over + one_if_new (fixed_lanes f) v) where
+        step-most : (more : List ℕ) → IsChain (HasArc graph) (v ∷ more) → new_among f (v ∷ more) ≤ n
+        step-most [] chain = omega (arith, new_among-cons f v [], is)
+        step-most (w ∷ ws) chain =
+            let arc = chain.0 in
+            let on : new_among f (w ∷ ws) ≤ slice_index heights w = (each w arc).most ws chain.1 in
+            let le : over arc.1 ≤ most_over =
+            most_from-le 0 (map over (arcs_at graph v)) (over arc.1)
+            (Contains-map over (arcs_at graph v) arc.1 (arc.0, arc.2, arc.3)) in
+            let same : over arc.1 ≡ slice_index heights w = ap (slice_index heights) arc.4 in
+            omega (arith, new_among-cons f v (w ∷ ws), on, le, same, is)
 
-      pub IsHeight-step : IsHeight graph f v n
-      IsHeight-step = elim (most_from-some 0 (map over (arcs_at graph v))) [
-        | inl none ↦ record {
-          others = [];
-          chain = tt;
-          count = omega (arith, new_among-cons f v [], none, is);
-          most = step-most;
-        }
-        | inr there ↦
-            let found = Contains-from_map over (arcs_at graph v) most_over there in
-            let arc : HasArc graph v found.0.head = (found.1.0, found.0, found.1.1, found.1.2, refl) in
-            let on = each found.0.head arc in
-            record {
-              others = found.0.head ∷ on.others;
-              chain = (arc, on.chain);
-              count = omega (arith, new_among-cons f v (found.0.head ∷ on.others), on.count, found.2, is);
-              most = step-most;
-            }
-      ]
+        pub IsHeight-step : IsHeight graph f v n
+        IsHeight-step = elim (most_from-some 0 (map over (arcs_at graph v))) [
+          | inl none ↦ record {
+            others = [];
+            chain = tt;
+            count = omega (arith, new_among-cons f v [], none, is);
+            most = step-most;
+          }
+          | inr there ↦
+              let found = Contains-from_map over (arcs_at graph v) most_over there in
+              let arc : HasArc graph v found.0.head = (found.1.0, found.0, found.1.1, found.1.2, refl) in
+              let on = each found.0.head arc in
+              record {
+                others = found.0.head ∷ on.others;
+                chain = (arc, on.chain);
+                count = omega (arith, new_among-cons f v (found.0.head ∷ on.others), on.count, found.2, is);
+                most = step-most;
+              }
+        ]
 
   -- heights are small
   module _ (ranks : List ℕ) (sound : IsGraph graph) (ranked : AreRanks graph ranks) where

@@ -1,5 +1,5 @@
 -- Heights by ranks, from below: the height of the next lane.
-use Rattle.std.proofs.Common.{◌≡◌, ℕ, ◌+◌, ◌<◌, List, length, map, fold, max, take, slice_index, sym, ap, ◌∙◌, arith}
+use Rattle.std.proofs.Common.{◌≡◌, ℕ, ◌+◌, ◌<◌, List, length, map, fold, max, take, slice_index, ap, ◌∙◌, arith}
 use Rattle.wq_graph.specs.declared.arc.WaitArc.{WaitArc}
 use Rattle.wq_graph.specs.Graph.{IsGraph, arcs_at}
 use Rattle.wq_levels.specs.Ranks.{AreRanks}

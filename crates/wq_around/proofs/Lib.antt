@@ -12,3 +12,4 @@ pub mod OrderLemmas
 pub mod StartHangs
 pub mod Outcomes
 pub mod HeightsSoFar
+pub mod MostNeeded

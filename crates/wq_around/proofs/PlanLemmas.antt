@@ -1,10 +1,9 @@
 -- The plan that heights make is safe, and takes as few new workqueues as can be.
-use Rattle.std.proofs.Common.{◌≡◌, ℕ, ◌+◌, ◌-◌, ◌*◌, ◌<◌, ◌≤◌, ◌⊎◌, inl, inr, cond, ltb, List, [], ◌∷◌, length}
-use Rattle.std.proofs.Common.{slice_index, refl, sym, ap, subst, ◌∙◌, arith}
+use Rattle.std.proofs.Common.{◌≡◌, ℕ, ◌+◌, ◌-◌, ◌*◌, ◌<◌, ◌≤◌, inl, inr, cond, ltb, List, [], ◌∷◌, length}
+use Rattle.std.proofs.Common.{slice_index, sym, ap, subst, ◌∙◌, arith}
 use Rattle.std.specs.List.{All}
 use Rattle.std.proofs.lemmas.Bool.{cases_lt, lt-ltb, le-ltb, cond-true, cond-false}
 use Rattle.wq_items.specs.Chain.{Circle}
-use Rattle.wq_items.specs.Table.{ItemWaits}
 use Rattle.wq_groups.specs.Declaration.{Declaration, IsDeclaration}
 use Rattle.wq_groups.specs.Assignment.{IsAssignment, IsAssignmentOf, group_lane}
 use Rattle.wq_groups.proofs.Declarations.{waiting-item, awaited-item}
@@ -15,12 +14,12 @@ use Rattle.wq_levels.specs.Ranks.{AreRanks}
 use Rattle.wq_levels.proofs.Ranks.{AreRanks-fall, AreRanks-few}
 use Rattle.wq_core.specs.Wiring.{HasRescuer, RescuedWaits, lane_of}
 use Rattle.wq_core.specs.Workqueues.{Workqueues, wiring_of}
-use Rattle.wq_core.specs.Deadlock.{IsSafe, Deadlocks}
+use Rattle.wq_core.specs.Deadlock.{IsSafe}
 use Rattle.wq_core.proofs.CircleKnots.{Deadlocks-rescued_circle}
 use Rattle.wq_core.proofs.Safety.{IsSafe-rescued}
 use Rattle.wq_deadlock.specs.Judging.{bare_waits}
 use Rattle.wq_deadlock.proofs.BareLanes.{IsWiring-workqueues}
-use Rattle.wq_fixed.specs.Fixed.{Fixed, IsFixed, IsLeastAround, Keeps, fixed_lanes, new_among, start}
+use Rattle.wq_fixed.specs.Fixed.{Fixed, IsFixed, IsLeastAround, Keeps, fixed_lanes, start}
 use Rattle.wq_fixed.proofs.ChainsOfStart.{Circle-fewer}
 use Rattle.wq_fixed.proofs.Kept.{rescuer_here}
 use Rattle.wq_fixed.proofs.StartKeeps.{Keeps-start, IsAssignmentOf-start}
@@ -28,9 +27,8 @@ use Rattle.wq_plan.proofs.Relations.{IsChain-implied}
 use Rattle.wq_around.specs.Heights.{AreHeights, IsPlanAround, start_graph}
 use Rattle.wq_around.specs.Down.{one_if_new, IsTop}
 use Rattle.wq_around.specs.Planned.{planned_lane, planned}
-use Rattle.wq_around.specs.LongestChain.{IsBestChain}
 use Rattle.wq_around.specs.Order.{IsOrder}
-use Rattle.wq_around.specs.Around.{IsPlannedAround, new_lanes}
+use Rattle.wq_around.specs.Around.{IsPlannedAround, IsChainOf, new_lanes}
 use Rattle.wq_around.proofs.HeightLemmas.{one_if_new-cases, heights-new, heights-fall}
 use Rattle.wq_around.proofs.Descents.{AllLeadDown-heights}
 use Rattle.wq_around.proofs.PlannedLanes.{planned-fixed, planned-new, planned-at, Keeps-planned, IsAssignment-planned}
@@ -138,8 +136,11 @@ module _ (d : Declaration) (f : Fixed) (declaration : IsDeclaration d) (fixed : 
       let falls = number-falls (fixed_lanes f) heights ranks p q
       (heights-fall (start_graph d f) f heights sound are p q vertex arc)
       (AreRanks-fall (start_graph d f) ranks sound ranked p q vertex arc)
-      (omega (arith, AreRanks-few (start_graph d f) ranks sound ranked p 0 (omega (arith, vertex, ranked.one_each)),
-      sound.few))
+      (omega (
+        arith,
+        AreRanks-few (start_graph d f) ranks sound ranked p 0 (omega (arith, vertex, ranked.one_each)),
+        sound.few,
+      ))
       (λ new. heights-new (start_graph d f) f heights sound are p new vertex)
       (λ new. heights-new (start_graph d f) f heights sound are q new (lane-vertex j target)) in (
         sym (here j target) ∙ to,
@@ -188,17 +189,13 @@ module _ (d : Declaration) (f : Fixed) (declaration : IsDeclaration d) (fixed : 
   }
 
   pub IsPlannedAround-planned : (ws : Workqueues) (order : List ℕ) (chain : List WaitArc) → ws ≡ planned f heights most
-      → IsOrder d ws order → ((most ≡ 0) × (chain ≡ [])) ⊎ IsBestChain d f heights most chain
-      → IsPlannedAround d f ws order chain
-  IsPlannedAround-planned ws order chain same sorted best =
+      → IsOrder d ws order → IsChainOf d f most chain → IsPlannedAround d f ws order chain
+  IsPlannedAround-planned ws order chain same sorted arcs =
       let count : new_lanes f (planned f heights most) ≡ most = omega arith in
       let lanes : new_lanes f ws ≡ most = ap (new_lanes f) same ∙ count in
       record {
         plan = subst (IsPlanAround d f) (sym same) planned-is;
         least = subst (IsLeastAround d f) (sym same) planned-least;
         order = sorted;
-        chain = elim best [
-          | inl none ↦ inl (lanes ∙ none.0, none.1)
-          | inr some ↦ inr (heights, are, subst (λ (n : ℕ). IsBestChain d f heights n chain) (sym lanes) some)
-        ];
+        chain = subst (λ (n : ℕ). IsChainOf d f n chain) (sym lanes) arcs;
       }

@@ -1,6 +1,6 @@
 -- The plan that heights make: where each group is.
-use Rattle.std.proofs.Common.{◌≡◌, ◌≢◌, ℕ, zero, suc, ◌+◌, ◌-◌, ◌<◌, ◌≤◌, inl, inr, ltb, List, [], ◌∷◌, length, map}
-use Rattle.std.proofs.Common.{get_or, slice_index, Option, Some, None, refl, sym, ap, ◌∙◌, arith}
+use Rattle.std.proofs.Common.{◌≡◌, ℕ, suc, ◌+◌, ◌-◌, ◌<◌, ◌≤◌, inl, inr, ltb, List, [], ◌∷◌, length, map}
+use Rattle.std.proofs.Common.{get_or, slice_index, Option, Some, None, refl, sym, ap, subst, ◌∙◌, arith}
 use Rattle.std.specs.Prelude.{slice_get}
 use Rattle.std.specs.List.{All}
 use Rattle.std.proofs.lemmas.Bool.{cases_eq, cases_lt, lt-ltb, le-ltb, cond-true, cond-false}
@@ -39,6 +39,20 @@ module _ (new : ℕ) (heights : List ℕ) (q : ℕ) where
 
   pub planned-new : new ≤ q → planned_lane heights new q ≡ new + slice_index heights q - 1
   planned-new from = cond-false (ltb q new) q (new + slice_index heights q - 1) (le-ltb q new from)
+
+-- all of them are below the number of lanes
+pub planned-within : (new : ℕ) (heights : List ℕ) (most : ℕ) (lanes : List ℕ) → All (λ q. q < length heights) lanes
+    → ((q : ℕ) → new ≤ q → q < length heights → (0 < slice_index heights q) × (slice_index heights q ≤ most))
+    → All (λ l. l < new + most) (map (planned_lane heights new) lanes)
+planned-within new heights most lanes within each =
+    All-map (λ l. l < new + most) (planned_lane heights new) lanes (λ k e fits.
+    let q : ℕ = get_or lanes k e in
+    elim (cases_lt q new) [
+      | inl low ↦ omega (arith, low, planned-fixed new heights q low)
+      | inr from ↦
+          let height = each q from (within k e fits) in
+          omega (arith, planned-new new heights q from, height.0, height.1)
+    ])
 
 module _ (d : Declaration) (f : Fixed) (fixed : IsFixed d.groups f) (heights : List ℕ) (sound : IsGraph (start_graph d f))
     (long : length (start_graph d f) ≡ (start f).assignment.lanes) (are : AreHeights (start_graph d f) f heights)
@@ -90,23 +104,14 @@ module _ (d : Declaration) (f : Fixed) (fixed : IsFixed d.groups f) (heights : L
   pub IsAssignment-planned : IsAssignment d.groups (planned f heights most).assignment
   IsAssignment-planned =
       let lanes : List ℕ = (start f).assignment.lane_of_group in
-      let put : ℕ → ℕ = planned_lane heights (fixed_lanes f) in
       record {
-        one_each = length-map lanes put ∙ assigned.one_each;
-        within = All-map (λ l. l < fixed_lanes f + most) put lanes (λ k e fits.
-            let q : ℕ = get_or lanes k e in
-            let inside : q < (start f).assignment.lanes = assigned.within k e fits in
-            let vertex : q < length (start_graph d f) = omega (arith, inside, long) in
-            elim (cases_lt q (fixed_lanes f)) [
-              | inl low ↦ omega (arith, low, planned-fixed (fixed_lanes f) heights q low)
-              | inr from ↦
-                  omega (
-                    arith,
-                    planned-new (fixed_lanes f) heights q from,
-                    heights-new (start_graph d f) f heights sound are q from vertex,
-                    above q from (omega (arith, vertex, are.one_each)),
-                  )
-            ]);
+        one_each = length-map lanes (planned_lane heights (fixed_lanes f)) ∙ assigned.one_each;
+        within = planned-within (fixed_lanes f) heights most lanes
+            (subst (λ (n : ℕ). All (λ q. q < n) lanes) (sym (are.one_each ∙ long)) assigned.within)
+            (λ q from inside. (
+              heights-new (start_graph d f) f heights sound are q from (omega (arith, inside, are.one_each)),
+              above q from inside,
+            ));
       }
 
   module _ (down : AllLeadDown (start_graph d f) (fixed_lanes f) heights)

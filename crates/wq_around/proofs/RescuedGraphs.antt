@@ -1,5 +1,5 @@
 -- The wait graph of the lanes that have a rescuer, and what it says of the machine.
-use Rattle.std.proofs.Common.{◌≡◌, ℕ, ◌+◌, ◌<◌, ◌≤◌, inl, inr, List, [], ◌∷◌, length, ◌∙◌, arith}
+use Rattle.std.proofs.Common.{◌≡◌, ℕ, ◌<◌, inl, inr, List, [], ◌∷◌, length, ◌∙◌}
 use Rattle.std.specs.List.{All}
 use Rattle.std.proofs.lemmas.List.Elements.{All-cons, All-nil}
 use Rattle.std.proofs.lemmas.List.FromFn.{length-map-range_with_len}
@@ -85,8 +85,8 @@ module _ (d : Declaration) (ws : Workqueues) (declaration : IsDeclaration d)
         → HasRescuer (wiring_of d ws) (lane_of (wiring_of d ws) j)
     awaited-rescuer i j waits from = elim (cases_rescuer (wiring_of d ws) (lane_of (wiring_of d ws) j)) [
       | inl to ↦ to
-      | inr no ↦
+      | inr bare ↦
           absurd (not_safe-deadlocks (wiring_of d ws)
-          (Deadlocks-bare (wiring_of d ws) i j (IsWiring-workqueues d ws declaration is.assignment) waits from no)
+          (Deadlocks-bare (wiring_of d ws) i j (IsWiring-workqueues d ws declaration is.assignment) waits from bare)
           safe-ranks)
     ]

@@ -1,6 +1,6 @@
 -- Numbers for the vertices of a graph, found by their ranks from below: which are known so far.
-use Rattle.std.proofs.Common.{◌≡◌, ◌≢◌, ℕ, ◌+◌, ◌<◌, ◌≤◌, ◌==◌, inl, inr, List, [], ◌∷◌, ◌++◌, length, take, set}
-use Rattle.std.proofs.Common.{slice_index, slice_index_or, refl, sym, ap, subst, ◌∙◌, eq-eqb, arith}
+use Rattle.std.proofs.Common.{◌≡◌, ◌≢◌, ℕ, ◌+◌, ◌<◌, ◌≤◌, ◌==◌, inl, inr, List, [], length, take, set}
+use Rattle.std.proofs.Common.{slice_index, slice_index_or, sym, ap, subst, ◌∙◌, eq-eqb, arith}
 use Rattle.std.specs.Prelude.{Contains}
 use Rattle.std.specs.List.{range_with_len}
 use Rattle.std.proofs.lemmas.Bool.{cases_eq, cases_lt}

@@ -1,12 +1,10 @@
 -- A start that hangs: then all workqueues that keep the fixed ones deadlock.
-use Rattle.std.proofs.Common.{◌≡◌, ℕ, Bool, true, false, not, List, [], ◌∷◌, length, get_or, refl, sym, ap, subst, ◌∙◌}
-use Rattle.std.specs.Prelude.{Contains, filter, ◌&&◌}
-use Rattle.std.specs.List.{All}
+use Rattle.std.proofs.Common.{◌≡◌, ℕ, Bool, true, false, not, List, ◌∷◌, get_or, refl, sym, ap, subst, ◌∙◌}
+use Rattle.std.specs.Prelude.{Contains, ◌&&◌}
 use Rattle.std.proofs.lemmas.Bool.{false≢true}
 use Rattle.wq_items.specs.Table.{ItemWaits}
 use Rattle.wq_items.proofs.Lists.{Contains-here}
 use Rattle.wq_groups.specs.Declaration.{Declaration, IsDeclaration}
-use Rattle.wq_groups.specs.Assignment.{IsAssignmentOf}
 use Rattle.wq_groups.proofs.Declarations.{waiting-item, awaited-item}
 use Rattle.wq_groups.proofs.Lanes.{item_lanes-at}
 use Rattle.wq_graph.specs.declared.arc.WaitArc.{WaitArc}

@@ -1,8 +1,8 @@
 -- The new lane of a height from which a chain leads down with the fewest unsure flushes, the first of these.
-use Rattle.std.proofs.Common.{◌≡◌, ℕ, ◌+◌, ◌<◌, ◌≤◌, inl, inr, List, length, slice_index, Option, Some, None, refl, sym}
-use Rattle.std.proofs.Common.{ap, subst, ◌∙◌, arith}
+use Rattle.std.proofs.Common.{◌≡◌, ℕ, ◌+◌, ◌<◌, ◌≤◌, inl, inr, List, length, slice_index, Option, Some, None, refl}
+use Rattle.std.proofs.Common.{ap, subst, arith}
 use Rattle.std.specs.Prelude.{MatchOption, IfSome, IfNone}
-use Rattle.std.proofs.lemmas.Bool.{cases_eq, cases_lt}
+use Rattle.std.proofs.lemmas.Bool.{cases_lt}
 use Rattle.wq_around.specs.Down.{IsTop, IsFirstTop}
 
 module _ (new : ℕ) (heights : List ℕ) (most : ℕ) (doubts : List ℕ) where

@@ -1,10 +1,8 @@
 -- What it means that a declaration is planned around fixed workqueues.
 use Rattle.std.specs.Prelude.{◌≡◌, ◌⊎◌, ℕ, ◌-◌, List, [], ◌∷◌}
-use Rattle.wq_items.specs.Chain.{HasCircle}
 use Rattle.wq_groups.specs.Declaration.{Declaration}
 use Rattle.wq_core.specs.Workqueues.{Workqueues}
 use Rattle.wq_graph.specs.declared.arc.WaitArc.{WaitArc}
-use Rattle.wq_graph.specs.Graph.{HasArc}
 use Rattle.wq_levels.specs.Walks.{IsWalkedCircle}
 use Rattle.wq_deadlock.specs.Judging.{bare_waits}
 use Rattle.wq_fixed.specs.Fixed.{Fixed, IsLeastAround, AllDeadlock, fixed_lanes, start}

@@ -1,6 +1,6 @@
 -- Chains that lead down by heights, in any wait graph with ranks. The lanes from `new` on are new, and each lane has a
 -- height.
-use Rattle.std.specs.Prelude.{◌≡◌, ◌⊎◌, ⊤, ℕ, ◌+◌, ◌-◌, ◌<◌, ◌≤◌, ◌==◌, nat_le, Bool, if◌then◌else◌, List, [], ◌∷◌}
+use Rattle.std.specs.Prelude.{◌≡◌, ◌⊎◌, ⊤, ℕ, ◌+◌, ◌<◌, ◌≤◌, ◌==◌, nat_le, Bool, if◌then◌else◌, List, [], ◌∷◌}
 use Rattle.std.specs.Prelude.{length, slice_index, Contains}
 use Rattle.std.specs.List.{count_by}
 use Rattle.wq_graph.specs.declared.arc.WaitArc.{WaitArc}

@@ -1,5 +1,4 @@
-use Rattle.std.proofs.Common.{◌≡◌, ◌<◌, ◌≤◌, take}
-use Rattle.std.specs.List.{All}
+use Rattle.std.proofs.Common.{◌≡◌, ◌≤◌, take}
 use Rattle.wq_plan.specs.Plan.{lanes_of}
 use Rattle.wq_around.proofs.heights.count_of.Given as goal
 

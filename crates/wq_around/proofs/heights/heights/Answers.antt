@@ -10,7 +10,7 @@ use Rattle.wq_fixed.specs.Fixed.{fixed_lanes}
 use Rattle.wq_plan.proofs.Doubts.{at-place}
 use Rattle.wq_around.specs.Heights.{IsHeight}
 use Rattle.wq_around.specs.Down.{one_if_new}
-use Rattle.wq_around.proofs.HeightLemmas.{IsHeight-few}
+use Rattle.wq_around.proofs.HeightLemmas.{IsHeight-few, one_if_new-byte}
 use Rattle.wq_around.proofs.SoFar.{AreSoFar-set, AreSoFar-taken}
 use Rattle.wq_around.proofs.HeightsSoFar.{height-found}
 use Rattle.wq_around.proofs.heights.heights.Goals as goal
@@ -68,18 +68,22 @@ overflow_add-below g c =
     c.places-lane-items.ensures c.loop-lane-test.true in
     let v : ℕ = slice_index c.places-lane-items.result.now c.loop-lane.lane-index in
     let below : c.greatest-below.result
-        ≡ fold max 0 (map (λ (a : WaitArc). slice_index c.loop-lane.heights.items a.head) c.arcs.result.now) =
+    ≡ fold max 0 (map (λ (a : WaitArc). slice_index c.loop-lane.heights.items a.head) c.arcs.result.now) =
     c.greatest-below.ensures
     ∙ ap (λ (l : List ℕ). fold max 0 (map (λ (a : WaitArc). slice_index l a.head) c.arcs.result.now))
     c.as_slice.ensures.value in
     let one : c.from-in-loop-lane.result ≡ one_if_new (fixed_lanes c.args.fixed.now) v =
-    c.from-in-loop-lane.ensures ∙ ap (λ (n : ℕ). one_if_new n v) (c.from.ensures ∙ c.lanes.ensures.lanes) in
+    c.from-in-loop-lane.ensures ∙ one_if_new-byte c.from.result v
+    ∙ ap (λ (n : ℕ). one_if_new n v) (c.from.ensures ∙ c.lanes.ensures.lanes) in
     let is = height-found c.args.graph.now c.args.fixed.now c.args.ranks.now c.requires.graph c.requires.ranks
     c.loop-rank.rank c.loop-lane.lane-index c.places-lane-items.result.now c.loop-lane.heights.items
     c.loop-lane.invariant.0 at.1 at.2 c.arcs.result.now c.greatest-below.result c.from-in-loop-lane.result
     c.arcs.ensures below one in
-    omega (arith, IsHeight-few c.args.graph.now c.args.fixed.now c.args.ranks.now c.requires.graph c.requires.ranks v
-    (c.greatest-below.result + c.from-in-loop-lane.result) (omega (arith, at.1, c.requires.ranks.one_each)) is)
+    omega (
+      arith,
+      IsHeight-few c.args.graph.now c.args.fixed.now c.args.ranks.now c.requires.graph c.requires.ranks v
+          (c.greatest-below.result + c.from-in-loop-lane.result) (omega (arith, at.1, c.requires.ranks.one_each)) is,
+    )
 
 pub index_mut-requires : goal.index_mut-requires
 index_mut-requires g c =
@@ -98,12 +102,13 @@ loop-lane-preserved g c =
     let v : ℕ = slice_index c.places-lane-items.result.now c.loop-lane.lane-index in
     let n : ℕ = c.greatest-below.result + c.from-in-loop-lane.result in
     let below : c.greatest-below.result
-        ≡ fold max 0 (map (λ (a : WaitArc). slice_index c.loop-lane.heights.items a.head) c.arcs.result.now) =
+    ≡ fold max 0 (map (λ (a : WaitArc). slice_index c.loop-lane.heights.items a.head) c.arcs.result.now) =
     c.greatest-below.ensures
     ∙ ap (λ (l : List ℕ). fold max 0 (map (λ (a : WaitArc). slice_index l a.head) c.arcs.result.now))
     c.as_slice.ensures.value in
     let one : c.from-in-loop-lane.result ≡ one_if_new (fixed_lanes c.args.fixed.now) v =
-    c.from-in-loop-lane.ensures ∙ ap (λ (m : ℕ). one_if_new m v) (c.from.ensures ∙ c.lanes.ensures.lanes) in
+    c.from-in-loop-lane.ensures ∙ one_if_new-byte c.from.result v
+    ∙ ap (λ (m : ℕ). one_if_new m v) (c.from.ensures ∙ c.lanes.ensures.lanes) in
     let is = height-found c.args.graph.now c.args.fixed.now c.args.ranks.now c.requires.graph c.requires.ranks
     c.loop-rank.rank c.loop-lane.lane-index c.places-lane-items.result.now c.loop-lane.heights.items
     c.loop-lane.invariant.0 at.1 at.2 c.arcs.result.now c.greatest-below.result c.from-in-loop-lane.result
