@@ -256,7 +256,7 @@ def belongs(printed, errors, files, command=None, names=()):
 
 def fits(printed, errors, places, command, names=()):
     """Whether this belongs on standard error beside the answer of a command to the files at these places, or without one to standard
-    input. With a third file of `check` no line may be meant.
+    input. With a third file of `check` no line may be meant; but if that file has no workqueue, all is as without it.
     """
     files = [os.fsencode(place) for place in places] or [STDIN]
     if command == "check" and len(files) == 3 and has_no_byte(printed, errors, files[1]):
@@ -265,7 +265,7 @@ def fits(printed, errors, places, command, names=()):
         return True  # there are items, and all of them are on workqueues of FIXED
     refused = REFUSED.fullmatch(printed)
     if command == "check" and len(files) == 3 and refused and 40 <= int(refused[2]) < 50:
-        return belongs(printed, errors, files[2:], command, names)
+        return any(belongs(printed, errors, [file], command, names) for file in files[1:])
     return belongs(printed, errors, meant(printed, files), command, names)
 
 

@@ -13,7 +13,7 @@ from certificate import BAD_CERT_LINE, GROUP_SPLIT, HAS_RESCUER, NOT_ALL_ITEMS, 
 from certificate import ARC_LIMIT, WORKQUEUE_LIMIT, Assignment, CircleText, Lines, WqLines, must  # noqa: E402
 from circle import led_to_no_rescuer  # noqa: E402
 from deadlock import circle_of, deadlocking_run, run_text  # noqa: E402
-from declaration import read_declaration  # noqa: E402
+from declaration import Refused, read_declaration  # noqa: E402
 from steps import end_of_run  # noqa: E402
 from walks import among_rescuers  # noqa: E402
 
@@ -56,6 +56,14 @@ def is_asked(command, texts):
     """Whether a command with these texts, of which none is refused, plans or checks around a workqueue."""
     without = {"plan": 1, "check": 2}.get(command, len(texts))
     return len(texts) > without and read_fixed(texts[-1], read_declaration(texts[0])).count > 0
+
+
+def is_none(command, texts):
+    """Whether one of these texts is FIXED, and has no workqueue: then the answer is as without it."""
+    try:
+        return len(texts) > {"plan": 1, "check": 2}.get(command, len(texts)) and not is_asked(command, texts)
+    except Refused:
+        return False
 
 
 def free_groups(declared, fixed):

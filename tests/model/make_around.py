@@ -2,6 +2,7 @@
 are for. The same seed makes the same ones. Workqueues are here a list of the names on each, and the set of those without a rescuer.
 """
 
+import itertools
 import random
 
 import plan
@@ -71,6 +72,19 @@ def random_around_case(seed, number, most_items=8, most_flushes=12, sure=False):
         return [text, fixed_text(*make_fixed(choose, declared))]
 
 
+def another_form(choose, text, fixed):
+    """FIXED as it is, mostly; or one without a workqueue; or the same as a whole plan text, if each of its workqueues has a rescuer."""
+    way = choose.random()
+    if way < 0.08:
+        return choose.choice([b"", b"# none\n", b"plan 0\nchain 0\n"])
+    if way > 0.25 or b"norescuer" in fixed:
+        return fixed
+    names = [line.split()[1] for line in text.splitlines() if line.startswith(b"item ")]
+    arcs = [b"arc %s %s" % tuple(choose.choices(names, k=2)) for _ in range(choose.choice([0, 0, 1, 2]))]
+    lines = fixed.splitlines()
+    return join(b"plan %d" % len(lines), *lines, b"chain %d" % (len(arcs) + 1 if arcs else choose.choice([0, 1])), *arcs)
+
+
 # Texts with a mistake ----------------------------------------------------------------------------
 
 
@@ -111,6 +125,41 @@ def moved_name(choose, lines):
     lines = [[word for word in words if word != name] if number in at else words for number, words in enumerate(lines)]
     lines[choose.choice(at)].append(name)
     return lines
+
+
+def split_group(choose, text, declaration):
+    """The text with an item of a group on another line of a workqueue, or on none; None where no group has several items on a line."""
+    declared = read_declaration(declaration)
+    lines = [line.split() for line in text.splitlines()]
+    at = [number for number, words in enumerate(lines) if words[:1] in ([b"wq"], [b"norescuer"])]
+    several = [(number, name) for number in at for name in lines[number][2:] if len(declared.groups[declared.group_of[name]]) > 1]
+    if not several:
+        return None
+    number, name = choose.choice(several)
+    lines[number].remove(name)
+    if len(at) > 1 and choose.random() < 0.7:
+        lines[choose.choice([other for other in at if other != number])].append(name)
+    return join(*(b" ".join(words) for words in lines))
+
+
+def another_arc(choose, text):
+    """The text with another name in one of its arcs; None where it has none."""
+    lines = [line.split() for line in text.splitlines()]
+    arcs = [words for words in lines if words[:1] == [b"arc"]]
+    names = [name for words in lines if words[:1] in ([b"wq"], [b"arc"]) for name in words[1 + (words[0] == b"wq"):]]
+    if not arcs:
+        return None
+    choose.choice(arcs)[choose.choice([1, 2])] = choose.choice(names)
+    return join(*(b" ".join(words) for words in lines))
+
+
+def first_with(seed, sure, changed):
+    """The first of some random cases of which `changed` makes a text: the declaration, FIXED, and this text."""
+    for number in itertools.count():
+        text, fixed = random_around_case(seed, number, sure=sure)
+        made = changed(text, fixed)
+        if made is not None:
+            return text, fixed, made
 
 
 def one_more_arc(choose, lines):
@@ -160,6 +209,10 @@ def random_plan_case(seed, number, sure=False):
     """For `plan`: a declaration and a FIXED, in which there may be a mistake."""
     choose = random.Random(f"{seed} plan around {number}")
     text, fixed = random_around_case(seed, number, sure=sure)
+    fixed = another_form(choose, text, fixed)
+    if choose.random() < 0.02:
+        text, _, made = first_with(f"{seed} split {number}", sure, lambda text, fixed: split_group(choose, fixed, text))
+        return [text, made]
     if choose.random() < 0.3:
         fixed = without_a_name(choose, fixed) if choose.random() < 0.25 else with_mistakes(choose, fixed)
     return [text, fixed]
@@ -169,8 +222,15 @@ def random_check_case(seed, number, sure=False):
     """For `check`: a declaration, a certificate and a FIXED: what `plan` prints, mostly with a mistake in it, or of another FIXED."""
     choose = random.Random(f"{seed} check around {number}")
     text, fixed = random_around_case(f"{seed} check", number, sure=sure)
+    fixed = another_form(choose, text, fixed)
     printed, _ = plan.answer(text, fixed)
     if choose.random() < 0.3:
         other = fixed_text(*make_fixed(choose, read_declaration(text)))
-        return [text, printed, other]
+        return [text, printed, another_form(choose, text, other)]
+    if choose.random() < 0.04:
+        text, fixed, made = first_with(f"{seed} split {number}", sure, lambda text, fixed: split_group(choose, plan.answer(text, fixed)[0], text))
+        return [text, made, fixed]
+    if choose.random() < 0.04:
+        text, fixed, made = first_with(f"{seed} arc {number}", sure, lambda text, fixed: another_arc(choose, plan.answer(text, fixed)[0]))
+        return [text, made, fixed]
     return [text, with_mistakes(choose, printed) if choose.random() < 0.85 else printed, fixed]

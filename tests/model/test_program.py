@@ -66,6 +66,8 @@ def wrong_further(text, errors):
 def wrong_beside(command, files, texts, found):
     """What is wrong with the program's words on standard error beside its answer, or None: their form, and of reasons the words."""
     printed, _, errors = found
+    if around.is_none(command, texts):
+        files, texts = files[:-1], texts[:-1]
     if not fits(printed, errors, files, command, texts[len(TEXTS_OF[command]):]):
         return "standard error hasn't the form that belongs to this answer"
     if printed.startswith(b"refused ") and printed.split()[1] in HAS_FURTHER:

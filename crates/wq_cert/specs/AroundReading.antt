@@ -1,9 +1,9 @@
 -- Reading answers around fixed workqueues: what the lines say, or the first fault. The rules are those of "Planning
 -- around workqueues" in docs/FORMAT.md.
-use Rattle.std.specs.Prelude.{ℕ, ◌-◌, ◌+◌, ◌==◌, not, nat_lt, nat_le, if◌then◌else◌, Bool, false, List, [], ◌∷◌, ◌++◌, length, map}
-use Rattle.std.specs.Prelude.{Option, Some, None, Result, Ok, Err, ok_or, bytes_eq, codes, option_map, filter, slice_index}
-use Rattle.std.specs.Prelude.{slice_index_or}
-use Rattle.std.specs.List.{list_any, concat, range_with_len}
+use Rattle.std.specs.Prelude.{ℕ, ◌-◌, ◌==◌, nat_lt, nat_le, if◌then◌else◌, Bool, false, List, [], ◌∷◌, length, map}
+use Rattle.std.specs.Prelude.{Option, Some, None, Result, Ok, Err, ok_or, bytes_eq, codes, option_map, filter}
+use Rattle.std.specs.Prelude.{slice_index, slice_index_or}
+use Rattle.std.specs.List.{list_any, range_with_len}
 use Rattle.std.specs.Option.{option_zip}
 use Rattle.wq_items.specs.Building.{and_then}
 use Rattle.wq_groups.specs.Partition.{Partition}
@@ -18,7 +18,7 @@ use Rattle.wq_cert.specs.Certificate.{CircleCertificate}
 use Rattle.wq_cert.specs.Lines.{CertLine}
 use Rattle.wq_cert.specs.Forms.{begins_with, count_form, number_of}
 use Rattle.wq_cert.specs.Reading.{Read, and_read, next_line, next_workqueues, whole_assignment, chain_reading}
-use Rattle.wq_cert.specs.Reading.{count_reading, circle_reading, arc_reading, run_after}
+use Rattle.wq_cert.specs.Reading.{circle_reading, arc_reading, run_after}
 use Rattle.wq_cert.specs.Texts.{text_reading}
 
 -- what a plan text around fixed workqueues says: where the groups are, on the fixed workqueues and the new ones; an
@@ -59,7 +59,8 @@ is_lane (Some lane) q = lane == q
 -- the items on fixed workqueue q
 abbrev pub fixed_items : Partition → Fixed → ℕ → List ℕ
 fixed_items p f q =
-    filter (λ i. is_lane (slice_index_or f.lane_of_group (slice_index p.group_of i) None) q) (range_with_len 0 (length p.group_of))
+    filter (λ i. is_lane (slice_index_or f.lane_of_group (slice_index p.group_of i) None) q)
+    (range_with_len 0 (length p.group_of))
 
 -- the fixed workqueues, each with its items
 abbrev pub fixed_workqueues : Partition → Fixed → List (List ℕ)
@@ -96,19 +97,24 @@ norescuer_count_reading line =
 
 -- ---- texts
 
+-- this many new workqueues and the fixed ones as an assignment
+abbrev pub new_assignment : List (List ℕ) → Partition → Fixed → ℕ → List CertLine → Read Assignment
+new_assignment names p f n lines =
+    and_read (λ workqueues rest.
+    and_then (λ assignment. Ok (assignment, rest)) (whole_assignment p workqueues))
+    (next_workqueues names p.group_of n (fixed_workqueues p f) lines)
+
 -- `plan K`, K workqueues behind the fixed ones, their order, and a chain
 abbrev pub around_plan_reading : List (List ℕ) → Partition → Fixed → List CertLine → Result AroundPlan CertError
 around_plan_reading names p f lines =
     and_read (λ n behind_plan.
-    and_read (λ workqueues behind_workqueues.
-    and_then (λ (assignment : Assignment).
+    and_read (λ (assignment : Assignment) behind_workqueues.
     and_read (λ order behind_order.
     and_then (λ (chain : ℕ × List (ℕ × ℕ)).
     Ok (record { assignment = assignment; order = order; length = chain.0; arcs = chain.1 }))
     (chain_reading names behind_order))
     (next_line (order_reading assignment.lanes) behind_workqueues))
-    (whole_assignment p workqueues))
-    (next_workqueues names p.group_of n (fixed_workqueues p f) behind_plan))
+    (new_assignment names p f n behind_plan))
     (next_line (new_count_reading f) lines)
 
 -- `norescuer 1`, an arc, and perhaps a run

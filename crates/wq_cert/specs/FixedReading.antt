@@ -1,7 +1,7 @@
 -- Reading workqueues that stay as they are: an assignment in which items may be missing, or the first fault. The rules
 -- are those of "Planning around workqueues" in docs/FORMAT.md. Within a line they are those of an assignment.
-use Rattle.std.specs.Prelude.{ℕ, ◌+◌, ◌-◌, ◌||◌, not, nat_lt, if◌then◌else◌, Bool, false, List, [], length, map, slice_index}
-use Rattle.std.specs.Prelude.{Result, Ok, Err, codes, Option}
+use Rattle.std.specs.Prelude.{ℕ, ◌+◌, ◌||◌, not, nat_lt, if◌then◌else◌, Bool, false, List, [], length, map}
+use Rattle.std.specs.Prelude.{slice_index, Result, Ok, Err, codes, Option}
 use Rattle.std.specs.List.{list_all, concat, count_by, range_with_len}
 use Rattle.wq_items.specs.Building.{and_then}
 use Rattle.wq_groups.specs.Partition.{Partition}
@@ -11,7 +11,7 @@ use Rattle.wq_cert.specs.declared.fault.CertError.{CertError}
 use Rattle.wq_cert.specs.declared.fault.CertError.TheVariants.{GroupSplit, NumberOutOfRange}
 use Rattle.wq_cert.specs.Lines.{CertLine}
 use Rattle.wq_cert.specs.Noted.{lanes_with}
-use Rattle.wq_cert.specs.Reading.{Read, and_read, next_line, at_end, count_reading, next_workqueues, all_workqueues}
+use Rattle.wq_cert.specs.Reading.{and_read, next_line, at_end, count_reading, next_workqueues, all_workqueues}
 use Rattle.wq_cert.specs.Reading.{stands_in, holds_member, chain_reading, begins_plan, as_wq, is_bare_line}
 use Rattle.wq_cert.specs.Texts.{text_reading}
 
@@ -20,8 +20,8 @@ abbrev pub is_with_its_group : List ℕ → List (List ℕ) → ℕ → Bool
 is_with_its_group group_of workqueues i =
     stands_in (concat workqueues) i || not (holds_member group_of (concat workqueues) (slice_index group_of i))
 
--- the lanes of the groups that are on these workqueues, if each of them is whole there, and the workqueues and the other
--- groups aren't too many together; either is a fault at no line
+-- the lanes of the groups that are on these workqueues, if each of them is whole there, and the workqueues and the
+-- other groups aren't too many together; either is a fault at no line
 abbrev pub part_lanes : Partition → List (List ℕ) → Result (List (Option ℕ)) CertError
 part_lanes p workqueues =
     if not (list_all (is_with_its_group p.group_of workqueues) (range_with_len 0 (length p.group_of)))
@@ -36,7 +36,8 @@ fixed_plan_reading names p lines =
     and_read (λ n behind_plan.
     and_read (λ workqueues rest.
     and_then (λ lanes.
-    and_then (λ _. Ok (record { lane_of_group = lanes; bare = map (λ _. false) workqueues })) (chain_reading names rest))
+    and_then (λ _. Ok (record { lane_of_group = lanes; bare = map (λ _. false) workqueues }))
+    (chain_reading names rest))
     (part_lanes p workqueues))
     (next_workqueues names p.group_of n [] behind_plan))
     (next_line (count_reading (codes "plan")) lines)

@@ -18,7 +18,7 @@ pub enum AroundAnswer<A: Allocator> {
         order: Vec<LaneId, A>,
         /// How many workqueues of the start the chain has, at most 4,096.
         length: u32,
-        /// The arcs of the chain, each as an item and a target of it: one fewer than workqueues; none where it has none.
+        /// The arcs of the chain, each as an item and a target of it: one fewer than workqueues, or none.
         arcs: Vec<(ItemId, ItemId), A>,
     },
     /// A circle in which workqueues of the start wait.

@@ -1,7 +1,7 @@
 //! Texts of answers around fixed workqueues: a plan of new ones, or a flush to no rescuer.
 //!
-//! The format is that of "Planning around workqueues" in docs/FORMAT.md. Printing takes time and memory in the number of
-//! items and workqueues and the length of the text.
+//! The format is that of "Planning around workqueues" in docs/FORMAT.md. Printing takes time and memory linear in the
+//! number of items and workqueues and the length of the text.
 
 ghost use Rattle.std.specs.Prelude.{◌≡◌, ◌<◌, ◌≤◌, ◌+◌, ◌++◌, ◌^◌, ℕ, length, OnOk, IfOk};
 ghost use Rattle.std.specs.List.{All};
@@ -9,7 +9,7 @@ ghost use Rattle.wq_core.specs.declared.step.Step.{Step};
 ghost use Rattle.wq_core.specs.Runs.{HasNoHelp};
 ghost use Rattle.wq_text.specs.LineText.{line_text};
 ghost use Rattle.wq_groups.specs.Assignment.{item_lanes};
-ghost use Rattle.wq_cert.specs.AroundText.{order_line, around_text, norescuer_line, norescuer_text};
+ghost use Rattle.wq_cert.specs.AroundText.{order_line, around_text, norescuer_text};
 ghost use Rattle.wq_cert.specs.RunText.{step_item};
 
 use crate::arc_printing::put_arc_line;
@@ -45,7 +45,16 @@ fn print_around<A: Allocator + Copy>(
     lane: &[u16],
     order: &[LaneId],
     chain: &[(ItemId, ItemId)],
-) -> Result<Vec<u8, A>, AllocError> {
+) -> Result<Vec<u8, A>, AllocError>
+    requires one_each { length lane.now ≡ length table.now.names }
+    requires within { All (λ q. q < lanes) lane.now }
+    requires fixed { fixed ≤ lanes }
+    requires few { length chain.now + 1 < 2 ^ 32 }
+    requires items { All (λ (arc : ℕ × ℕ). (arc.0 < length table.now.names)
+        × (arc.1 < length table.now.names)) chain.now }
+    ensures { IfOk result (λ text. text.items
+        ≡ around_text table.now.names fixed lanes lane.now order.now chain.now) }
+{
     // What holds of every table.
     let _items = table.len();
     let items = Buckets::new(alloc, lane, lanes)?;
@@ -92,8 +101,8 @@ pub fn around_text<A: Allocator + Copy>(
 
 /// The text of a flush to no rescuer: its item and target, and a run.
 ///
-/// There are fewer than 4,294,967,296 steps, each of an item of the table and none of a helper. The only error is out of
-/// memory (20).
+/// There are fewer than 4,294,967,296 steps, each of an item of the table and none of a helper. The only error is out
+/// of memory (20).
 pub fn norescuer_text<A: Allocator + Copy>(
     alloc: A,
     table: &ItemTable<'_, A>,

@@ -1,8 +1,8 @@
-//! Certificates: the texts of plans, circles and runs, printed and read.
+//! Certificates: the texts of plans, circles and runs, printed and read, also around workqueues that stay.
 //!
 //! The layer above relies on this: the printed texts are functions of what they say. Each reader accepts exactly the
-//! texts of the format, with what they say; for any other text, it returns the first fault. What is printed is read
-//! back. The formats are those of "Plan texts", "Circle texts", "Run texts" and "Certificates" in docs/FORMAT.md.
+//! texts of the format, with what they say; for any other text, it returns the first fault. The formats are those of
+//! docs/FORMAT.md. What is printed is read back, but for the texts of "Planning around workqueues": no law says it yet.
 //!
 //! Printing takes time linear in the length of the text and, for a plan, the number of items. Reading takes time linear
 //! in the length of the text and the number of items.

@@ -5,14 +5,13 @@
 //! the assignment each take time and memory linear in the number of items.
 
 ghost use Rattle.std.specs.Prelude.{◌≡◌, ◌<◌, ℕ, ◌∷◌, ◌++◌, [], true, false, not, List, length, map, Ok, Err, IfOk};
-ghost use Rattle.std.specs.Prelude.{◌≤◌, IfErr, Option, Some, None, MatchOption, unwrap_or};
-ghost use Rattle.std.specs.List.{All, concat, count_by, list_all};
+ghost use Rattle.std.specs.Prelude.{◌≤◌, ◌||◌, IfErr, Option, Some, None, MatchOption, slice_index_or, unwrap_or};
+ghost use Rattle.std.specs.List.{All, concat, count_by, list_all, range_with_len};
 ghost use Rattle.wq_fixed.specs.Fixed.{has_none};
-ghost use Rattle.wq_groups.specs.Partition.{IsPartition};
 ghost use Rattle.wq_cert.specs.Lines.{cert_line};
 ghost use Rattle.wq_cert.specs.Noted.{marks, lanes_with, AreNoted, IsNextNoted, is_other, said_line};
 ghost use Rattle.wq_cert.specs.Reading.{has_stood, splits_group, fresh_items, wq_items, wq_reading, whole_assignment};
-ghost use Rattle.wq_cert.specs.FixedReading.{part_lanes};
+ghost use Rattle.wq_cert.specs.FixedReading.{is_with_its_group, part_lanes};
 ghost use Rattle.wq_cert.specs.AroundReading.{fixed_workqueues};
 ghost use Rattle.wq_cert.specs.Texts.{IsCertFaultOf};
 
@@ -131,6 +130,13 @@ fn lanes_of<A: Allocator>(
         .collect(alloc)
 }
 
+/// Whether an item splits its group: it is on no workqueue, and its group has one.
+fn splits(is_marked: bool, lane: Option<LaneId>) -> bool
+    ensures { result ≡ not (is_marked || has_none lane) }
+{
+    !is_marked && lane.is_some()
+}
+
 /// Whether each item of a group that has a workqueue is marked.
 fn are_whole<A: Allocator + Copy>(
     stood: &[bool],
@@ -139,12 +145,18 @@ fn are_whole<A: Allocator + Copy>(
 ) -> bool
     requires items { length stood.now ≡ length groups.now.group_of }
     requires groups { length lane_of_group.now ≡ groups.now.groups }
+    ensures { (workqueues : List (List ℕ)) → stood.now ≡ marks (length groups.now.group_of) (concat workqueues)
+        → lane_of_group.now ≡ lanes_with groups.now workqueues
+        → result ≡ list_all (is_with_its_group groups.now.group_of workqueues)
+        (range_with_len 0 (length groups.now.group_of)) }
 {
-    let mut is_whole = true;
     for (group, is_marked) in groups.numbers().iter().zip(stood) {
-        is_whole = is_whole && (*is_marked || lane_of_group[usize::from(*group)].is_none());
+        let lane = lane_of_group[usize::from(*group)];
+        if splits(*is_marked, lane) {
+            return false;
+        }
     }
-    is_whole
+    true
 }
 
 /// How many groups have no workqueue.
@@ -161,17 +173,20 @@ fn count_without(lane_of_group: &[Option<LaneId>]) -> u32
     count
 }
 
-/// Whether an item's group has a workqueue, for each item.
+/// For each item, whether its group has a workqueue.
 fn fixed_items<A: Allocator + Copy>(
     alloc: A,
     groups: &Groups<A>,
     lane_of_group: &[Option<LaneId>],
 ) -> Result<Vec<bool, A>, AllocError>
     requires { length lane_of_group.now ≡ groups.now.groups }
+    ensures { IfOk result (λ stood. stood.items
+        ≡ map (λ g. not (has_none (slice_index_or lane_of_group.now g None))) groups.now.group_of) }
 {
     let mut stood = Vec::with_capacity(alloc, groups.numbers().len())?;
     for group in groups.numbers() {
-        stood.push(lane_of_group[usize::from(*group)].is_some())?;
+        let lane = lane_of_group[usize::from(*group)];
+        stood.push(lane.is_some())?;
     }
     Ok(stood)
 }
@@ -189,9 +204,9 @@ impl<A: Allocator + Copy> NotedWorkqueues<A> {
         ensures { IfOk result (λ q. AreNoted groups.now (fixed_workqueues groups.now fixed.now) q.count q.stood.items
             q.lane_of_group.items) }
     {
+        let _groups = groups.len();
         let stood = fixed_items(alloc, groups, fixed.lane_of_group())?;
-        let mut lane_of_group = Vec::with_capacity(alloc, fixed.lane_of_group().len())?;
-        lane_of_group.extend_from_slice(fixed.lane_of_group())?;
+        let lane_of_group = Vec::from_slice(alloc, fixed.lane_of_group())?;
         Ok(NotedWorkqueues {
             count: fixed.lanes(),
             stood,

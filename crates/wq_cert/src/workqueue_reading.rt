@@ -27,8 +27,8 @@ pub(crate) fn read_next_workqueues<A: Allocator + Copy>(
 ) -> Result<NotedWorkqueues<A>, CertError>
     requires { length groups.now.group_of ≡ length table.now.names }
     ensures workqueues { IfOk result (λ q.
-        AreRead table.now.names groups.now count (map cert_line lines.old) q.count q.stood.items q.lane_of_group.items
-        (map cert_line lines.new)) }
+        AreRead table.now.names groups.now count [] (map cert_line lines.old) q.count q.stood.items
+        q.lane_of_group.items (map cert_line lines.new)) }
     ensures fault { IfErr result (λ e.
         IsCertFaultOf e (next_workqueues table.now.names groups.now.group_of count [] (map cert_line lines.old))) }
 {

@@ -1,6 +1,6 @@
 -- Answers of the checker around fixed workqueues: what a certificate shows, or the first reason why it shows nothing.
 use Rattle.std.specs.Prelude.{◌≡◌, ◌≢◌, ◌⊎◌, ℕ, ◌-◌, ◌+◌, ◌<◌, ◌≤◌, ◌==◌, List, [], ◌∷◌, length, map, Option, Some}
-use Rattle.std.specs.Prelude.{None, IsSome, Result, Ok, Err, slice_get, unwrap_or}
+use Rattle.std.specs.Prelude.{None, Result, Ok, Err, slice_get, unwrap_or}
 use Rattle.std.specs.List.{All, position}
 use Rattle.wq_items.specs.declared.target.Target.{Target}
 use Rattle.wq_items.specs.Table.{ItemWaits}
@@ -16,9 +16,7 @@ use Rattle.wq_cert.specs.AroundReading.{AroundPlan, NoRescuerCertificate, Around
 use Rattle.wq_cert.specs.AroundReading.{OfCircleAround, OfNoRescuer}
 use Rattle.wq_cert.specs.Certificate.{CircleCertificate}
 use Rattle.wq_cert.specs.Reading.{max_count}
-use Rattle.wq_checker.specs.declared.answer.Yes.{Yes}
 use Rattle.wq_checker.specs.declared.answer.Yes.TheVariants as yes
-use Rattle.wq_checker.specs.declared.answer.No.{No}
 use Rattle.wq_checker.specs.declared.answer.No.TheVariants.{NotFalling, LengthDiffers, ChainBroken, CircleBroken}
 use Rattle.wq_checker.specs.declared.answer.No.TheVariants.{RunBroken}
 use Rattle.wq_checker.specs.declared.around.YesAround.{YesAround}
@@ -150,14 +148,17 @@ abbrev pub ShowsDeadlockAround : Declaration → Fixed → Option (List Step) �
 ShowsDeadlockAround d f = ShowsDeadlockIn (start_wiring d f)
 
 -- what is answered to the text of a circle
+abbrev pub AnswersCircleIn : Wiring → CircleCertificate → Result YesAround NoAround → Type 0
+AnswersCircleIn w c (Ok (yes_around.Plain (yes.Circle n))) =
+    AllJoinIn w (before_in_circle c.arcs) c.arcs × ShowsDeadlockIn w c.steps × (n ≡ length c.arcs)
+AnswersCircleIn w c (Err (no_around.Plain (CircleBroken at))) = IsFirstBreakIn w (before_in_circle c.arcs) c.arcs at
+AnswersCircleIn w c (Err (no_around.Plain RunBroken)) =
+    AllJoinIn w (before_in_circle c.arcs) c.arcs × (¬ ShowsDeadlockIn w c.steps)
+AnswersCircleIn w c _ = ⊥
+
+-- the same in the start
 abbrev pub AnswersCircleAround : Declaration → Fixed → CircleCertificate → Result YesAround NoAround → Type 0
-AnswersCircleAround d f c (Ok (yes_around.Plain (yes.Circle n))) =
-    AllJoinAround d f (before_in_circle c.arcs) c.arcs × ShowsDeadlockAround d f c.steps × (n ≡ length c.arcs)
-AnswersCircleAround d f c (Err (no_around.Plain (CircleBroken at))) =
-    IsFirstBreakAround d f (before_in_circle c.arcs) c.arcs at
-AnswersCircleAround d f c (Err (no_around.Plain RunBroken)) =
-    AllJoinAround d f (before_in_circle c.arcs) c.arcs × (¬ ShowsDeadlockAround d f c.steps)
-AnswersCircleAround d f c _ = ⊥
+AnswersCircleAround d f c answer = AnswersCircleIn (start_wiring d f) c answer
 
 -- the arc is a declared flush of an item on a lane that has a rescuer, and its target is on one that has none
 pub record LeadsToNoneIn (w : Wiring) (arc : ℕ × ℕ) : Type 0 where
@@ -170,11 +171,15 @@ abbrev pub LeadsToNone : Declaration → Fixed → ℕ × ℕ → Type 0
 LeadsToNone d f = LeadsToNoneIn (start_wiring d f)
 
 -- what is answered to a norescuer text
+abbrev pub AnswersNoRescuerIn : Wiring → NoRescuerCertificate → Result YesAround NoAround → Type 0
+AnswersNoRescuerIn w c (Ok yes_around.NoRescuer) = LeadsToNoneIn w c.arc × ShowsDeadlockIn w c.steps
+AnswersNoRescuerIn w c (Err no_around.HasRescuer) = ¬ LeadsToNoneIn w c.arc
+AnswersNoRescuerIn w c (Err (no_around.Plain RunBroken)) = LeadsToNoneIn w c.arc × (¬ ShowsDeadlockIn w c.steps)
+AnswersNoRescuerIn w c _ = ⊥
+
+-- the same in the start
 abbrev pub AnswersNoRescuer : Declaration → Fixed → NoRescuerCertificate → Result YesAround NoAround → Type 0
-AnswersNoRescuer d f c (Ok yes_around.NoRescuer) = LeadsToNone d f c.arc × ShowsDeadlockAround d f c.steps
-AnswersNoRescuer d f c (Err no_around.HasRescuer) = ¬ LeadsToNone d f c.arc
-AnswersNoRescuer d f c (Err (no_around.Plain RunBroken)) = LeadsToNone d f c.arc × (¬ ShowsDeadlockAround d f c.steps)
-AnswersNoRescuer d f c _ = ⊥
+AnswersNoRescuer d f c answer = AnswersNoRescuerIn (start_wiring d f) c answer
 
 -- what is answered to a certificate
 abbrev pub AnswersAround : Declaration → Fixed → AroundCertificate → Result YesAround NoAround → Type 0
@@ -182,11 +187,13 @@ AnswersAround d f (OfPlanAround c) answer = AnswersPlanAround d f c answer
 AnswersAround d f (OfCircleAround c) answer = AnswersCircleAround d f c answer
 AnswersAround d f (OfNoRescuer c) answer = AnswersNoRescuer d f c answer
 
--- this yes is answered if the steps, if there are any, deadlock; otherwise that they don't
-abbrev pub IsWithRun : Wiring → Option (List Step) → YesAround → Result YesAround NoAround → Type 0
-IsWithRun w steps said answer =
-    (ShowsDeadlockIn w steps × (answer ≡ Ok said))
-    ⊎ ((¬ ShowsDeadlockIn w steps) × (answer ≡ Err (no_around.Plain RunBroken)))
+-- the certificate shows what it says: a good plan; or arcs that go round, or a flush to no rescuer, and the steps, if
+-- there are any, are a run that deadlocks
+abbrev pub IsGoodAround : Declaration → Fixed → AroundCertificate → Type 0
+IsGoodAround d f (OfPlanAround c) = IsGoodPlanAround d f c
+IsGoodAround d f (OfCircleAround c) =
+    AllJoinAround d f (before_in_circle c.arcs) c.arcs × ShowsDeadlockAround d f c.steps
+IsGoodAround d f (OfNoRescuer c) = LeadsToNone d f c.arc × ShowsDeadlockAround d f c.steps
 
 -- ---- certificates that can be asked about
 

@@ -6,5 +6,5 @@ use Rattle.wq_checker.specs.Codes.{no_code}
 
 -- a number from 50 to 55
 abbrev pub no_around_code : NoAround → ℕ
-no_around_code (no_around.Plain no) = no_code no
+no_around_code (no_around.Plain reason) = no_code reason
 no_around_code no_around.HasRescuer = 55

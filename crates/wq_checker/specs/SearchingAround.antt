@@ -1,11 +1,14 @@
--- Searching around fixed workqueues: what is found of flushes that fall by an order.
+-- Searching around fixed workqueues: what is found of flushes that fall by an order, and of arcs that join.
 use Rattle.std.specs.Prelude.{◌≡◌, ℕ, ◌<◌, Bool, false, List, Option, Some, None, slice_index, slice_index_or}
 use Rattle.wq_items.specs.declared.target.Target.{Target}
 use Rattle.wq_items.specs.Table.{ItemWaits}
 use Rattle.wq_groups.specs.Declaration.{Declaration}
 use Rattle.wq_groups.specs.Assignment.{Assignment, item_lane}
-use Rattle.wq_checker.specs.declared.falling.DeclaredFlush.{DeclaredFlush}
+use Rattle.wq_core.specs.Wiring.{Wiring, lane_of}
+use Rattle.wq_fixed.specs.Fixed.{Fixed}
+use Rattle.wq_cert.specs.AroundReading.{AroundPlan}
 use Rattle.wq_checker.specs.Falling.{Declares}
+use Rattle.wq_checker.specs.Around.{AllFallAround, IsFirstNotFallingAround}
 
 -- a flush from lane p to lane q falls: if p has a rescuer, q has one, and a lower place
 abbrev pub FallsTo : List Bool → List ℕ → ℕ → ℕ → Type 0
@@ -16,21 +19,6 @@ FallsTo bare places p q =
 -- the same of the lanes of items i and j
 abbrev pub ItemsFall : Declaration → Assignment → List Bool → List ℕ → ℕ → ℕ → Type 0
 ItemsFall d a bare places i j = FallsTo bare places (item_lane a d.group_of i) (item_lane a d.group_of j)
-
--- of the flushes that `Of` has and that don't fall, this is the first by place
-pub record IsFirstStaying (d : Declaration) (a : Assignment) (bare : List Bool) (places : List ℕ)
-    (Of : ℕ → Target → Type 0) (flush : DeclaredFlush) : Type 0 where
-  pub there : Of flush.item flush.target
-  pub stays : ¬ ItemsFall d a bare places flush.item flush.target.item
-  pub first : (k : ℕ) (other : Target) → Of k other → other.place < flush.target.place
-      → ItemsFall d a bare places k other.item
-
--- the first flush that doesn't fall is found, if there is one; otherwise each falls
-abbrev pub FindsStaying : Declaration → Assignment → List Bool → List ℕ → (ℕ → Target → Type 0)
-    → Option DeclaredFlush → Type 0
-FindsStaying d a bare places Of None =
-    (k : ℕ) (target : Target) → Of k target → ItemsFall d a bare places k target.item
-FindsStaying d a bare places Of (Some flush) = IsFirstStaying d a bare places Of flush
 
 -- each declared flush falls
 abbrev pub AllItemsFall : Declaration → Assignment → List Bool → List ℕ → Type 0
@@ -45,3 +33,12 @@ pub record IsFirstItemStaying (d : Declaration) (a : Assignment) (bare : List Bo
   pub stays : ¬ ItemsFall d a bare places i j
   pub first : (k : ℕ) (other : Target) → Declares d k other → other.place < target.place
       → ItemsFall d a bare places k other.item
+
+-- the first declared flush that doesn't fall by a plan's order is found, if there is one; otherwise each falls
+abbrev pub FindsNotFalling : Declaration → Fixed → AroundPlan → Option (ℕ × ℕ) → Type 0
+FindsNotFalling d f c None = AllFallAround d f c
+FindsNotFalling d f c (Some stays) = IsFirstNotFallingAround d f c stays.0 stays.1
+
+-- item i is on the lane of the target of the arc before it, if there is one
+abbrev pub Follows : Wiring → Option (ℕ × ℕ) → ℕ → Type 0
+Follows w before i = (b : ℕ × ℕ) → before ≡ Some b → lane_of w b.1 ≡ lane_of w i

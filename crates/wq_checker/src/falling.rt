@@ -6,7 +6,7 @@
 ghost use Rattle.std.specs.Prelude.{◌≡◌, ◌<◌, IfSome, IfNone, length};
 ghost use Rattle.wq_groups.specs.Declaration.{declaration_of};
 ghost use Rattle.wq_groups.specs.Assignment.{item_lane};
-ghost use Rattle.wq_checker.specs.Falling.{AllFall, IsFirstNotFalling};
+ghost use Rattle.wq_checker.specs.Falling.{AllFall, Falls, IsFirstNotFalling};
 ghost use Rattle.wq_checker.specs.Searching.{FindsFirst, OfItem, earlier};
 
 use std::alloc::Allocator;
@@ -21,7 +21,7 @@ pub(crate) struct DeclaredFlush {
 }
 
 /// The workqueue of an item.
-fn lane_of<A: Allocator + Copy>(
+pub(crate) fn lane_of<A: Allocator + Copy>(
     groups: &Groups<A>,
     assignment: &Assignment<A>,
     item: ItemId,
@@ -43,7 +43,7 @@ fn first_of_item<A: Allocator + Copy>(
     requires grouped { length groups.now.group_of ≡ length table.now.names }
     requires assigned { length assignment.now.lane_of_group ≡ groups.now.groups }
     requires item { item < length table.now.names }
-    ensures { FindsFirst (declaration_of table.now groups.now) assignment.now
+    ensures { FindsFirst (Falls (declaration_of table.now groups.now) assignment.now)
         (OfItem (declaration_of table.now groups.now) item) result }
 {
     let _items = table.len();

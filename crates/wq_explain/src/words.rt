@@ -12,7 +12,7 @@ const PLAN: Explanation = (
     "\
 `plan K`: with the items on K workqueues, as the `wq` lines have them, no order
 of what happens ends in a hang while memory is short. With fewer one does: the
-chain shows it.
+chain shows it. With FIXED the K workqueues are new ones, behind those of FIXED.
 
 The rule: docs/FORMAT.md, \"Plan texts\"
 
@@ -77,7 +77,8 @@ const CHAIN: Explanation = (
     "\
 `chain N`: the N-1 flushes below it follow one another, so N groups of items
 wait for each other in a chain, and each needs a workqueue of its own. It is why
-no plan has fewer workqueues.
+no plan has fewer workqueues. With FIXED the N are workqueues, those of FIXED
+among them, and only the new ones count.
 
 The rule: docs/FORMAT.md, \"Plan texts\"
 
@@ -191,7 +192,8 @@ const YES: Explanation = (
     "\
 `yes K`: the plan that was checked is safe for this declaration, and has the
 fewest workqueues. `yes circle N`: the circle is one of this declaration, so no
-assignment helps.
+assignment helps. `yes norescuer`: nor does one that keeps FIXED, as an item
+waits for one that FIXED has on a workqueue without a rescuer.
 
 The rule: docs/FORMAT.md, \"The command `check`\"
 

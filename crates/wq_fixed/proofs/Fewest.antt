@@ -1,10 +1,8 @@
 -- A chain of the start needs as many new workqueues as it has new lanes: with fewer, some lane comes again.
-use Rattle.std.proofs.Common.{◌≡◌, ℕ, zero, suc, ◌+◌, ◌-◌, ◌<◌, ◌≤◌, ◌⊎◌, inl, inr, true, false, cond, ltb, List, [], ◌∷◌, length, map, refl, sym, ap, subst, ◌∙◌, arith}
-use Rattle.std.specs.Prelude.{nat_le}
-use Rattle.std.specs.List.{All, AllByRecursion, count_by}
+use Rattle.std.proofs.Common.{◌≡◌, ℕ, suc, ◌+◌, ◌-◌, ◌<◌, ◌≤◌, inl, inr, cond, ltb, List, []}
+use Rattle.std.proofs.Common.{◌∷◌, length, map, refl, sym, ap, subst, ◌∙◌, arith}
+use Rattle.std.specs.List.{AllByRecursion}
 use Rattle.std.proofs.lemmas.Bool.{cases_lt, lt-ltb, le-ltb, cond-true, cond-false}
-use Rattle.std.proofs.lemmas.List.Elements.{recursion_from_All}
-use Rattle.std.proofs.lemmas.List.Recursion.{is_count_by}
 use Rattle.wq_items.specs.Chain.{IsChain, Circle, last_of}
 use Rattle.wq_items.proofs.Pigeonhole.{IsIn, HasAgain, has_again}
 
@@ -23,29 +21,37 @@ module _ (least : ℕ) where
   length-rest_from [] = refl
   length-rest_from (x ∷ xs) = elim (cases_lt x least) [
     | inl below ↦
-        ap (λ (ys : List ℕ). length ys) (cond-true (ltb x least) (rest_from least xs) ((x - least) ∷ rest_from least xs) (lt-ltb x least below))
+        ap (λ (ys : List ℕ). length ys) (cond-true (ltb x least) (rest_from least xs) ((x - least) ∷ rest_from least xs)
+        (lt-ltb x least below))
         ∙ length-rest_from xs
         ∙ sym (cond-true (ltb x least) (count_from least xs) (1 + count_from least xs) (lt-ltb x least below))
     | inr from ↦
-        ap (λ (ys : List ℕ). length ys) (cond-false (ltb x least) (rest_from least xs) ((x - least) ∷ rest_from least xs) (le-ltb x least from))
-        ∙ (let same : suc (length (rest_from least xs)) ≡ 1 + count_from least xs = omega (arith, length-rest_from xs) in same)
+        ap (λ (ys : List ℕ). length ys) (cond-false (ltb x least) (rest_from least xs)
+        ((x - least) ∷ rest_from least xs) (le-ltb x least from))
+        ∙ (let same : suc (length (rest_from least xs)) ≡ 1 + count_from least
+        xs = omega (arith, length-rest_from xs) in same)
         ∙ sym (cond-false (ltb x least) (count_from least xs) (1 + count_from least xs) (le-ltb x least from))
   ]
 
-  rest_from-below : (n : ℕ) (xs : List ℕ) → AllByRecursion (λ x. x < least + n) xs → AllByRecursion (λ x. x < n) (rest_from least xs)
+  rest_from-below : (n : ℕ) (xs : List ℕ) → AllByRecursion (λ x. x < least + n) xs
+      → AllByRecursion (λ x. x < n) (rest_from least xs)
   rest_from-below n [] below = tt
   rest_from-below n (x ∷ xs) below = elim (cases_lt x least) [
-    | inl low ↦ subst (AllByRecursion (λ y. y < n)) (sym (cond-true (ltb x least) (rest_from least xs) ((x - least) ∷ rest_from least xs) (lt-ltb x least low))) (rest_from-below n xs below.1)
+    | inl low ↦ subst (AllByRecursion (λ y. y < n)) (sym (cond-true (ltb x least) (rest_from least xs)
+        ((x - least) ∷ rest_from least xs) (lt-ltb x least low))) (rest_from-below n xs below.1)
     | inr from ↦
         let within : x < least + n = below.0 in
-        subst (AllByRecursion (λ y. y < n)) (sym (cond-false (ltb x least) (rest_from least xs) ((x - least) ∷ rest_from least xs) (le-ltb x least from))) (omega arith, rest_from-below n xs below.1)
+        subst (AllByRecursion (λ y. y < n)) (sym (cond-false (ltb x least) (rest_from least xs)
+        ((x - least) ∷ rest_from least xs) (le-ltb x least from))) (omega arith, rest_from-below n xs below.1)
   ]
 
   IsIn-rest_from : (y : ℕ) (xs : List ℕ) → least ≤ y → IsIn (y - least) (rest_from least xs) → IsIn y xs
   IsIn-rest_from y [] from found = found
   IsIn-rest_from y (x ∷ xs) from found = elim (cases_lt x least) [
-    | inl low ↦ inr (IsIn-rest_from y xs from (subst (IsIn (y - least)) (cond-true (ltb x least) (rest_from least xs) ((x - least) ∷ rest_from least xs) (lt-ltb x least low)) found))
-    | inr high ↦ by high (IsIn-rest_from y xs from) (subst (IsIn (y - least)) (cond-false (ltb x least) (rest_from least xs) ((x - least) ∷ rest_from least xs) (le-ltb x least high)) found)
+    | inl low ↦ inr (IsIn-rest_from y xs from (subst (IsIn (y - least))
+        (cond-true (ltb x least) (rest_from least xs) ((x - least) ∷ rest_from least xs) (lt-ltb x least low)) found))
+    | inr high ↦ by high (IsIn-rest_from y xs from) (subst (IsIn (y - least))
+        (cond-false (ltb x least) (rest_from least xs) ((x - least) ∷ rest_from least xs) (le-ltb x least high)) found)
   ]
     where
       by : least ≤ x → (IsIn (y - least) (rest_from least xs) → IsIn y xs)
@@ -56,8 +62,10 @@ module _ (least : ℕ) where
   HasAgain-rest_from : (xs : List ℕ) → HasAgain (rest_from least xs) → HasAgain xs
   HasAgain-rest_from [] again = again
   HasAgain-rest_from (x ∷ xs) again = elim (cases_lt x least) [
-    | inl low ↦ inr (HasAgain-rest_from xs (subst HasAgain (cond-true (ltb x least) (rest_from least xs) ((x - least) ∷ rest_from least xs) (lt-ltb x least low)) again))
-    | inr high ↦ by high (HasAgain-rest_from xs) (subst HasAgain (cond-false (ltb x least) (rest_from least xs) ((x - least) ∷ rest_from least xs) (le-ltb x least high)) again)
+    | inl low ↦ inr (HasAgain-rest_from xs (subst HasAgain (cond-true (ltb x least) (rest_from least xs)
+        ((x - least) ∷ rest_from least xs) (lt-ltb x least low)) again))
+    | inr high ↦ by high (HasAgain-rest_from xs) (subst HasAgain
+        (cond-false (ltb x least) (rest_from least xs) ((x - least) ∷ rest_from least xs) (le-ltb x least high)) again)
   ]
     where
       by : least ≤ x → (HasAgain (rest_from least xs) → HasAgain xs)
@@ -66,15 +74,19 @@ module _ (least : ℕ) where
       by high rest (inr later) = inr (rest later)
 
   -- more numbers from `least` on than there are below least + n
-  pub again_from : (n : ℕ) (xs : List ℕ) → AllByRecursion (λ x. x < least + n) xs → n < count_from least xs → HasAgain xs
-  again_from n xs below many = HasAgain-rest_from xs (has_again n (rest_from least xs) (rest_from-below n xs below) (omega (arith, length-rest_from xs, many)))
+  pub again_from : (n : ℕ) (xs : List ℕ) → AllByRecursion (λ x. x < least + n) xs → n < count_from least xs
+      → HasAgain xs
+  again_from n xs below many = HasAgain-rest_from xs (has_again n (rest_from least xs) (rest_from-below n xs below)
+      (omega (arith, length-rest_from xs, many)))
 
 -- a chain in which a vertex comes again runs in a circle
 module _ (R : ℕ → ℕ → Type 0) where
-  way_to : (x v : ℕ) (vs : List ℕ) → IsChain R (v ∷ vs) → IsIn x vs → (way : List ℕ) × IsChain R (v ∷ way) × R (last_of v way) x
+  way_to : (x v : ℕ) (vs : List ℕ) → IsChain R (v ∷ vs) → IsIn x vs → (way : List ℕ) × IsChain R (v ∷ way)
+      × R (last_of v way) x
   way_to x v [] chain found = absurd found
   way_to x v (w ∷ ws) chain (inl same) = ([], tt, subst (λ u. R v u) same chain.0)
-  way_to x v (w ∷ ws) chain (inr later) = let rest = way_to x w ws chain.1 later in (w ∷ rest.0, (chain.0, rest.1), rest.2)
+  way_to x v (w ∷ ws) chain (inr later) = let rest = way_to x w ws chain.1 later in
+      (w ∷ rest.0, (chain.0, rest.1), rest.2)
 
   tail_chain : (v : ℕ) (vs : List ℕ) → IsChain R (v ∷ vs) → IsChain R vs
   tail_chain v [] chain = tt
@@ -82,7 +94,8 @@ module _ (R : ℕ → ℕ → Type 0) where
 
   pub circle_from_again : (xs : List ℕ) → IsChain R xs → HasAgain xs → Circle R
   circle_from_again [] chain again = absurd again
-  circle_from_again (x ∷ xs) chain (inl found) = let way = way_to x x xs chain found in record { first = x; others = way.0; chain = way.1; closes = way.2 }
+  circle_from_again (x ∷ xs) chain (inl found) = let way = way_to x x xs chain found in
+      record { first = x; others = way.0; chain = way.1; closes = way.2 }
   circle_from_again (x ∷ xs) chain (inr later) = circle_from_again xs (tail_chain x xs chain) later
 
 -- a map that keeps what waits for what keeps chains

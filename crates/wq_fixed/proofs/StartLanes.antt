@@ -1,5 +1,6 @@
 -- The lanes of the start, and for each of them the lane of any workqueues that keep the fixed ones.
-use Rattle.std.proofs.Common.{◌≡◌, ℕ, zero, suc, ◌+◌, ◌<◌, ◌≤◌, false, cond, ltb, List, [], ◌∷◌, ◌++◌, length, get_or, Option, Some, None, refl, ap, ◌∙◌, arith}
+use Rattle.std.proofs.Common.{◌≡◌, ℕ, zero, suc, ◌+◌, ◌<◌, ◌≤◌, false, cond, ltb, List, [], ◌∷◌, ◌++◌, length, get_or}
+use Rattle.std.proofs.Common.{Option, Some, None, refl, ap, ◌∙◌, arith}
 use Rattle.std.specs.Prelude.{slice_get}
 use Rattle.std.specs.List.{count_by}
 use Rattle.std.proofs.lemmas.Bool.{lt-ltb, le-ltb, ltb-true, cond_both, cond-true, cond-false}
@@ -12,7 +13,8 @@ count_free [] = 0
 count_free (None ∷ lanes) = 1 + count_free lanes
 count_free (Some q ∷ lanes) = count_free lanes
 
-count_free-step : (lane : Option ℕ) (lanes : List (Option ℕ)) → count_free (lane ∷ lanes) ≡ cond (has_none lane) (1 + count_free lanes) (count_free lanes)
+count_free-step : (lane : Option ℕ) (lanes : List (Option ℕ))
+    → count_free (lane ∷ lanes) ≡ cond (has_none lane) (1 + count_free lanes) (count_free lanes)
 count_free-step None lanes = refl
 count_free-step (Some q) lanes = refl
 
@@ -52,7 +54,8 @@ count_free-free (None ∷ lanes) = ap (λ (n : ℕ). 1 + n) (count_free-free lan
 count_free-free (Some r ∷ lanes) = count_free-free lanes
 
 -- a group that stays is where it stays
-pub start-stays : (next : ℕ) (lanes : List (Option ℕ)) (g q : ℕ) → slice_get lanes g ≡ Some (Some q) → get_or (start_lanes next lanes) g 0 ≡ q
+pub start-stays : (next : ℕ) (lanes : List (Option ℕ)) (g q : ℕ) → slice_get lanes g ≡ Some (Some q)
+    → get_or (start_lanes next lanes) g 0 ≡ q
 start-stays next [] g q at = absurd (cc)
 start-stays next (None ∷ lanes) zero q at = absurd (cc)
 start-stays next (None ∷ lanes) (suc g) q at = start-stays (next + 1) lanes g q at
@@ -86,29 +89,37 @@ lane_for next (None ∷ lanes) (l ∷ ls) q = cond (ltb next q) (lane_for (next 
 ltb-same : (n : ℕ) → ltb n n ≡ false
 ltb-same n = le-ltb n n (omega arith)
 
-pub lane_for-free : (next : ℕ) (lanes : List (Option ℕ)) (ls : List ℕ) (g : ℕ) → length ls ≡ length lanes → slice_get lanes g ≡ Some None
+pub lane_for-free : (next : ℕ) (lanes : List (Option ℕ)) (ls : List ℕ) (g : ℕ) → length ls ≡ length lanes
+    → slice_get lanes g ≡ Some None
     → lane_for next lanes ls (get_or (start_lanes next lanes) g 0) ≡ get_or ls g 0
 lane_for-free next [] ls g same free = absurd (cc)
 lane_for-free next (lane ∷ lanes) [] g same free = omega arith
 lane_for-free next (Some s ∷ lanes) (l ∷ ls) zero same free = absurd (cc)
 lane_for-free next (Some s ∷ lanes) (l ∷ ls) (suc g) same free = lane_for-free next lanes ls g (omega arith) free
-lane_for-free next (None ∷ lanes) (l ∷ ls) zero same free = cond-false (ltb next next) (lane_for (next + 1) lanes ls next) l (ltb-same next)
+lane_for-free next (None ∷ lanes) (l ∷ ls) zero same free = cond-false (ltb next next)
+    (lane_for (next + 1) lanes ls next) l (ltb-same next)
 lane_for-free next (None ∷ lanes) (l ∷ ls) (suc g) same free =
     let above = start-free (next + 1) lanes g free in
     let low : next + 1 ≤ get_or (start_lanes (next + 1) lanes) g 0 = above.0 in
-    cond-true (ltb next (get_or (start_lanes (next + 1) lanes) g 0)) (lane_for (next + 1) lanes ls (get_or (start_lanes (next + 1) lanes) g 0)) l (lt-ltb next (get_or (start_lanes (next + 1) lanes) g 0) (omega arith))
+    cond-true (ltb next (get_or (start_lanes (next + 1) lanes) g 0))
+    (lane_for (next + 1) lanes ls (get_or (start_lanes (next + 1) lanes) g 0)) l
+    (lt-ltb next (get_or (start_lanes (next + 1) lanes) g 0) (omega arith))
     ∙ lane_for-free (next + 1) lanes ls g (omega arith) free
 
 -- such a lane is from `least` on, and below `most`, if that of each free group is
-pub lane_for-within : (next : ℕ) (lanes : List (Option ℕ)) (ls : List ℕ) (q least most : ℕ) → length ls ≡ length lanes → next ≤ q → q < next + count_free lanes
+pub lane_for-within : (next : ℕ) (lanes : List (Option ℕ)) (ls : List ℕ) (q least most : ℕ) → length ls ≡ length lanes
+    → next ≤ q → q < next + count_free lanes
     → ((g : ℕ) → slice_get lanes g ≡ Some None → (least ≤ get_or ls g 0) × (get_or ls g 0 < most))
     → (least ≤ lane_for next lanes ls q) × (lane_for next lanes ls q < most)
 lane_for-within next [] ls q least most same from to each =
     let none : q < next + 0 = to in absurd (omega (arith, from, none))
 lane_for-within next (lane ∷ lanes) [] q least most same from to each = omega arith
-lane_for-within next (Some s ∷ lanes) (l ∷ ls) q least most same from to each = lane_for-within next lanes ls q least most (omega arith) from to (λ g free. each (suc g) free)
+lane_for-within next (Some s ∷ lanes) (l ∷ ls) q least most same from to each =
+    lane_for-within next lanes ls q least most (omega arith) from to (λ g free. each (suc g) free)
 lane_for-within next (None ∷ lanes) (l ∷ ls) q least most same from to each =
     let below : q < next + (1 + count_free lanes) = to in
     cond_both (ltb next q) (lane_for (next + 1) lanes ls q) l (λ n. (least ≤ n) × (n < most))
-    (λ e. lane_for-within (next + 1) lanes ls q least most (omega arith) (let more : next < q = ltb-true next q e in omega (arith, more)) (omega (arith, below)) (λ g free. each (suc g) free))
+    (λ e. lane_for-within (next + 1) lanes ls q least most (omega arith)
+    (let more : next < q = ltb-true next q e in omega (arith, more)) (omega (arith, below))
+    (λ g free. each (suc g) free))
     (λ e. each 0 refl)

@@ -1,5 +1,6 @@
 -- Workqueues that stay as they are, and which workqueues keep them.
-use Rattle.std.specs.Prelude.{◌≡◌, ℕ, ◌+◌, ◌<◌, ◌≤◌, nat_le, Bool, true, false, List, [], ◌∷◌, length, Option, Some, None}
+use Rattle.std.specs.Prelude.{◌≡◌, ℕ, ◌+◌, ◌<◌, ◌≤◌, nat_le, Bool, true, false, List, [], ◌∷◌, length, Option, Some}
+use Rattle.std.specs.Prelude.{None}
 use Rattle.std.specs.Prelude.{slice_get, slice_index_or}
 use Rattle.std.specs.List.{count_by}
 use Rattle.wq_groups.specs.Assignment.{IsAssignment, group_lane, max_lanes}
@@ -39,7 +40,7 @@ pub record IsFixed (groups : ℕ) (f : Fixed) : Type 0 where
   pub within : (g q : ℕ) → Stays f g q → q < fixed_lanes f
   pub few : fixed_lanes f + free_groups f ≤ max_lanes
 
--- workqueues that keep the fixed ones: those are the first of them, and the same are bare; no further one, which is new,
+-- workqueues that keep the fixed ones: those are the first of them, and the same are bare; no further one, a new one,
 -- is bare; each group stays where it is; and each free one is on a new workqueue
 pub record Keeps (f : Fixed) (ws : Workqueues) : Type 0 where
   pub lanes : fixed_lanes f ≤ ws.assignment.lanes

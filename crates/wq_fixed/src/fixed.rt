@@ -2,7 +2,8 @@
 //!
 //! A driver has workqueues already, and somebody else decides what is on them. Each call takes constant time.
 
-ghost use Rattle.std.specs.Prelude.{◌≡◌, ◌+◌, ◌<◌, ◌≤◌, ℕ, length, slice_get, slice_index_or, false, Some, MatchOption, ⊤};
+ghost use Rattle.std.specs.Prelude.{◌≡◌, ◌+◌, ◌<◌, ◌≤◌, ℕ, length, slice_get, slice_index_or, false, Some};
+ghost use Rattle.std.specs.Prelude.{MatchOption, ⊤};
 ghost use Rattle.wq_fixed.specs.Fixed.{IsFixed, fixed_lanes};
 
 use std::alloc::Allocator;
@@ -30,7 +31,7 @@ impl<A: Allocator> Model for Fixed<A> {
 }
 
 impl<A: Allocator> Fixed<A> {
-    /// The workqueues for which this list says whether they have no rescuer, where each group stays where this one says.
+    /// The workqueues for which `bare` says whether they have no rescuer, and each group where `lane_of_group` says.
     pub fn new(lane_of_group: Vec<Option<LaneId>, A>, bare: Vec<bool, A>) -> Self
         requires { IsFixed (length lane_of_group.items)
             (record { lane_of_group = lane_of_group.items; bare = bare.items }) }

@@ -12,12 +12,16 @@ use Rattle.wq_fixed.proofs.laws.a_start_that_hangs_shows_that_all_do.Goals as go
 
 pub returns-clause-circle : goal.returns-clause-circle
 returns-clause-circle c d f declaration fixed circle ws assignment keeps =
-    Deadlocks-rescued_circle (wiring_of d ws) (IsWiring-with_bare (wiring d ws.assignment) ws.bare (IsWiring-wiring d ws.assignment declaration assignment))
-    (Circle-map (RescuedWaits (wiring_of d (start f))) (RescuedWaits (wiring_of d ws)) (lane_now d f ws declaration fixed assignment keeps) (waits_here d f ws declaration fixed assignment keeps) circle)
+    Deadlocks-rescued_circle (wiring_of d ws) (IsWiring-with_bare (wiring d ws.assignment) ws.bare
+    (IsWiring-wiring d ws.assignment declaration assignment))
+    (Circle-map (RescuedWaits (wiring_of d (start f))) (RescuedWaits (wiring_of d ws))
+    (lane_now d f ws declaration fixed assignment keeps) (waits_here d f ws declaration fixed assignment keeps)
+    circle)
 
 pub returns-clause-no_rescuer : goal.returns-clause-no_rescuer
 returns-clause-no_rescuer c d f i j declaration fixed waits from to ws assignment keeps =
     let here = rescuer_here d f ws declaration fixed assignment keeps in
-    Deadlocks-bare (wiring_of d ws) i j (IsWiring-with_bare (wiring d ws.assignment) ws.bare (IsWiring-wiring d ws.assignment declaration assignment)) waits
+    Deadlocks-bare (wiring_of d ws) i j (IsWiring-with_bare (wiring d ws.assignment) ws.bare
+    (IsWiring-wiring d ws.assignment declaration assignment)) waits
     (sym (here i (waiting-item d declaration i j waits)) ∙ from)
     (λ rescuer. to (here j (awaited-item d declaration i j waits) ∙ rescuer))
