@@ -521,7 +521,7 @@ impl<A: Allocator + Copy> Field<'_, '_, A> {
 }
 
 /// Of these items the one that waits first, or else the first that is on its lane.
-fn one_held_by<A: Allocator>(
+fn one_held_by<A: Allocator + Copy>(
     waits: &Waits<'_, A>,
     named: &[ItemId],
     first: ItemId,

@@ -59,7 +59,7 @@ fn leave_all_out<A: Allocator>(bare: &mut Vec<bool, A>, lanes: usize) -> Result<
 }
 
 /// Leaves out all lanes but these: for each lane whether it is bare or isn't one of them.
-fn leave_others_out<A: Allocator>(
+fn leave_others_out<A: Allocator + Copy>(
     wires: &Wires<'_, '_, A>,
     lanes: &[u32],
     bare: &mut Vec<bool, A>,

@@ -28,7 +28,7 @@ impl<'a, A: Allocator> Model for Waits<'a, A> {
     ghost view = { λ w. with_bare w.wires.now w.bare.now };
 }
 
-impl<'a, A: Allocator> Waits<'a, A> {
+impl<'a, A: Allocator + Copy> Waits<'a, A> {
     /// These items and flushes, and for each lane whether it is bare.
     pub(crate) fn new(wires: &'a Wires<'a, 'a, A>, bare: &'a [bool]) -> Self
         ensures { result ≡ with_bare wires.now bare.now }

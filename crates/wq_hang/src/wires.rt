@@ -53,9 +53,7 @@ impl<'t, 'a, A: Allocator + Copy> Wires<'t, 'a, A> {
             lane_of_item,
         })
     }
-}
 
-impl<'t, 'a, A: Allocator> Wires<'t, 'a, A> {
     /// How many items there are, at most 4,096.
     pub(crate) fn items(&self) -> usize
         ensures items { result ≡ items self.now }
