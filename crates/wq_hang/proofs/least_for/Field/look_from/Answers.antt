@@ -6,9 +6,9 @@ use Rattle.std.proofs.lemmas.List.Elements.{Contains-get_or}
 use Rattle.wq_core.specs.Wiring.{HasRescuer, items, lane_of}
 use Rattle.wq_hang.specs.declared.least_for.End.TheVariants as end
 use Rattle.wq_hang.specs.Search.{AreBounds, IsBetter, IsNoBetter}
-use Rattle.wq_hang.specs.EndsFor.{Field, IsBest, NoneFrom}
+use Rattle.wq_hang.specs.EndsFor.{Field, IsBelowRounds, IsBest, NoneFrom}
 use Rattle.wq_hang.proofs.Taken.{contains_more, contains_all}
-use Rattle.wq_hang.proofs.EndsFound.{field_of, EndsRound-better, NoneFrom-better, NoneFrom-no_better, NoneFrom-near}
+use Rattle.wq_hang.proofs.EndsFound.{field_of, EndsRound-better, NoneFrom-better, NoneFrom-no_better, NoneFrom-below}
 use Rattle.wq_hang.proofs.EndsFound.{NoneFrom-next, IsBest-is}
 use Rattle.wq_hang.specs.declared.hop.Hop.{Hop}
 use Rattle.wq_hang.proofs.least_for.Field.look_from.Goals as goal
@@ -115,11 +115,15 @@ loop-i-preserved g c =
                 (NoneFrom-no_better f old.cost i limit (omega (arith, cost)) none) either,
           )
           )
-      | else-cost-best v ↦ rw v.best-is (
+      | else-cost-best v ↦ (
+          let below : IsBelowRounds w c.args.least =
+          subst (λ (k : Field). IsBelowRounds k.wiring c.args.least) (sym c.self.view_is) c.requires.least.0 in
+          rw v.best-is (
         so_far.0,
         so_far.1,
         NoneFrom-next f (take k few) (take (k + 1) few) old.cost old.cost i (omega arith) so_far.2
-            (NoneFrom-near f old.cost i (omega (arith, cost, v.if-cost-best.false))) either,
+            (NoneFrom-below f old.cost i c.args.least below (omega (arith, cost, v.if-cost-best.false))) either,
+      )
       )
     ]
 

@@ -1,0 +1,42 @@
+use Rattle.std.proofs.Common.{◌≡◌, ◌+◌, ◌<◌, ◌≤◌, ◌⊎◌, inl, inr, ℕ, List, length, take, drop, sym, ap, subst, ◌∙◌, arith}
+use Rattle.std.specs.Prelude.{Contains, slice_index}
+use Rattle.std.specs.List.{All}
+use Rattle.std.proofs.lemmas.List.Elements.{All-weaker, All-take, All-drop}
+use Rattle.wq_core.specs.Wiring.{items}
+use Rattle.wq_hang.specs.EndsFor.{Field, IsField, NoneFrom}
+use Rattle.wq_hang.proofs.Taken.{contains_parts}
+use Rattle.wq_hang.proofs.EndsFound.{IsBelowRounds-hop, NoneFrom-all, NoneFrom-less}
+use Rattle.wq_hang.proofs.least_for.Field.look_from_near.Goals as goal
+
+pub look_from_items-requires-clause-near : goal.look_from_items-requires-clause-near
+look_from_items-requires-clause-near g c =
+    let f = c.args.self.now in
+    let costs = f.ways.costs in
+    let near = c.args.near.now in
+    let field : IsField c.self.inside.on.now f = subst (IsField c.self.inside.on.now) c.self.view_is c.self.invariant in
+    All-take (λ i. i < items f.wiring) c.min-to.result near
+    (All-weaker (λ i. (i < length costs) × (slice_index costs i < c.args.best.now.cost)) (λ i. i < items f.wiring)
+    (λ i is. omega (arith, is.0, field.ways.reach.one_each)) near c.requires.near.within)
+
+pub returns : goal.returns
+returns g c =
+    let f = c.args.self.now in
+    let near = c.args.near.now in
+    let to : ℕ = c.min-to.result in
+    let field : IsField c.self.inside.on.now f = subst (IsField c.self.inside.on.now) c.self.view_is c.self.invariant in
+    let first = c.in_ok-look_from_items.ensures in
+    let least = c.in_ok-least.ensures in
+    let others = c.in_ok-look_from_items-2.ensures in
+    let now : ℕ = c.look_from_items-2.new.best.cost in
+    record {
+      best = others.best;
+      less = omega (arith, first.less, least.less, others.less);
+      none = NoneFrom-all f c.args.best.now.cost now near field.ways.reach.one_each
+          (omega (arith, first.less, least.less, others.less)) c.requires.near
+          (λ i there. elim (contains_parts near to i there) [
+            | inl here ↦ NoneFrom-less f c.look_from_items.new.best.cost now i (omega (arith, least.less, others.less))
+                (first.none i here)
+            | inr other ↦ others.none i other
+          ]);
+      least = least.least;
+    }
