@@ -7,7 +7,7 @@ use Rattle.wq_hang.proofs.LeastWalks.{hops_cost-append}
 use Rattle.wq_hang.proofs.least_for.hops_cost.Goals as goal
 
 pub loop-hop-preserved : goal.loop-hop-preserved
-loop-hop-preserved g c =
+loop-hop-preserved c =
     let hops = c.args.hops.now in
     let k : ℕ = c.loop-hop.hop-index in
     let h : Hop = c.hop-item.result in
@@ -18,6 +18,6 @@ loop-hop-preserved g c =
     omega (arith, more, c.loop-hop.invariant, c.saturating_add-cost.ensures, c.hop_cost.ensures)
 
 pub returns : goal.returns
-returns g c =
+returns c =
     let hops = c.args.hops.now in
     omega (arith, c.loop-hop.invariant, ap hops_cost (take_all hops c.loop-hop.hop-index c.loop-hop-test.false))
