@@ -3,20 +3,42 @@ use Rattle.std.specs.Prelude.{Contains, slice_index}
 use Rattle.std.specs.List.{All}
 use Rattle.std.proofs.lemmas.List.Elements.{All-weaker, All-take, All-drop}
 use Rattle.wq_core.specs.Wiring.{items}
+use Rattle.wq_hang.specs.WaysFor.{AreNear}
 use Rattle.wq_hang.specs.EndsFor.{Field, IsField, NoneFrom}
 use Rattle.wq_hang.proofs.Taken.{contains_parts}
 use Rattle.wq_hang.proofs.EndsFound.{IsBelowRounds-hop, NoneFrom-all, NoneFrom-less}
 use Rattle.wq_hang.proofs.least_for.Field.look_from_near.Goals as goal
 
+-- the items that are near
+within : (on : List (List ℕ)) (f : Field) (limit : ℕ) (near : List ℕ) → IsField on f
+    → AreNear limit f.ways.costs near → All (λ i. i < items f.wiring) near
+within on f limit near field are =
+    All-weaker (λ i. (i < length f.ways.costs) × (slice_index f.ways.costs i < limit)) (λ i. i < items f.wiring)
+    (λ i is. omega (arith, is.0, field.ways.reach.one_each)) near are.within
+
 pub look_from_items-requires-clause-near : goal.look_from_items-requires-clause-near
 look_from_items-requires-clause-near g c =
     let f = c.args.self.now in
-    let costs = f.ways.costs in
-    let near = c.args.near.now in
     let field : IsField c.self.inside.on.now f = subst (IsField c.self.inside.on.now) c.self.view_is c.self.invariant in
-    All-take (λ i. i < items f.wiring) c.min-to.result near
-    (All-weaker (λ i. (i < length costs) × (slice_index costs i < c.args.best.now.cost)) (λ i. i < items f.wiring)
-    (λ i is. omega (arith, is.0, field.ways.reach.one_each)) near c.requires.near.within)
+    All-take (λ i. i < items f.wiring) c.min-to.result c.args.near.now
+    (within c.self.inside.on.now f c.args.best.now.cost c.args.near.now field c.requires.near)
+
+pub look_from_items-requires-clause-least : goal.look_from_items-requires-clause-least
+look_from_items-requires-clause-least g c = (IsBelowRounds-hop c.args.self.now.wiring, omega arith)
+
+pub least_of_others-requires-clause-others : goal.least_of_others-requires-clause-others
+least_of_others-requires-clause-others g c =
+    let f = c.args.self.now in
+    let field : IsField c.self.inside.on.now f = subst (IsField c.self.inside.on.now) c.self.view_is c.self.invariant in
+    All-drop (λ i. i < items f.wiring) c.min-to.result c.args.near.now
+    (within c.self.inside.on.now f c.args.best.now.cost c.args.near.now field c.requires.near)
+
+pub look_from_items-requires-2-clause-near : goal.look_from_items-requires-2-clause-near
+look_from_items-requires-2-clause-near g c =
+    let f = c.args.self.now in
+    let field : IsField c.self.inside.on.now f = subst (IsField c.self.inside.on.now) c.self.view_is c.self.invariant in
+    All-drop (λ i. i < items f.wiring) c.min-to.result c.args.near.now
+    (within c.self.inside.on.now f c.args.best.now.cost c.args.near.now field c.requires.near)
 
 pub returns : goal.returns
 returns g c =
