@@ -23,18 +23,14 @@ pub(crate) struct Wires<'t, 'a, A: Allocator> {
 }
 
 impl<'t, 'a, A: Allocator> Model for Wires<'t, 'a, A> {
-    ghost use Rattle.std.specs.Prelude.{◌≡◌};
-    ghost use Rattle.wq_groups.specs.Assignment.{item_lanes};
-    ghost use Rattle.wq_groups.specs.DeclaredGroups.{declared_waits};
-    ghost use Rattle.wq_core.specs.Wiring.{Wiring};
-    ghost use Rattle.wq_core.specs.Workqueues.{wiring_of};
+    ghost use Rattle.wq_core.specs.Wiring.{Wiring, IsWiring};
+    ghost use Rattle.wq_hang.specs.Wires.{wires};
 
     ghost Value = { Wiring };
 
-    ghost view = { λ w. wiring_of (declared_waits w.assigned.declared) w.assigned.workqueues };
+    ghost view = { λ w. wires w.assigned w.lane_of_item.items };
 
-    ghost invariant = { λ w. w.lane_of_item.items
-        ≡ item_lanes w.assigned.workqueues.assignment w.assigned.declared.partition.group_of };
+    ghost invariant = { λ w. IsWiring (wires w.assigned w.lane_of_item.items) };
 }
 
 impl<'t, 'a, A: Allocator + Copy> Wires<'t, 'a, A> {
