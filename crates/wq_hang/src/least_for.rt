@@ -39,6 +39,9 @@ use wq_items::ItemId;
 /// No hop costs less.
 const LEAST_HOP: u32 = 3;
 
+/// From so many items rounds are looked for before the least of all rounds is.
+const FIRST: usize = 8;
+
 /// A walk that holds up an item.
 #[derive(Drop)]
 pub(crate) struct WalkFor<A: Allocator> {
@@ -376,7 +379,7 @@ impl<A: Allocator + Copy> Field<'_, '_, A> {
         ensures least { IfOk result (λ least. IsBelowRounds self.now.wiring least × (least ≤ max_walk_cost)) }
     {
         let _items = self.waits.items();
-        let to = near.len().min(AT_A_TIME);
+        let to = near.len().min(FIRST);
         self.look_from_items(alloc, search, &near[..to], LEAST_HOP, best)?;
         let least = self.least_of_others(alloc, search, passed, &near[to..], best)?;
         self.look_from_items(alloc, search, &near[to..], least, best)?;

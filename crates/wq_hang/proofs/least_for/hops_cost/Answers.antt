@@ -20,4 +20,4 @@ loop-hop-preserved c =
 pub returns : goal.returns
 returns c =
     let hops = c.args.hops.now in
-    omega (arith, c.loop-hop.invariant, ap hops_cost (take_all hops c.loop-hop.hop-index c.loop-hop-test.false))
+    omega (arith, c.loop-hop.invariant, ap hops_cost (take_all c.loop-hop.hop-index hops c.loop-hop-test.false))
