@@ -341,12 +341,12 @@ module _ (on : List (List ℕ)) (f : Field) (field : IsField on f) (wiring : IsW
       ⊎ ((i : ℕ) → i < items f.wiring → i ≢ t → lane_of f.wiring i ≡ lane_of f.wiring t
       → slice_index f.ways.costs i ≢ from_t + 1))
       → NoneAlone f best t
-  NoneAlone-left latest are least below (inl few) =
+  NoneAlone-left latest are least below (inl few) hops more is =
       NoneAlone-round least (λ i i_below other lane one others some path. below others (record {
         some = some;
         first = i;
         path = path;
-      })) few
+      })) few hops more is
   NoneAlone-left latest are least below (inr (inl few)) hops more is =
       latest_enough on f field wiring best most none_from t hops more is latest are few
   NoneAlone-left latest are least below (inr (inr none)) hops more is =

@@ -35,14 +35,8 @@ least_round-requires-clause-passed g c =
 pub least_round-requires-clause-low : goal.least_round-requires-clause-low
 least_round-requires-clause-low g c = c.requires.best.most
 
-pub nearest-requires-in-Some-clause-some : goal.nearest-requires-in-Some-clause-some
-nearest-requires-in-Some-clause-some g c =
-    let least : IsLeastRound c.self.inside.waits.now c.args.best.now.cost c.in-Some.hops.items =
-    rw c.in-Some.is at c.in_ok-found.ensures.some in
-    subst (λ (l : List Hop). 0 < length l) (sym c.as_slice.ensures.value) least.round.some
-
-pub nearest-requires-in-Some-clause-items : goal.nearest-requires-in-Some-clause-items
-nearest-requires-in-Some-clause-items g c =
+pub nearest-item-requires-clause-items : goal.nearest-item-requires-clause-items
+nearest-item-requires-clause-items g c =
     let w = c.self.inside.waits.now in
     let hops = c.in-Some.hops.items in
     let least : IsLeastRound w c.args.best.now.cost hops = rw c.in-Some.is at c.in_ok-found.ensures.some in
@@ -53,8 +47,8 @@ nearest-requires-in-Some-clause-items g c =
 pub returns-then-not-may_be_better-clause-least : goal.returns-then-not-may_be_better-clause-least
 returns-then-not-may_be_better-clause-least g c = (IsBelowRounds-hop c.args.self.now.wiring, omega arith)
 
-pub returns-in-Some-clause-least : goal.returns-in-Some-clause-least
-returns-in-Some-clause-least g c =
+pub returns-in_ok-look_from_one-in-Some-clause-least : goal.returns-in_ok-look_from_one-in-Some-clause-least
+returns-in_ok-look_from_one-in-Some-clause-least g c =
     let w = c.self.inside.waits.now in
     let hops = c.in-Some.hops.items in
     let least : IsLeastRound w c.args.best.now.cost hops = rw c.in-Some.is at c.in_ok-found.ensures.some in

@@ -1,4 +1,5 @@
-use Rattle.std.proofs.Common.{◌≡◌, ◌+◌, ◌<◌, ◌≤◌, ◌⊎◌, inl, inr, ℕ, List, length, take, drop, sym, ap, subst, ◌∙◌, arith}
+use Rattle.std.proofs.Common.{◌≡◌, ◌-◌, ◌<◌, ◌≤◌, inl, inr, ℕ, List, length, take, drop, sym, subst, arith, length-drop}
+use Rattle.std.proofs.lemmas.List.{take_all}
 use Rattle.std.specs.Prelude.{Contains, slice_index}
 use Rattle.std.specs.List.{All}
 use Rattle.std.proofs.lemmas.List.Elements.{All-weaker, All-take, All-drop}
@@ -16,6 +17,10 @@ within on f limit near field are =
     All-weaker (λ i. (i < length f.ways.costs) × (slice_index f.ways.costs i < limit)) (λ i. i < items f.wiring)
     (λ i is. omega (arith, is.0, field.ways.reach.one_each)) near are.within
 
+-- all that is behind some of them
+rest_is : (near : List ℕ) (to : ℕ) → take (length near - to) (drop to near) ≡ drop to near
+rest_is near to = take_all (length near - to) (drop to near) (omega (arith, length-drop to near))
+
 pub look_from_items-requires-clause-near : goal.look_from_items-requires-clause-near
 look_from_items-requires-clause-near g c =
     let f = c.args.self.now in
@@ -30,15 +35,17 @@ pub least_of_others-requires-clause-others : goal.least_of_others-requires-claus
 least_of_others-requires-clause-others g c =
     let f = c.args.self.now in
     let field : IsField c.self.inside.on.now f = subst (IsField c.self.inside.on.now) c.self.view_is c.self.invariant in
-    All-drop (λ i. i < items f.wiring) c.min-to.result c.args.near.now
-    (within c.self.inside.on.now f c.args.best.now.cost c.args.near.now field c.requires.near)
+    All-take (λ i. i < items f.wiring) (length c.args.near.now - c.min-to.result) (drop c.min-to.result c.args.near.now)
+    (All-drop (λ i. i < items f.wiring) c.min-to.result c.args.near.now
+    (within c.self.inside.on.now f c.args.best.now.cost c.args.near.now field c.requires.near))
 
 pub look_from_items-requires-2-clause-near : goal.look_from_items-requires-2-clause-near
 look_from_items-requires-2-clause-near g c =
     let f = c.args.self.now in
     let field : IsField c.self.inside.on.now f = subst (IsField c.self.inside.on.now) c.self.view_is c.self.invariant in
-    All-drop (λ i. i < items f.wiring) c.min-to.result c.args.near.now
-    (within c.self.inside.on.now f c.args.best.now.cost c.args.near.now field c.requires.near)
+    All-take (λ i. i < items f.wiring) (length c.args.near.now - c.min-to.result) (drop c.min-to.result c.args.near.now)
+    (All-drop (λ i. i < items f.wiring) c.min-to.result c.args.near.now
+    (within c.self.inside.on.now f c.args.best.now.cost c.args.near.now field c.requires.near))
 
 pub returns : goal.returns
 returns g c =
@@ -58,7 +65,7 @@ returns g c =
           (λ i there. elim (contains_parts near to i there) [
             | inl here ↦ NoneFrom-less f c.look_from_items.new.best.cost now i (omega (arith, least.less, others.less))
                 (first.none i here)
-            | inr other ↦ others.none i other
+            | inr other ↦ others.none i (subst (λ (l : List ℕ). Contains l i) (sym (rest_is near to)) other)
           ]);
       least = least.least;
     }
