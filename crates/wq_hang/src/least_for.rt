@@ -3,10 +3,11 @@
 //! What it costs to come to each item is found first. A walk then ends in one of three ways: by a flush that leads to a
 //! bare lane; by a round from an item; or by a round from where somebody waits for an item alone, back to there, which
 //! waits for the same entry: that is queued once. Rounds from items are looked for from the nearest items first, as
-//! far as they can be better than the best end so far. If many are left after the first few, the least of all rounds is
-//! found: none costs less, and the way to its nearest item tells what the best end costs at most. One from where
-//! somebody waits for an item alone is better than those from its items only if all these are farther away: so few are
-//! looked for. It takes the time of a search for each of these, and of two for each of the last kind.
+//! far as they can be better than the best end so far. After the first few, if others may be better, the least of all
+//! rounds is found: none costs less, so from most of the others none is looked for; and a round from its nearest item
+//! ends a walk, too. One from where somebody waits for an item alone is better than those from its items only if all
+//! these are farther away: so few are looked for. It takes the time of a least round, of a search for each of the items
+//! that are left, and of two for each of the last kind.
 
 ghost use Rattle.std.specs.Prelude.{◌≡◌, ◌≢◌, ◌+◌, ◌<◌, ◌≤◌, ◌⊎◌, ℕ, List, Contains, false, length, slice_index};
 ghost use Rattle.std.specs.Prelude.{map, IfOk, OnOk, IfSome, IfNone, MatchOption, Some};
@@ -349,7 +350,9 @@ impl<A: Allocator + Copy> Field<'_, '_, A> {
         if !self.may_be_better(others, LEAST_HOP, best.cost) {
             return Ok(LEAST_HOP);
         }
-        let found = least_round(alloc, self.waits, self.on, self.order, search, passed, best.cost)?;
+        let found = least_round(
+            alloc, self.waits, self.on, self.order, search, passed, best.cost,
+        )?;
         match found {
             Some(hops) => {
                 let item = self.nearest(hops.as_slice());

@@ -119,12 +119,12 @@ loop-i-preserved g c =
           let below : IsBelowRounds w c.args.least =
           subst (λ (k : Field). IsBelowRounds k.wiring c.args.least) (sym c.self.view_is) c.requires.least.0 in
           rw v.best-is (
-        so_far.0,
-        so_far.1,
-        NoneFrom-next f (take k few) (take (k + 1) few) old.cost old.cost i (omega arith) so_far.2
-            (NoneFrom-below f old.cost i c.args.least below (omega (arith, cost, v.if-cost-least.false))) either,
-      )
-      )
+            so_far.0,
+            so_far.1,
+            NoneFrom-next f (take k few) (take (k + 1) few) old.cost old.cost i (omega arith) so_far.2
+                (NoneFrom-below f old.cost i c.args.least below (omega (arith, cost, v.if-cost-least.false))) either,
+          )
+          )
     ]
 
 pub returns : goal.returns
