@@ -40,7 +40,11 @@ fn earlier(found: Option<Hop>, hop: Hop) -> Hop
 }
 
 /// The first hop that leads to a bare lane, of those found so far and those of an item whose lane has a rescuer.
-fn first_with<A: Allocator + Copy>(waits: &Waits<'_, A>, item: ItemId, found: Option<Hop>) -> Option<Hop>
+fn first_with<A: Allocator + Copy>(
+    waits: &Waits<'_, A>,
+    item: ItemId,
+    found: Option<Hop>,
+) -> Option<Hop>
     requires item { item < items waits.now }
     requires rescuer { HasRescuer waits.now (lane_of waits.now item) }
     requires found { IsFirstBelow waits.now item found }

@@ -58,7 +58,11 @@ fn put_first_alike<A: Allocator + Copy>(waits: &Waits<'_, A>, hops: &mut [Hop])
 }
 
 /// Each hop of a walk that holds up an item waits by the first flush with its words.
-pub(crate) fn settle_held<A: Allocator + Copy>(waits: &Waits<'_, A>, named: ItemId, hops: &mut [Hop])
+pub(crate) fn settle_held<A: Allocator + Copy>(
+    waits: &Waits<'_, A>,
+    named: ItemId,
+    hops: &mut [Hop],
+)
     requires { HoldsUp waits.now named hops.old }
     ensures walk { HoldsUp waits.now named hops.new }
     ensures cost { cost_for waits.now named hops.new ≡ cost_for waits.now named hops.old }
