@@ -1,0 +1,8 @@
+use Rattle.std.proofs.Common.{length}
+use Rattle.wq_voice.proofs.flush_lines.FlushLines.new.Given as goal
+
+abbrev pub invariant-loop-start : goal.invariant-loop-start
+invariant-loop-start g l = ⊤
+
+abbrev pub decreases-loop-start : goal.decreases-loop-start
+decreases-loop-start g l = length l.lines
