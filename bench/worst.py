@@ -463,7 +463,15 @@ def held():
     yield "one is behind another on each of 2,048 workqueues, and such a one NAMEd", declaration(ITEMS, behind_pairs()), pairs_of_items(), ["1"]
     yield "layers, 64 workqueues, every other without a rescuer", declaration(ITEMS, layers()), in_turn_with_bare(64, 2), ["0"]
     yield "a chain, one workqueue", declaration(ITEMS, chain()), one(), [short(LAST)]
-    yield "a chain, own workqueues, all of them", declaration(ITEMS, chain()), own(), [short(i) for i in range(ITEMS)]
+    everyone = [short(i) for i in range(ITEMS)]
+    yield "a chain, own workqueues, all of them", declaration(ITEMS, chain()), own(), everyone
+    for name, flushes, assignment in [
+        ("a torus, own workqueues", torus(), own()),
+        ("four flushes on, around", around(), own()),
+        ("one is behind another on each of 2,048 workqueues", behind_pairs(), pairs_of_items()),
+    ]:
+        yield f"{name}, all items", declaration(ITEMS, flushes), assignment, everyone
+        yield f"{name}, every second item", declaration(ITEMS, flushes), assignment, everyone[1::2]
 
 
 def each_on_its_own(items):

@@ -1,10 +1,8 @@
 -- What it means that a declaration is planned around fixed workqueues.
-use Rattle.std.specs.Prelude.{◌≡◌, ◌×◌, ◌⊎◌, ℕ, ◌-◌, List, [], ◌∷◌}
-use Rattle.wq_items.specs.Chain.{HasCircle}
+use Rattle.std.specs.Prelude.{◌≡◌, ◌⊎◌, ℕ, ◌-◌, List, [], ◌∷◌}
 use Rattle.wq_groups.specs.Declaration.{Declaration}
 use Rattle.wq_core.specs.Workqueues.{Workqueues}
 use Rattle.wq_graph.specs.declared.arc.WaitArc.{WaitArc}
-use Rattle.wq_graph.specs.Graph.{HasArc}
 use Rattle.wq_levels.specs.Walks.{IsWalkedCircle}
 use Rattle.wq_deadlock.specs.Judging.{bare_waits}
 use Rattle.wq_fixed.specs.Fixed.{Fixed, IsLeastAround, AllDeadlock, fixed_lanes, start}
@@ -26,12 +24,12 @@ IsChainOf d f most chain =
 
 -- the workqueues are those of the heights; no run of them ends stuck, and any that keep the fixed ones and are fewer
 -- deadlock; the order is one in which each waits only for those before it; and the chain shows how many are needed
-pub record IsPlannedAround (d : Declaration) (f : Fixed) (ws : Workqueues) (order : List ℕ) (chain : List WaitArc)
+pub record IsPlannedAround (d : Declaration) (f : Fixed) (ws : Workqueues) (sequence : List ℕ) (arcs : List WaitArc)
     : Type 0 where
   pub plan : IsPlanAround d f ws
   pub least : IsLeastAround d f ws
-  pub order : IsOrder d ws order
-  pub chain : IsChainOf d f (new_lanes f ws) chain
+  pub order : IsOrder d ws sequence
+  pub chain : IsChainOf d f (new_lanes f ws) arcs
 
 -- in the start this is the first flush that leads to no rescuer; so all workqueues that keep the fixed ones deadlock
 pub record IsHeldByNone (d : Declaration) (f : Fixed) (arc : WaitArc) : Type 0 where

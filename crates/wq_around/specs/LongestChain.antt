@@ -1,34 +1,19 @@
 -- The printed chain of a plan around fixed workqueues, said of all chains.
-use Rattle.std.specs.Prelude.{◌≡◌, ◌×◌, ◌⊎◌, ⊤, ⊥, ℕ, ◌+◌, ◌<◌, ◌≤◌, nat_le, if◌then◌else◌, List, [], ◌∷◌, length}
-use Rattle.std.specs.Prelude.{filter, slice_index, Contains}
+use Rattle.std.specs.Prelude.{◌≡◌, ◌⊎◌, ⊤, ℕ, ◌<◌, ◌≤◌, List, [], ◌∷◌, length, filter, slice_index}
 use Rattle.wq_items.specs.Readings.{is_among, unsure_places}
 use Rattle.wq_groups.specs.Declaration.{Declaration}
 use Rattle.wq_groups.specs.Assignment.{item_lane}
 use Rattle.wq_graph.specs.declared.arc.WaitArc.{WaitArc}
-use Rattle.wq_graph.specs.Graph.{arcs_at}
 use Rattle.wq_fixed.specs.Fixed.{Fixed, fixed_lanes, start}
 use Rattle.wq_around.specs.Heights.{start_graph}
-
--- 1 if lane q is new, and else 0
-abbrev pub one_if_new : Fixed → ℕ → ℕ
-one_if_new f q = if nat_le (fixed_lanes f) q then 1 else 0
-
--- these arcs lead on from lane q of the start to a new lane of height 1: from a new lane to one whose height is less by
--- one, and from a fixed one to one of the same height
-abbrev pub LeadsDown : Declaration → Fixed → List ℕ → ℕ → List WaitArc → Type 0
-LeadsDown d f heights q [] = (fixed_lanes f ≤ q) × (slice_index heights q ≡ 1)
-LeadsDown d f heights q (arc ∷ arcs) =
-    Contains (arcs_at (start_graph d f) q) arc
-    × (slice_index heights arc.head + one_if_new f q ≡ slice_index heights q)
-    × (0 < slice_index heights arc.head)
-    × LeadsDown d f heights arc.head arcs
+use Rattle.wq_around.specs.Down.{LeadsDown}
 
 -- the arcs of a chain that begins at a new lane of the greatest height; none where no lane is new
 pub record IsChainDown (d : Declaration) (f : Fixed) (heights : List ℕ) (most : ℕ) (chain : List WaitArc) : Type 0 where
   pub first : ℕ
   pub new : fixed_lanes f ≤ first
   pub highest : slice_index heights first ≡ most
-  pub down : LeadsDown d f heights first chain
+  pub down : LeadsDown (start_graph d f) (fixed_lanes f) heights first chain
 
 -- those of these arcs that are of an unsure flush
 abbrev pub unsure_arcs : Declaration → List WaitArc → List WaitArc
@@ -38,8 +23,8 @@ unsure_arcs d chain = filter (λ (arc : WaitArc). is_among (unsure_places d.wait
 abbrev pub tail_of : Declaration → Fixed → WaitArc → ℕ
 tail_of d f arc = item_lane (start f).assignment d.group_of arc.src
 
--- the first chain comes no later where the two part: it begins at the lower-numbered lane, or of two arcs of one lane it
--- goes on by the one of lower place
+-- the first chain comes no later where the two part: it begins at the lower-numbered lane, or of two arcs of one lane
+-- it goes on by the one of lower place
 abbrev pub ComesFirst : Declaration → Fixed → List WaitArc → List WaitArc → Type 0
 ComesFirst d f [] other = ⊤
 ComesFirst d f (x ∷ chain) [] = ⊤

@@ -1,21 +1,21 @@
 //! The chain that is printed: a chain of the start with the most new workqueues, and as few unsure flushes as can be.
 //!
-//! The rule is that of "Planning around workqueues" in docs/FORMAT.md. With how few unsure flushes a chain leads on from
-//! each workqueue is found by their ranks, from below; then the chain is followed. It takes time in the number of
-//! workqueues and arcs, and memory in the number of workqueues.
+//! The rule is that of "Planning around workqueues" in docs/FORMAT.md. With how few unsure flushes a chain leads on
+//! from each workqueue is found by their ranks, from below; then the chain is followed. It takes time in the number
+//! of workqueues and arcs, and memory in the number of workqueues.
 
-ghost use Rattle.std.specs.Prelude.{◌≡◌, ◌+◌, ◌<◌, ◌≤◌, ◌==◌, ◌&&◌, nat_le, false, ℕ, length, slice_index, slice_index_or};
-ghost use Rattle.std.specs.Prelude.{if◌then◌else◌, IfOk, OnErr};
-ghost use Rattle.std.specs.List.{All};
-ghost use Rattle.wq_groups.specs.Declaration.{Declaration};
+ghost use Rattle.std.specs.Prelude.{◌≡◌, ◌+◌, ◌<◌, ◌≤◌, ◌==◌, ◌&&◌, nat_le, false, ℕ, List, length, slice_index};
+ghost use Rattle.std.specs.Prelude.{slice_index_or, filter, map, if◌then◌else◌, IfOk, OnErr, IfSome, IfNone};
+ghost use Rattle.std.specs.List.{All, find};
+ghost use Rattle.std.specs.Option.{option_copied};
 ghost use Rattle.wq_graph.specs.declared.arc.WaitArc.{WaitArc};
 ghost use Rattle.wq_graph.specs.Graph.{IsGraph};
 ghost use Rattle.wq_levels.specs.Ranks.{AreRanks};
-ghost use Rattle.wq_fixed.specs.Fixed.{Fixed, fixed_lanes};
-ghost use Rattle.wq_around.specs.Heights.{AreHeights, start_graph};
-ghost use Rattle.wq_around.specs.LongestChain.{IsBestChain};
+ghost use Rattle.wq_plan.specs.Plan.{least_of};
+ghost use Rattle.wq_around.specs.Down.{leads_on, doubts_by, AllLeadDown, AreDoubts, IsTop, IsFirstTop, IsFirstDown};
+ghost use Rattle.wq_around.specs.Down.{IsBestDown};
 
-use crate::heights::count_of;
+use crate::heights::{count_of, zeros};
 use std::alloc::{AllocError, Allocator};
 use wq_buckets::Buckets;
 use wq_graph::{WaitArc, WaitGraph};
@@ -28,24 +28,23 @@ fn is_end(heights: &[u16], new: u16, lane: u16) -> bool
     lane >= new && heights[usize::from(lane)] == 1
 }
 
-/// Whether a chain may follow an arc of a workqueue: from a new one to one whose height is less by one, and from a fixed
-/// one to one of the same height.
+/// Whether a chain may follow an arc of a workqueue: from a new one to one whose height is less by one, and from a
+/// fixed one to one of the same height.
 fn leads_on(heights: &[u16], new: u16, lane: u16, arc: &WaitArc) -> bool
     requires lane { lane < length heights.now }
     requires head { arc.now.head < length heights.now }
     requires few { All (λ n. n ≤ 4096) heights.now }
-    ensures { result ≡ (slice_index heights.now arc.now.head + (if nat_le new lane then 1 else 0)
-        == slice_index heights.now lane) }
+    ensures { result ≡ leads_on heights.now new lane arc.now }
 {
     heights[usize::from(arc.head)] + u16::from(lane >= new) == heights[usize::from(lane)]
 }
 
-/// With how few unsure flushes a chain leads on by way of an arc, where these are the numbers of all workqueues below.
+/// With how few unsure flushes a chain leads on by way of an arc, where `doubts` has these numbers of all workqueues
+/// below.
 fn doubts_by(unsure: &[bool], doubts: &[u16], arc: &WaitArc) -> u16
     requires head { arc.now.head < length doubts.now }
     requires few { slice_index doubts.now arc.now.head < 4096 }
-    ensures { result ≡ slice_index doubts.now arc.now.head
-        + (if slice_index_or unsure.now arc.now.place false then 1 else 0) }
+    ensures { result ≡ doubts_by (λ place. slice_index_or unsure.now place false) doubts.now arc.now }
 {
     let is_unsure = match unsure.get(arc.place as usize) {
         Some(is_unsure) => *is_unsure,
@@ -62,7 +61,15 @@ fn fewest_doubts(
     new: u16,
     lane: u16,
     arcs: &[WaitArc],
-) -> u16 {
+) -> u16
+    requires lane { lane < length heights.now }
+    requires one_each { length doubts.now ≡ length heights.now }
+    requires heads { All (λ (a : WaitArc). a.head < length heights.now) arcs.now }
+    requires heights { All (λ n. n ≤ 4096) heights.now }
+    requires few { All (λ n. n < 4096) doubts.now }
+    ensures { result ≡ least_of (map (doubts_by (λ place. slice_index_or unsure.now place false) doubts.now)
+        (filter (leads_on heights.now new lane) arcs.now)) }
+{
     let mut fewest = None;
     for arc in arcs {
         if leads_on(heights, new, lane, arc) {
@@ -76,7 +83,7 @@ fn fewest_doubts(
     fewest.unwrap_or(0)
 }
 
-/// For each workqueue with how few unsure flushes a chain leads on from it.
+/// For each workqueue with how few unsure flushes a chain leads on from it, where these are the ranks of the graph.
 fn all_doubts<A: Allocator + Copy>(
     alloc: A,
     graph: &WaitGraph<A>,
@@ -84,8 +91,18 @@ fn all_doubts<A: Allocator + Copy>(
     ranks: &[u16],
     heights: &[u16],
     new: u16,
-) -> Result<Vec<u16, A>, AllocError> {
-    let mut doubts = vec![in alloc; 0; ranks.len()]?;
+) -> Result<Vec<u16, A>, AllocError>
+    requires graph { IsGraph graph.now }
+    requires ranks { AreRanks graph.now ranks.now }
+    requires one_each { length heights.now ≡ length graph.now }
+    requires heights { All (λ n. n ≤ 4096) heights.now }
+    requires down { AllLeadDown graph.now new heights.now }
+    ensures doubts { IfOk result (λ doubts.
+        AreDoubts (λ place. slice_index_or unsure.now place false) graph.now new heights.now doubts.items) }
+    ensures few { IfOk result (λ doubts. All (λ n. n < 4096) doubts.items) }
+    ensures memory { OnErr result (0 < length graph.now) }
+{
+    let mut doubts = zeros(alloc, ranks.len())?;
     let levels = count_of(ranks);
     let by_rank = Buckets::new(alloc, ranks, levels)?;
     for rank in 0..levels {
@@ -101,9 +118,14 @@ fn all_doubts<A: Allocator + Copy>(
     Ok(doubts)
 }
 
-/// The new workqueue of the greatest height from which a chain leads on with the fewest unsure flushes, the first of
-/// these.
-fn first_of(doubts: &[u16], heights: &[u16], new: u16, most: u16) -> Option<u16> {
+/// The new workqueue of this height from which a chain leads on with the fewest unsure flushes, the first of these.
+fn first_of(doubts: &[u16], heights: &[u16], new: u16, most: u16) -> Option<u16>
+    requires one_each { length doubts.now ≡ length heights.now }
+    requires vertices { length heights.now ≤ 4096 }
+    requires few { All (λ n. n < 4096) doubts.now }
+    ensures some { IfSome result (IsFirstTop new heights.now most doubts.now) }
+    ensures none { IfNone result ((q : ℕ) → ¬ IsTop new heights.now most q) }
+{
     let mut first = None;
     let mut fewest = u16::MAX;
     for (lane, height) in heights.iter().enumerate() {
@@ -123,14 +145,23 @@ fn first_on<'g>(
     new: u16,
     lane: u16,
     arcs: &'g [WaitArc],
-) -> Option<&'g WaitArc> {
+) -> Option<&'g WaitArc>
+    requires lane { lane < length heights.now }
+    requires one_each { length doubts.now ≡ length heights.now }
+    requires heads { All (λ (a : WaitArc). a.head < length heights.now) arcs.now }
+    requires heights { All (λ n. n ≤ 4096) heights.now }
+    requires few { All (λ n. n < 4096) doubts.now }
+    ensures { option_copied result ≡ find (λ (a : WaitArc). leads_on heights.now new lane a
+        && (doubts_by (λ place. slice_index_or unsure.now place false) doubts.now a == slice_index doubts.now lane))
+        arcs.now }
+{
     let fewest = doubts[usize::from(lane)];
     arcs.iter().find(|arc| {
         leads_on(heights, new, lane, arc) && doubts_by(unsure, doubts, arc) == fewest
     })
 }
 
-/// The arcs of the chain from a workqueue on.
+/// The arcs of the chain from a workqueue on whose height is above 0.
 fn follow<A: Allocator + Copy>(
     alloc: A,
     graph: &WaitGraph<A>,
@@ -139,7 +170,18 @@ fn follow<A: Allocator + Copy>(
     heights: &[u16],
     new: u16,
     first: u16,
-) -> Result<Vec<WaitArc, A>, AllocError> {
+) -> Result<Vec<WaitArc, A>, AllocError>
+    requires graph { IsGraph graph.now }
+    requires ranked { (ranks : List ℕ) × AreRanks graph.now ranks }
+    requires one_each { length heights.now ≡ length graph.now }
+    requires heights { All (λ n. n ≤ 4096) heights.now }
+    requires doubts { AreDoubts (λ place. slice_index_or unsure.now place false) graph.now new heights.now doubts.now }
+    requires few { All (λ n. n < 4096) doubts.now }
+    requires first { 0 < slice_index heights.now first }
+    ensures chain { IfOk result (λ chain. IsFirstDown (λ place. slice_index_or unsure.now place false) graph.now new
+        heights.now doubts.now first chain.items) }
+    ensures memory { OnErr result (0 < length graph.now) }
+{
     let mut chain = Vec::new(alloc);
     let mut lane = first;
     // It is at most once at each workqueue.
@@ -157,8 +199,7 @@ fn follow<A: Allocator + Copy>(
     Ok(chain)
 }
 
-/// The arcs of the chain, where those workqueues are new whose numbers aren't below this one, and some is. The greatest
-/// height of a new one is `most`.
+/// The arcs of the chain from a new workqueue of height `most`, where those are new whose numbers aren't below `new`.
 pub(crate) fn best_chain<A: Allocator + Copy>(
     alloc: A,
     graph: &WaitGraph<A>,
@@ -168,6 +209,15 @@ pub(crate) fn best_chain<A: Allocator + Copy>(
     new: u16,
     most: u16,
 ) -> Result<Vec<WaitArc, A>, AllocError>
+    requires graph { IsGraph graph.now }
+    requires ranks { AreRanks graph.now ranks.now }
+    requires one_each { length heights.now ≡ length graph.now }
+    requires heights { All (λ n. n ≤ 4096) heights.now }
+    requires down { AllLeadDown graph.now new heights.now }
+    requires some { 0 < most }
+    requires top { (q : ℕ) × IsTop new heights.now most q }
+    ensures chain { IfOk result (λ chain. IsBestDown (λ place. slice_index_or unsure.now place false) graph.now new
+        heights.now most chain.items) }
     ensures memory { OnErr result (0 < length graph.now) }
 {
     let doubts = all_doubts(alloc, graph, unsure, ranks, heights, new)?;

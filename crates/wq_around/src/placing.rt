@@ -3,9 +3,11 @@
 //! The rule is that of "Planning around workqueues" in docs/FORMAT.md. It takes time and memory in the number of groups
 //! and workqueues.
 
-ghost use Rattle.std.specs.Prelude.{◌≡◌, ◌+◌, ◌<◌, ◌≤◌, length, slice_index, IfOk, OnErr};
-ghost use Rattle.wq_groups.specs.Declaration.{Declaration};
-ghost use Rattle.wq_fixed.specs.Fixed.{fixed_lanes, start};
+ghost use Rattle.std.specs.Prelude.{◌≡◌, ◌+◌, ◌<◌, ◌≤◌, ℕ, length, map, slice_index, IfOk};
+ghost use Rattle.std.specs.List.{All};
+ghost use Rattle.wq_fixed.specs.Fixed.{fixed_lanes, start as start_of};
+ghost use Rattle.wq_around.specs.Down.{IsTop};
+ghost use Rattle.wq_around.specs.Planned.{planned_lane, planned};
 
 use std::alloc::{AllocError, Allocator};
 use wq_core::Workqueues;
@@ -13,7 +15,10 @@ use wq_fixed::Fixed;
 use wq_groups::{Assignment, LaneId};
 
 /// The greatest height of a new workqueue of the start, where those from this number on are new; 0 where there is none.
-pub(crate) fn most_needed(heights: &[u16], new: u16) -> u16 {
+pub(crate) fn most_needed(heights: &[u16], new: u16) -> u16
+    ensures above { (q : ℕ) → new ≤ q → q < length heights.now → slice_index heights.now q ≤ result }
+    ensures some { 0 < result → (q : ℕ) × IsTop new heights.now result q }
+{
     let mut most = 0;
     for (lane, height) in heights.iter().enumerate() {
         if lane >= usize::from(new) {
@@ -24,7 +29,13 @@ pub(crate) fn most_needed(heights: &[u16], new: u16) -> u16 {
 }
 
 /// The workqueue of a group that is on this one in the start.
-fn planned_lane(heights: &[u16], new: u16, lane: u16) -> LaneId {
+fn planned_lane(heights: &[u16], new: u16, lane: u16) -> LaneId
+    requires lane { lane < length heights.now }
+    requires new { new ≤ 4096 }
+    requires few { All (λ n. n ≤ 4096) heights.now }
+    requires some { new ≤ lane → 0 < slice_index heights.now lane }
+    ensures { result ≡ planned_lane heights.now new lane }
+{
     if lane < new {
         LaneId::new(lane)
     } else {
@@ -38,7 +49,13 @@ fn planned_lanes<A: Allocator + Copy>(
     start: &[u16],
     heights: &[u16],
     new: u16,
-) -> Result<Vec<LaneId, A>, AllocError> {
+) -> Result<Vec<LaneId, A>, AllocError>
+    requires lanes { All (λ q. q < length heights.now) start.now }
+    requires new { new ≤ 4096 }
+    requires few { All (λ n. n ≤ 4096) heights.now }
+    requires some { (q : ℕ) → new ≤ q → q < length heights.now → 0 < slice_index heights.now q }
+    ensures { IfOk result (λ lanes. lanes.items ≡ map (planned_lane heights.now new) start.now) }
+{
     let mut lanes = Vec::with_capacity(alloc, start.len())?;
     for lane in start {
         lanes.push(planned_lane(heights, new, *lane))?;
@@ -54,9 +71,14 @@ pub(crate) fn place<A: Allocator + Copy>(
     heights: &[u16],
     most: u16,
 ) -> Result<Workqueues<A>, AllocError>
-    requires { start.now ≡ (start fixed.now).assignment }
+    requires start { start.now ≡ (start_of fixed.now).assignment }
+    requires one_each { length heights.now ≡ (start_of fixed.now).assignment.lanes }
+    requires few { All (λ n. n ≤ 4096) heights.now }
+    requires some { (q : ℕ) → fixed_lanes fixed.now ≤ q → q < length heights.now → 0 < slice_index heights.now q }
+    requires most { (q : ℕ) → fixed_lanes fixed.now ≤ q → q < length heights.now → slice_index heights.now q ≤ most }
+    requires lanes { fixed_lanes fixed.now + most ≤ 4096 }
+    ensures plan { IfOk result (λ ws. ws ≡ planned fixed.now heights.now most) }
     ensures assigned { IfOk result (λ ws. length ws.assignment.lane_of_group ≡ length start.now.lane_of_group) }
-    ensures bare { IfOk result (λ ws. ws.bare ≡ fixed.now.bare) }
 {
     let new = fixed.lanes();
     let start = start.lanes_of_groups(alloc)?;

@@ -1,8 +1,7 @@
 -- What an answer around fixed workqueues promises, in terms of the bytes that are printed.
-use Rattle.std.specs.Prelude.{◌≡◌, ◌⊎◌, ◌-◌, ◌<◌, ⊥, ℕ, List, [], ◌∷◌, codes, decimal, MatchResult, Ok}
+use Rattle.std.specs.Prelude.{◌≡◌, ◌⊎◌, ◌-◌, ◌<◌, ℕ, List, [], ◌∷◌, codes, decimal, length, MatchResult, Ok}
 use Rattle.wq_text.specs.LineText.{line_text}
 use Rattle.wq_groups.specs.Assignment.{item_lanes}
-use Rattle.wq_groups.specs.Declaration.{Declaration}
 use Rattle.wq_groups.specs.DeclaredGroups.{declared_waits, Declared}
 use Rattle.wq_core.specs.Workqueues.{Workqueues}
 use Rattle.wq_fixed.specs.Fixed.{Fixed, IsLeastAround, AllDeadlock, fixed_lanes}
@@ -46,17 +45,21 @@ KeepsAround declared text end out =
 
 -- ---- what a yes implies
 
--- the yes of a certificate: a plan with so many new workqueues, which is least around the fixed ones; or all workqueues
--- that keep these deadlock
+-- the yes of a certificate: to a plan `yes K`, where K is the number of its new workqueues; it is least around the
+-- fixed ones. To a circle `yes circle N`, where N is the number of its arcs, or to a flush to no rescuer
+-- `yes norescuer`; and all workqueues that keep the fixed ones deadlock
 abbrev pub YesHolds : Declared → Fixed → AroundCertificate → List ℕ → Type 0
 YesHolds s f (OfPlanAround c) out =
     IsLeastAround (declared_waits s) f (planned f c)
     × (out ≡ line_text (codes "yes" ∷ decimal (c.assignment.lanes - fixed_lanes f) ∷ []))
-YesHolds s f (OfCircleAround c) out = AllDeadlock (declared_waits s) f
-YesHolds s f (OfNoRescuer c) out = AllDeadlock (declared_waits s) f
+YesHolds s f (OfCircleAround c) out =
+    AllDeadlock (declared_waits s) f
+    × (out ≡ line_text (codes "yes" ∷ codes "circle" ∷ decimal (length c.arcs) ∷ []))
+YesHolds s f (OfNoRescuer c) out =
+    AllDeadlock (declared_waits s) f × (out ≡ line_text (codes "yes" ∷ codes "norescuer" ∷ []))
 
--- the texts are a declaration, a certificate and fixed workqueues, and the yes that is printed is true; where there is no
--- fixed workqueue, as without
+-- the texts are a declaration, a certificate and fixed workqueues, and the yes that is printed is true; where there is
+-- no fixed workqueue, as without
 abbrev pub YesIsTrueAround : List ℕ → List ℕ → List ℕ → List ℕ → Type 0
 YesIsTrueAround declared text fixed out =
     (s : Declared) × (declaration declared ≡ Ok s)

@@ -12,7 +12,9 @@ use Rattle.wq_commands.specs.declared.found.Found.{Found}
 use Rattle.wq_diagnosis.specs.Diagnosis.{IsDiagnosis}
 use Rattle.wq_diagnosis.specs.Refused.{NotesNoItem}
 use Rattle.wq_voice.specs.Reasons.{GivesReasonOn}
-use Rattle.wq_voice.specs.Voice.{SaysFound, SaysPlan}
+use Rattle.wq_voice.specs.Voice.{SaysCheck, SaysFound, SaysPlan}
+use Rattle.wq_around_command.specs.declared.checking.Checked.{Checked}
+use Rattle.wq_around_command.specs.declared.checking.Checked.TheVariants as checked
 use Rattle.wq_around_command.specs.declared.planning.Planned.{Planned}
 use Rattle.wq_around_command.specs.declared.planning.Planned.TheVariants as planned
 
@@ -38,12 +40,18 @@ SaysPlanAround first second third s texts found said =
 
 -- of an answer of the checker: its diagnosis, if it is a no
 abbrev pub SaysAnswerAround : List ℕ → List ℕ → Declared → Result YesAround NoAround → Option (List ℕ) → Type 0
-SaysAnswerAround first second s (Ok yes) said = NotesNoItem first s said
+SaysAnswerAround first second s (Ok _) said = NotesNoItem first s said
 SaysAnswerAround first second s (Err why) said =
     (text : List ℕ) × (said ≡ Some text) × IsDiagnosis second (codes "no") (no_around_code why) 0 text
 
--- the same of what was found, or of the text that is refused
-abbrev pub SaysCheckAround : List ℕ → List ℕ → List ℕ → Declared → Found (Result YesAround NoAround)
-    → Option (List ℕ) → Type 0
-SaysCheckAround first second third s found said =
+-- of what `check` found behind the fixed workqueues, or of the certificate that is refused; where there is no fixed
+-- workqueue, what is said without
+abbrev pub SaysChecked : List ℕ → List ℕ → List ℕ → Declared → Given → Checked → Option (List ℕ) → Type 0
+SaysChecked first second third s texts (checked.Plain found) said = SaysCheck first second third s texts found said
+SaysChecked first second third s texts (checked.Around found) said =
     SaysFound second third (λ answer said. SaysAnswerAround first second s answer said) found said
+
+-- the same of all that was found, or of the fixed workqueues that are refused
+abbrev pub SaysCheckAround : List ℕ → List ℕ → List ℕ → Declared → Given → Found Checked → Option (List ℕ) → Type 0
+SaysCheckAround first second third s texts found said =
+    SaysFound second third (λ c said. SaysChecked first second third s texts c said) found said

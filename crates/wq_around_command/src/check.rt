@@ -1,11 +1,10 @@
-//! The command `check` around fixed workqueues: from what is declared and the bytes of a certificate and of these to the
-//! bytes of the checker's answer.
+//! The command `check` around fixed workqueues: from what is declared and the bytes of a certificate and of these to
+//! the bytes of the checker's answer.
 //!
 //! The answer is built in full before its first byte is written.
 
-use crate::checking::check_texts;
+use crate::checking::{Checked, check_texts};
 use std::alloc::{AllocError, Allocator};
-use wq_checker::{NoAround, YesAround};
 use wq_commands::{Answered, Command, Finds, Found, THREE_TEXTS};
 use wq_groups::Declaration;
 use wq_meter::{Limits, Texts};
@@ -18,7 +17,7 @@ impl<A: Allocator + Copy> Finds<A> for CheckAroundCommand {
     ghost use Rattle.wq_commands.specs.Commands.{three_texts};
     ghost use Rattle.wq_around_command.specs.Checking.{ChecksTexts};
 
-    type Found = Found<Result<YesAround, NoAround>>;
+    type Found = Found<Checked>;
 
     ghost limits = { λ _. three_texts };
 
@@ -35,7 +34,7 @@ impl<A: Allocator + Copy> Command<A> for CheckAroundCommand {
         alloc: A,
         declared: &Declaration<'_, A>,
         texts: &Texts<A>,
-    ) -> Result<Answered<A, Found<Result<YesAround, NoAround>>>, AllocError> {
+    ) -> Result<Answered<A, Found<Checked>>, AllocError> {
         check_texts(alloc, declared, texts)
     }
 }

@@ -2,9 +2,16 @@
 //!
 //! It takes the time and the memory of reading the texts and of checking.
 
-ghost use Rattle.std.specs.Prelude.{◌≡◌, length, IfOk};
+ghost use Rattle.std.specs.Prelude.{◌≡◌, length, IfErr, IfOk};
 ghost use Rattle.wq_text.specs.LineText.{line_text};
-ghost use Rattle.wq_around_command.specs.Checking.{ChecksTexts, PrintsCheckAround, yes_around_words, no_around_words};
+ghost use Rattle.wq_groups.specs.DeclaredGroups.{declared_waits};
+ghost use Rattle.wq_fixed.specs.Fixed.{IsFixed};
+ghost use Rattle.wq_cert.specs.AroundReading.{around_certificate, around_of_text};
+ghost use Rattle.wq_checker.specs.Around.{IsAroundAsked};
+ghost use Rattle.wq_commands.specs.Found.{AnswersIn};
+ghost use Rattle.wq_commands.specs.declared.found.Which.TheVariants.{Certificate as SecondText};
+ghost use Rattle.wq_around_command.specs.Checking.{ChecksOn, ChecksTexts, FindsCheckAround, NamesItemsAround};
+ghost use Rattle.wq_around_command.specs.Checking.{PrintsCheckAround, no_around_words, yes_around_words};
 
 use std::alloc::{AllocError, Allocator};
 use wq_cert::{AroundAnswer, read_around, read_fixed};
@@ -15,6 +22,15 @@ use wq_fixed::{Fixed, start};
 use wq_groups::Declaration;
 use wq_items::ItemTable;
 use wq_text::{put, put_end, put_number};
+
+/// What `check` finds behind fixed workqueues that are read.
+#[derive(Drop)]
+pub enum Checked {
+    /// There is none of these: what it finds without them.
+    Plain(Found<Result<Yes, No>>),
+    /// The checker's answer around them, unless the certificate is refused.
+    Around(Found<Result<YesAround, NoAround>>),
+}
 
 /// The line of a yes.
 fn yes_around_line<A: Allocator + Copy>(alloc: A, yes: YesAround) -> Result<Vec<u8, A>, AllocError>
@@ -37,6 +53,7 @@ fn no_around_line<A: Allocator + Copy>(
     table: &ItemTable<'_, A>,
     no: &NoAround,
 ) -> Result<Vec<u8, A>, AllocError>
+    requires { NamesItemsAround table.now.names no.now }
     ensures { IfOk result (λ text. text.items ≡ line_text (no_around_words table.now.names no.now)) }
 {
     match no {
@@ -57,6 +74,7 @@ fn print_check<A: Allocator + Copy>(
     table: &ItemTable<'_, A>,
     answer: &Result<YesAround, NoAround>,
 ) -> Result<(End, Vec<u8, A>), AllocError>
+    requires { IfErr answer.now (NamesItemsAround table.now.names) }
     ensures { IfOk result (λ printed. PrintsCheckAround table.now.names answer.now printed.0 printed.1.items) }
 {
     match answer {
@@ -77,11 +95,16 @@ fn check_claim<A: Allocator + Copy>(
     declared: &Declaration<'_, A>,
     fixed: &Fixed<A>,
     claim: &AroundAnswer<A>,
-) -> Result<Answered<A, Found<Result<YesAround, NoAround>>>, AllocError> {
+) -> Result<Answered<A, Found<Result<YesAround, NoAround>>>, AllocError>
+    requires fixed { IsFixed declared.now.partition.groups fixed.now }
+    requires asked { IsAroundAsked (declared_waits declared.now) fixed.now (around_certificate claim.now) }
+    ensures { IfOk result (λ a.
+        FindsCheckAround declared.now fixed.now (around_certificate claim.now) a.found a.end a.text.items) }
+{
     let workqueues = start(alloc, fixed)?;
     let assigned = Assigned::new(declared, &workqueues);
     let answer = check_around(alloc, &assigned, fixed, claim)?;
-    let (end, text) = print_check(alloc, &declared.table, &answer)?;
+    let (end, text) = print_check(alloc, assigned.table(), &answer)?;
     Ok(Answered {
         found: Found::Read(answer),
         end,
@@ -89,40 +112,54 @@ fn check_claim<A: Allocator + Copy>(
     })
 }
 
-/// The answer to a certificate around these workqueues, of which there is one at least.
+/// The answer to the text of a certificate around these workqueues.
 fn check_fixed<A: Allocator + Copy>(
     alloc: A,
     declared: &Declaration<'_, A>,
-    texts: &Texts<A>,
+    text: &[u8],
     fixed: &Fixed<A>,
-) -> Result<Answered<A, Found<Result<YesAround, NoAround>>>, AllocError> {
-    let Declaration { table, groups } = declared;
-    match read_around(alloc, texts.second(), table, groups, fixed) {
-        Ok(claim) => check_claim(alloc, declared, fixed, &claim),
+) -> Result<Answered<A, Found<Result<YesAround, NoAround>>>, AllocError>
+    requires { IsFixed declared.now.partition.groups fixed.now }
+    ensures { IfOk result (λ a. AnswersIn SecondText
+        (around_of_text declared.now.table.names declared.now.partition fixed.now text.now)
+        (λ c. FindsCheckAround declared.now fixed.now c) a.found a.end a.text.items) }
+{
+    match read_around(alloc, text, &declared.table, &declared.groups, fixed) {
+        Ok(claim) => {
+            let answer = check_claim(alloc, declared, fixed, &claim);
+            // Written as a call, so that the proof has one step for it.
+            drop(claim);
+            answer
+        }
         Err(fault) => Answered::unread(alloc, Which::Certificate, fault),
     }
 }
 
-/// An answer of the checker as one around fixed workqueues.
-fn plain(answer: Result<Yes, No>) -> Result<YesAround, NoAround> {
-    match answer {
-        Ok(yes) => Ok(YesAround::Plain(yes)),
-        Err(no) => Err(NoAround::Plain(no)),
-    }
-}
-
-/// The answer where there is no fixed workqueue.
-fn check_plain<A: Allocator + Copy>(
+/// The answer to a certificate around these workqueues. If there is none, it is that without them.
+fn check_behind<A: Allocator + Copy>(
     alloc: A,
     declared: &Declaration<'_, A>,
     texts: &Texts<A>,
-) -> Result<Answered<A, Found<Result<YesAround, NoAround>>>, AllocError> {
-    let Answered { found, end, text } = CheckCommand.answer(alloc, declared, texts)?;
-    let found = match found {
-        Found::Refused { which, code, line } => Found::Refused { which, code, line },
-        Found::Read(answer) => Found::Read(plain(answer)),
-    };
-    Ok(Answered { found, end, text })
+    fixed: &Fixed<A>,
+) -> Result<Answered<A, Found<Checked>>, AllocError>
+    requires { length fixed.now.lane_of_group ≡ declared.now.partition.groups }
+    ensures { IfOk result (λ a. ChecksOn declared.now fixed.now texts.now.second a.found a.end a.text.items) }
+{
+    if fixed.lanes() == 0 {
+        let Answered { found, end, text } = CheckCommand.answer(alloc, declared, texts)?;
+        Ok(Answered {
+            found: Found::Read(Checked::Plain(found)),
+            end,
+            text,
+        })
+    } else {
+        let Answered { found, end, text } = check_fixed(alloc, declared, texts.second(), fixed)?;
+        Ok(Answered {
+            found: Found::Read(Checked::Around(found)),
+            end,
+            text,
+        })
+    }
 }
 
 /// The answer to a declaration, the text of a certificate, and that of fixed workqueues, which is judged first.
@@ -130,17 +167,16 @@ pub(crate) fn check_texts<A: Allocator + Copy>(
     alloc: A,
     declared: &Declaration<'_, A>,
     texts: &Texts<A>,
-) -> Result<Answered<A, Found<Result<YesAround, NoAround>>>, AllocError>
+) -> Result<Answered<A, Found<Checked>>, AllocError>
     ensures { IfOk result (λ a.
         ChecksTexts declared.now texts.now.second texts.now.third a.found a.end a.text.items) }
 {
     match read_fixed(alloc, texts.third(), &declared.table, &declared.groups) {
         Ok(fixed) => {
-            if fixed.lanes() == 0 {
-                check_plain(alloc, declared, texts)
-            } else {
-                check_fixed(alloc, declared, texts, &fixed)
-            }
+            let answer = check_behind(alloc, declared, texts, &fixed);
+            // Written as a call, so that the proof has one step for it.
+            drop(fixed);
+            answer
         }
         Err(fault) => Answered::unread(alloc, Which::Run, fault),
     }

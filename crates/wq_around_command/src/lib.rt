@@ -7,10 +7,12 @@
 
 mod check;
 mod checking;
+pub mod laws;
 mod plan;
 mod planning;
 mod saying;
 
 pub use check::CheckAroundCommand;
+pub use checking::Checked;
 pub use plan::PlanAroundCommand;
 pub use planning::Planned;

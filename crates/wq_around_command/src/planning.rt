@@ -1,14 +1,21 @@
 //! The answer to a declaration and fixed workqueues, built in full in memory.
 //!
-//! It takes the time and the memory of reading both texts, of the plan, and, where there is none, of the deadlocking run
-//! of the start.
+//! It takes the time and the memory of reading both texts, of the plan, and, where there is none, of the deadlocking
+//! run of the start.
 
-ghost use Rattle.std.specs.Prelude.{◌≡◌, ◌<◌, ◌≤◌, length, IfOk};
+ghost use Rattle.std.specs.Prelude.{◌≡◌, IfOk, List, Some, length, map};
+ghost use Rattle.wq_groups.specs.Assignment.{item_lanes};
 ghost use Rattle.wq_groups.specs.DeclaredGroups.{declared_waits};
+ghost use Rattle.wq_core.specs.declared.step.Step.{Step};
+ghost use Rattle.wq_core.specs.Deadlock.{IsSafe};
+ghost use Rattle.wq_core.specs.Workqueues.{wiring_of};
 ghost use Rattle.wq_deadlock.specs.Judging.{IsHang};
-ghost use Rattle.wq_fixed.specs.Fixed.{start, fixed_lanes};
-ghost use Rattle.wq_around.specs.Around.{PlansAround};
-ghost use Rattle.wq_around_command.specs.Planning.{PlansText, FindsPlanned, PrintsAround};
+ghost use Rattle.wq_fixed.specs.Fixed.{Fixed as FixedView, IsFixed, fixed_lanes, start as start_of};
+ghost use Rattle.wq_cert.specs.AroundText.{around_text, norescuer_text};
+ghost use Rattle.wq_cert.specs.CircleText.{circle_text};
+ghost use Rattle.wq_around.specs.Around.{IsCircledAround, IsHeldByNone, IsPlannedAround, PlansAround};
+ghost use Rattle.wq_commands.specs.Answer.{ends_of};
+ghost use Rattle.wq_around_command.specs.Planning.{FindsAround, FindsPlanned, PlansText, PrintsAround};
 
 use std::alloc::{AllocError, Allocator};
 use wq_around::{Around, plan_around};
@@ -37,7 +44,13 @@ fn text_of_plan<A: Allocator + Copy>(
     workqueues: &Workqueues<A>,
     order: &[LaneId],
     chain: &[WaitArc],
-) -> Result<Vec<u8, A>, AllocError> {
+) -> Result<Vec<u8, A>, AllocError>
+    requires fixed { IsFixed declared.now.partition.groups fixed.now }
+    requires planned { IsPlannedAround (declared_waits declared.now) fixed.now workqueues.now order.now chain.now }
+    ensures { IfOk result (λ text. text.items ≡ around_text declared.now.table.names (fixed_lanes fixed.now)
+        workqueues.now.assignment.lanes (item_lanes workqueues.now.assignment declared.now.partition.group_of)
+        order.now (map ends_of chain.now)) }
+{
     let Declaration { table, groups } = declared;
     let chain = ends_of(alloc, chain)?;
     around_text(
@@ -55,11 +68,49 @@ fn text_of_plan<A: Allocator + Copy>(
 fn run_of_start<A: Allocator + Copy>(
     alloc: A,
     start: &Assigned<'_, '_, A>,
-) -> Result<Vec<Step, A>, AllocError> {
+) -> Result<Vec<Step, A>, AllocError>
+    requires { ¬ IsSafe (wiring_of (declared_waits start.now.declared) start.now.workqueues) }
+    ensures { IfOk result (λ steps. IsHang (declared_waits start.now.declared) start.now.workqueues steps.items) }
+{
     match judge(alloc, start)? {
         Judged::Deadlock(steps) => Ok(steps),
         Judged::Safe => Ok(Vec::new(alloc)),
     }
+}
+
+/// The text of this circle, in which workqueues of the start wait, with the deadlocking run of the start.
+fn circle_of_start<A: Allocator + Copy>(
+    alloc: A,
+    start: &Assigned<'_, '_, A>,
+    arcs: &[WaitArc],
+) -> Result<Vec<u8, A>, AllocError>
+    requires { (f : FixedView) × IsFixed start.now.declared.partition.groups f × (start.now.workqueues ≡ start_of f)
+        × IsCircledAround (declared_waits start.now.declared) f arcs.now }
+    ensures { IfOk result (λ text. (steps : List Step)
+        × IsHang (declared_waits start.now.declared) start.now.workqueues steps
+        × (text.items ≡ circle_text start.now.declared.table.names (map ends_of arcs.now) (Some steps))) }
+{
+    let table = start.table();
+    let ends = ends_of(alloc, arcs)?;
+    let steps = run_of_start(alloc, start)?;
+    circle_text(alloc, table, &ends, Some(steps.as_slice()))
+}
+
+/// The text of this flush, which leads in the start to no rescuer, with the deadlocking run of the start.
+fn norescuer_of_start<A: Allocator + Copy>(
+    alloc: A,
+    start: &Assigned<'_, '_, A>,
+    arc: &WaitArc,
+) -> Result<Vec<u8, A>, AllocError>
+    requires { (f : FixedView) × IsFixed start.now.declared.partition.groups f × (start.now.workqueues ≡ start_of f)
+        × IsHeldByNone (declared_waits start.now.declared) f arc.now }
+    ensures { IfOk result (λ text. (steps : List Step)
+        × IsHang (declared_waits start.now.declared) start.now.workqueues steps
+        × (text.items ≡ norescuer_text start.now.declared.table.names (ends_of arc.now) steps)) }
+{
+    let table = start.table();
+    let steps = run_of_start(alloc, start)?;
+    norescuer_text(alloc, table, (arc.src, arc.dst), &steps)
 }
 
 /// How `plan` ends with this answer, and what is printed.
@@ -69,7 +120,8 @@ fn print_around<A: Allocator + Copy>(
     fixed: &Fixed<A>,
     around: &Around<A>,
 ) -> Result<(End, Vec<u8, A>), AllocError>
-    requires start { start.now.workqueues ≡ start fixed.now }
+    requires fixed { IsFixed start.now.declared.partition.groups fixed.now }
+    requires start { start.now.workqueues ≡ start_of fixed.now }
     requires plans { PlansAround (declared_waits start.now.declared) fixed.now around.now }
     ensures { IfOk result (λ printed.
         PrintsAround start.now.declared fixed.now around.now printed.0 printed.1.items) }
@@ -84,26 +136,24 @@ fn print_around<A: Allocator + Copy>(
             Ok((End::Good, text))
         }
         Around::Circle { arcs } => {
-            let ends = ends_of(alloc, arcs)?;
-            let steps = run_of_start(alloc, start)?;
-            let text = circle_text(alloc, start.table(), &ends, Some(steps.as_slice()))?;
+            let text = circle_of_start(alloc, start, arcs.as_slice())?;
             Ok((End::Bad, text))
         }
         Around::NoRescuer { arc } => {
-            let steps = run_of_start(alloc, start)?;
-            let text = norescuer_text(alloc, start.table(), (arc.src, arc.dst), &steps)?;
+            let text = norescuer_of_start(alloc, start, arc)?;
             Ok((End::Bad, text))
         }
     }
 }
 
-/// The answer to a declaration around these workqueues, of which there is one at least.
+/// The answer to a declaration around these workqueues.
 fn plan_fixed<A: Allocator + Copy>(
     alloc: A,
     declared: &Declaration<'_, A>,
     fixed: &Fixed<A>,
 ) -> Result<Answered<A, Found<Planned<A>>>, AllocError>
-    requires { length fixed.now.lane_of_group ≡ declared.now.partition.groups }
+    requires { IsFixed declared.now.partition.groups fixed.now }
+    ensures { IfOk result (λ a. FindsAround declared.now fixed.now a.found a.end a.text.items) }
 {
     let workqueues = start(alloc, fixed)?;
     let assigned = Assigned::new(declared, &workqueues);
@@ -116,18 +166,26 @@ fn plan_fixed<A: Allocator + Copy>(
     })
 }
 
-/// The answer where there is no fixed workqueue.
-fn plan_plain<A: Allocator + Copy>(
+/// The answer to a declaration and these workqueues. If there is none, it is that without them.
+fn plan_behind<A: Allocator + Copy>(
     alloc: A,
     declared: &Declaration<'_, A>,
     texts: &Texts<A>,
-) -> Result<Answered<A, Found<Planned<A>>>, AllocError> {
-    let Answered { found, end, text } = PlanCommand.answer(alloc, declared, texts)?;
-    Ok(Answered {
-        found: Found::Read(Planned::Plain(found)),
-        end,
-        text,
-    })
+    fixed: &Fixed<A>,
+) -> Result<Answered<A, Found<Planned<A>>>, AllocError>
+    requires { length fixed.now.lane_of_group ≡ declared.now.partition.groups }
+    ensures { IfOk result (λ a. FindsPlanned declared.now fixed.now a.found a.end a.text.items) }
+{
+    if fixed.lanes() == 0 {
+        let Answered { found, end, text } = PlanCommand.answer(alloc, declared, texts)?;
+        Ok(Answered {
+            found: Found::Read(Planned::Plain(found)),
+            end,
+            text,
+        })
+    } else {
+        plan_fixed(alloc, declared, fixed)
+    }
 }
 
 /// The answer to a declaration and the text of fixed workqueues.
@@ -140,11 +198,10 @@ pub(crate) fn plan_text<A: Allocator + Copy>(
 {
     match read_fixed(alloc, texts.second(), &declared.table, &declared.groups) {
         Ok(fixed) => {
-            if fixed.lanes() == 0 {
-                plan_plain(alloc, declared, texts)
-            } else {
-                plan_fixed(alloc, declared, &fixed)
-            }
+            let answer = plan_behind(alloc, declared, texts, &fixed);
+            // Written as a call, so that the proof has one step for it.
+            drop(fixed);
+            answer
         }
         Err(fault) => Answered::unread(alloc, Which::Certificate, fault),
     }

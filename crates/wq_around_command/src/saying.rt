@@ -1,19 +1,29 @@
 //! What is said beside the answers of `plan` and `check` around fixed workqueues.
 //!
 //! Beside a circle or a flush to no rescuer: how the workqueues of the start hang soonest. A text that is refused and a
-//! `no` have a diagnosis. A call takes the time and the memory of the words and, where the start hangs, of the search
-//! for a shortest run.
+//! `no` have a diagnosis. Where there is no fixed workqueue, all is said as without them. A call takes the time and the
+//! memory of the words and, where the start hangs, of the search for a shortest run.
 
-ghost use Rattle.std.specs.Prelude.{◌≡◌, IfOk, length, option_map};
-ghost use Rattle.wq_around_command.specs.Saying.{SaysPlanAround, SaysCheckAround, SaysStart};
+ghost use Rattle.std.specs.Prelude.{◌≡◌, ℕ, IfOk, List, None, Some, length, option_map};
+ghost use Rattle.wq_text.specs.Limits.{limit_fault};
+ghost use Rattle.wq_cert.specs.Texts.{max_certificate, max_certificate_line};
+ghost use Rattle.wq_commands.specs.declared.end.End.{End};
+ghost use Rattle.wq_commands.specs.declared.found.Found.TheVariants.{Read};
+ghost use Rattle.wq_diagnosis.specs.Refused.{Diagnoses};
+ghost use Rattle.wq_voice.specs.Voice.{SaysFound, SaysRefused};
+ghost use Rattle.wq_around_command.specs.Checking.{ChecksTexts};
+ghost use Rattle.wq_around_command.specs.Planning.{PlansText};
+ghost use Rattle.wq_around_command.specs.Saying.{SaysAnswerAround, SaysAround, SaysCheckAround, SaysChecked};
+ghost use Rattle.wq_around_command.specs.Saying.{SaysPlanAround, SaysPlanned, SaysStart};
 
 use crate::check::CheckAroundCommand;
+use crate::checking::Checked;
 use crate::plan::PlanAroundCommand;
 use crate::planning::Planned;
 use std::alloc::{AllocError, Allocator};
 use wq_around::Around;
 use wq_checker::{NoAround, YesAround};
-use wq_commands::{Found, PlanCommand, Texts, Voice, Which};
+use wq_commands::{CheckCommand, Found, PlanCommand, Texts, Voice, Which};
 use wq_core::{Assigned, Workqueues};
 use wq_diagnosis::{Source, of_lack_around, of_no_item, of_refused_around, of_refused_fixed};
 use wq_groups::Declaration;
@@ -28,7 +38,8 @@ fn say_start<'a, A: Allocator + Copy>(
     texts: &'a Texts<A>,
     start: &Workqueues<A>,
 ) -> Result<Option<Vec<u8, A>>, AllocError>
-    requires { length start.now.assignment.lane_of_group ≡ declared.now.partition.groups }
+    requires read { limit_fault max_certificate max_certificate_line texts.now.second ≡ None }
+    requires groups { length start.now.assignment.lane_of_group ≡ declared.now.partition.groups }
     ensures { IfOk result (λ said. SaysStart names.now.declaration.now texts.now.second declared.now start.now
         (option_map (λ text. text.items) said)) }
 {
@@ -63,7 +74,10 @@ fn say_around<'a, A: Allocator + Copy>(
     start: &Workqueues<A>,
     around: &Around<A>,
 ) -> Result<Option<Vec<u8, A>>, AllocError>
-    requires { length start.now.assignment.lane_of_group ≡ declared.now.partition.groups }
+    requires read { limit_fault max_certificate max_certificate_line texts.now.second ≡ None }
+    requires groups { length start.now.assignment.lane_of_group ≡ declared.now.partition.groups }
+    ensures { IfOk result (λ said. SaysAround names.now.declaration.now texts.now.second declared.now start.now
+        around.now (option_map (λ text. text.items) said)) }
 {
     match around {
         Around::Plan { .. } => of_no_item(alloc, declared, names.declaration),
@@ -73,21 +87,64 @@ fn say_around<'a, A: Allocator + Copy>(
     }
 }
 
-/// Says that the fixed workqueues behind a declaration are refused.
+/// Says that the fixed workqueues in this file, which has this text, are refused.
 fn say_refused_fixed<A: Allocator + Copy>(
     alloc: A,
+    declared: &Declaration<'_, A>,
+    declaration: &[u8],
+    fixed: Source<'_>,
+    code: u32,
+    line: u32,
+) -> Result<Option<Vec<u8, A>>, AllocError>
+    ensures { IfOk result (λ said. Diagnoses fixed.entry.file.now (Some (record { code = code; line = line }))
+        (option_map (λ text. text.items) said)) }
+{
+    let said = of_refused_fixed(alloc, declared, declaration, fixed, code, line)?;
+    Ok(Some(said))
+}
+
+/// What is said of what `plan` found behind fixed workqueues that are read.
+fn say_planned<A: Allocator + Copy>(
+    alloc: A,
+    seed: u64,
     names: &FileNames<'_>,
     declared: &Declaration<'_, A>,
     texts: &Texts<A>,
-    code: u32,
-    line: u32,
-) -> Result<Option<Vec<u8, A>>, AllocError> {
-    let fixed = Source {
-        file: names.second,
-        text: texts.second(),
-    };
-    let said = of_refused_fixed(alloc, declared, texts.first(), fixed, code, line)?;
-    Ok(Some(said))
+    planned: &Planned<A>,
+) -> Result<Option<Vec<u8, A>>, AllocError>
+    requires { (end : End) × (out : List ℕ) × PlansText declared.now texts.now.second (Read planned.now) end out }
+    ensures { IfOk result (λ said. SaysPlanned names.now.declaration.now texts.now.second declared.now planned.now
+        (option_map (λ text. text.items) said)) }
+{
+    match planned {
+        Planned::Plain(end) => names.say(alloc, seed, &PlanCommand, declared, texts, end),
+        Planned::Around(start, around) => say_around(alloc, names, declared, texts, start, around),
+    }
+}
+
+/// What is said of what `plan` found.
+fn say_plan<A: Allocator + Copy>(
+    alloc: A,
+    seed: u64,
+    names: &FileNames<'_>,
+    declared: &Declaration<'_, A>,
+    texts: &Texts<A>,
+    found: &Found<Planned<A>>,
+) -> Result<Option<Vec<u8, A>>, AllocError>
+    requires { (end : End) × (out : List ℕ) × PlansText declared.now texts.now.second found.now end out }
+    ensures { IfOk result (λ said. SaysPlanAround names.now.declaration.now names.now.second.now names.now.run.now
+        declared.now texts.now found.now (option_map (λ text. text.items) said)) }
+{
+    match found {
+        Found::Refused { code, line, .. } => {
+            let fixed = Source {
+                file: names.second,
+                text: texts.second(),
+            };
+            say_refused_fixed(alloc, declared, texts.first(), fixed, *code, *line)
+        }
+        Found::Read(planned) => say_planned(alloc, seed, names, declared, texts, planned),
+    }
 }
 
 impl<A: Allocator + Copy> Voice<PlanAroundCommand, A> for FileNames<'_> {
@@ -105,46 +162,26 @@ impl<A: Allocator + Copy> Voice<PlanAroundCommand, A> for FileNames<'_> {
         texts: &Texts<A>,
         found: &Found<Planned<A>>,
     ) -> Result<Option<Vec<u8, A>>, AllocError> {
-        match found {
-            Found::Refused { code, line, .. } => {
-                say_refused_fixed(alloc, self, declared, texts, *code, *line)
-            }
-            Found::Read(Planned::Plain(end)) => {
-                self.say(alloc, seed, &PlanCommand, declared, texts, end)
-            }
-            Found::Read(Planned::Around(start, around)) => {
-                say_around(alloc, self, declared, texts, start, around)
-            }
-        }
+        say_plan(alloc, seed, self, declared, texts, found)
     }
 }
 
-/// Says that a certificate is refused, or the fixed workqueues behind it.
-fn say_refused<A: Allocator + Copy>(
+/// Says that a certificate around fixed workqueues is refused.
+fn say_refused_around<A: Allocator + Copy>(
     alloc: A,
     names: &FileNames<'_>,
-    declared: &Declaration<'_, A>,
     texts: &Texts<A>,
-    which: Which,
     code: u32,
     line: u32,
-) -> Result<Option<Vec<u8, A>>, AllocError> {
-    let said = match which {
-        Which::Certificate => {
-            let certificate = Source {
-                file: names.second,
-                text: texts.second(),
-            };
-            of_refused_around(alloc, certificate, code, line)?
-        }
-        Which::Run => {
-            let fixed = Source {
-                file: names.run,
-                text: texts.third(),
-            };
-            of_refused_fixed(alloc, declared, texts.first(), fixed, code, line)?
-        }
+) -> Result<Option<Vec<u8, A>>, AllocError>
+    ensures { IfOk result (λ said. Diagnoses names.now.second.now (Some (record { code = code; line = line }))
+        (option_map (λ text. text.items) said)) }
+{
+    let certificate = Source {
+        file: names.second,
+        text: texts.second(),
     };
+    let said = of_refused_around(alloc, certificate, code, line)?;
     Ok(Some(said))
 }
 
@@ -155,7 +192,10 @@ fn say_answer<A: Allocator + Copy>(
     declared: &Declaration<'_, A>,
     texts: &Texts<A>,
     answer: &Result<YesAround, NoAround>,
-) -> Result<Option<Vec<u8, A>>, AllocError> {
+) -> Result<Option<Vec<u8, A>>, AllocError>
+    ensures { IfOk result (λ said. SaysAnswerAround names.now.declaration.now names.now.second.now declared.now
+        answer.now (option_map (λ text. text.items) said)) }
+{
     match answer {
         Ok(_) => of_no_item(alloc, declared, names.declaration),
         Err(no) => {
@@ -169,26 +209,70 @@ fn say_answer<A: Allocator + Copy>(
     }
 }
 
+/// What is said of what `check` found behind fixed workqueues that are read.
+fn say_checked<A: Allocator + Copy>(
+    alloc: A,
+    seed: u64,
+    names: &FileNames<'_>,
+    declared: &Declaration<'_, A>,
+    texts: &Texts<A>,
+    checked: &Checked,
+) -> Result<Option<Vec<u8, A>>, AllocError>
+    requires { (end : End) × (out : List ℕ)
+        × ChecksTexts declared.now texts.now.second texts.now.third (Read checked.now) end out }
+    ensures { IfOk result (λ said. SaysChecked names.now.declaration.now names.now.second.now names.now.run.now
+        declared.now texts.now checked.now (option_map (λ text. text.items) said)) }
+{
+    match checked {
+        Checked::Plain(found) => names.say(alloc, seed, &CheckCommand, declared, texts, found),
+        Checked::Around(Found::Refused { code, line, .. }) => {
+            say_refused_around(alloc, names, texts, *code, *line)
+        }
+        Checked::Around(Found::Read(answer)) => say_answer(alloc, names, declared, texts, answer),
+    }
+}
+
+/// What is said of what `check` found.
+fn say_check<A: Allocator + Copy>(
+    alloc: A,
+    seed: u64,
+    names: &FileNames<'_>,
+    declared: &Declaration<'_, A>,
+    texts: &Texts<A>,
+    found: &Found<Checked>,
+) -> Result<Option<Vec<u8, A>>, AllocError>
+    requires { (end : End) × (out : List ℕ)
+        × ChecksTexts declared.now texts.now.second texts.now.third found.now end out }
+    ensures { IfOk result (λ said. SaysCheckAround names.now.declaration.now names.now.second.now names.now.run.now
+        declared.now texts.now found.now (option_map (λ text. text.items) said)) }
+{
+    match found {
+        Found::Refused { code, line, .. } => {
+            let fixed = Source {
+                file: names.run,
+                text: texts.third(),
+            };
+            say_refused_fixed(alloc, declared, texts.first(), fixed, *code, *line)
+        }
+        Found::Read(checked) => say_checked(alloc, seed, names, declared, texts, checked),
+    }
+}
+
 impl<A: Allocator + Copy> Voice<CheckAroundCommand, A> for FileNames<'_> {
     ghost use Rattle.wq_around_command.specs.Saying.{SaysCheckAround};
 
     ghost says = { λ names _ s texts found said.
-        SaysCheckAround names.declaration.now names.second.now names.run.now s found said };
+        SaysCheckAround names.declaration.now names.second.now names.run.now s texts found said };
 
     fn say(
         &self,
         alloc: A,
-        _seed: u64,
+        seed: u64,
         _command: &CheckAroundCommand,
         declared: &Declaration<'_, A>,
         texts: &Texts<A>,
-        found: &Found<Result<YesAround, NoAround>>,
+        found: &Found<Checked>,
     ) -> Result<Option<Vec<u8, A>>, AllocError> {
-        match found {
-            Found::Refused { which, code, line } => {
-                say_refused(alloc, self, declared, texts, *which, *code, *line)
-            }
-            Found::Read(answer) => say_answer(alloc, self, declared, texts, answer),
-        }
+        say_check(alloc, seed, self, declared, texts, found)
     }
 }

@@ -41,6 +41,13 @@ contains_piece {X} xs from to x le there =
         (take-take from (from + (to - from)) xs (omega arith))
         ∙ ap (λ (l : List X). take from xs ++ l) (drop-take from (to - from) xs)
 
+-- an element of a list is in its front, or behind that
+pub contains_parts : {X : Type 0} (xs : List X) (n : ℕ) (x : X) → Contains xs x
+    → Contains (take n xs) x ⊎ Contains (drop n xs) x
+contains_parts {X} xs n x there =
+    Contains-append_cases (take n xs) (drop n xs) x
+    (subst (λ (l : List X). Contains l x) (sym (take-append-drop n xs)) there)
+
 -- a mark that is set stays, and others with it
 pub marked_kept : (marks : List Bool) (p q : ℕ) → slice_index_or marks q false ≡ true → get_or (set marks p true) q false ≡ true
 marked_kept marks p q is = elim (cases_eq q p) [

@@ -143,6 +143,7 @@ run_asked files count = record { verb = Run; files = files; behind = helpers cou
 -- this command, on these files, with these names
 abbrev pub named_asked : Verb → Files Text → List Text → Asked
 named_asked verb files given = record { verb = verb; files = files; behind = names given }
+
 -- `plan`, on these files
 abbrev pub plan_asked : Files Text → Asked
 plan_asked files = record { verb = Plan; files = files; behind = nothing }

@@ -116,7 +116,7 @@ abbrev pub SaysAnyCheck : Names → Bool → Given → End → List ℕ → Opti
 SaysAnyCheck n false = IsSaidOf n.declaration (λ s t found end out. ChecksText s t.second found end out)
     (λ s t found said. SaysCheck n.declaration n.second n.run s t found said)
 SaysAnyCheck n true = IsSaidOf n.declaration (λ s t found end out. ChecksTexts s t.second t.third found end out)
-    (λ s t found said. SaysCheckAround n.declaration n.second n.run s found said)
+    (λ s t found said. SaysCheckAround n.declaration n.second n.run s t found said)
 
 -- what is said of the answer of a command to these texts; `A` is the allocator of the vectors in what the command
 -- found. Nothing is said beside `explain`

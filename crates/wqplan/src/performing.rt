@@ -14,13 +14,14 @@ ghost use Rattle.wq_meter.specs.Meter.{count_after, LosesPrefix, WritesPrefix, W
 ghost use Rattle.wq_meter.specs.Shell.{AreFrom, Tells};
 ghost use Rattle.wq_commands.specs.Declaration.{max_declaration};
 ghost use Rattle.wq_commands.specs.Shell.{AnswersTexts, IsAnswered, SaysOfTexts};
-ghost use Rattle.wqplan.specs.CommandLine.{HasFewHelpers, check_asked, listed, named_asked, paths, plan_asked, run_asked};
-ghost use Rattle.wqplan.specs.CommandLine.{spelled};
+ghost use Rattle.wqplan.specs.CommandLine.{HasFewHelpers, check_asked, listed, named_asked, paths, plan_asked};
+ghost use Rattle.wqplan.specs.CommandLine.{run_asked, spelled};
 ghost use Rattle.wqplan.specs.Cause.{EndsAlone, EndsReady, IsCaused, MayFail, ReadsInput, TakesInput};
 ghost use Rattle.wqplan.specs.Files.{AreOpened, EndsIn, HaveTexts, first_if};
 ghost use Rattle.wqplan.specs.Promised.{PromisesAsAsked};
 ghost use Rattle.wqplan.specs.Status.{end_or_common, explained_or_common, unheld};
-ghost use Rattle.wqplan.specs.Ended.{EndedBy, EndsAsAsked, EndsExplain, Has, IsInputIf, has_second, has_third, names_behind};
+ghost use Rattle.wqplan.specs.Ended.{EndedBy, EndsAsAsked, EndsExplain, Has, IsInputIf, has_second, has_third};
+ghost use Rattle.wqplan.specs.Ended.{names_behind};
 ghost use Rattle.wqplan.specs.Told.{IsToldAsAsked, names_given, names_of_files};
 ghost use Rattle.wqplan.specs.declared.command_line.Files.TheVariants.{Unnamed};
 ghost use Rattle.wqplan.specs.declared.commands.Verb.TheVariants.{Circles, Hang, Replay};
@@ -491,32 +492,29 @@ fn plan<'a, O: World<'a>, I: Read, W: Write, E: Write>(
     ensures unsaid { OnErr result (teller.new ≡ teller.old) }
 {
     if has_second(files) {
-        let command = PlanAroundCommand;
-        carry_out_files(
+        return carry_out_files(
             world,
             alloc,
             seed,
-            &command,
+            &PlanAroundCommand,
             names,
             files,
             input,
             writer,
             teller,
-        )
-    } else {
-        let command = PlanCommand;
-        carry_out_files(
-            world,
-            alloc,
-            seed,
-            &command,
-            names,
-            files,
-            input,
-            writer,
-            teller,
-        )
+        );
     }
+    carry_out_files(
+        world,
+        alloc,
+        seed,
+        &PlanCommand,
+        names,
+        files,
+        input,
+        writer,
+        teller,
+    )
 }
 
 /// Carries out `check`, around the workqueues of a third file, if there is one.
@@ -544,32 +542,29 @@ fn check<'a, O: World<'a>, I: Read, W: Write, E: Write>(
     ensures unsaid { OnErr result (teller.new ≡ teller.old) }
 {
     if has_third(files) {
-        let command = CheckAroundCommand;
-        carry_out_files(
+        return carry_out_files(
             world,
             alloc,
             seed,
-            &command,
+            &CheckAroundCommand,
             names,
             files,
             input,
             writer,
             teller,
-        )
-    } else {
-        let command = CheckCommand;
-        carry_out_files(
-            world,
-            alloc,
-            seed,
-            &command,
-            names,
-            files,
-            input,
-            writer,
-            teller,
-        )
+        );
     }
+    carry_out_files(
+        world,
+        alloc,
+        seed,
+        &CheckCommand,
+        names,
+        files,
+        input,
+        writer,
+        teller,
+    )
 }
 
 /// Carries out the command that is asked for, with a seed that was drawn. `explain` doesn't use it.

@@ -150,6 +150,9 @@ HELD = [
     ("item n / item a / flush? n a / flush n a / flush a a", "wq 0 n / wq 1 a", [
         ("n", ["unsure 0 / run 6 / queue n / queue a / start 0 n / wait 0 a / start 1 a / wait 1 a"]),
     ]),
+    ("item n / item a / flushwq? n n / flush n a / flush a a", "wq 0 n / wq 1 a", [
+        ("n", ["unsure 0 / run 6 / queue n / queue a / start 0 n / wait 0 a / start 1 a / wait 1 a"]),
+    ]),
     # Only what it takes is printed.
     ("item n / item a / flush? n a / flush? a n / flush? n n", "wq 0 n / wq 1 a", [
         ("n", ["unsure 1 / flush? n n / run 3 / queue n / start 0 n / wait 0 n"]),

@@ -19,7 +19,7 @@ loop-item-preserved g c = λ i there.
       | inl before ↦ c.loop-item.invariant i before
       | inr same ↦ omega (
         arith,
-        c.if-cost-best.false,
+        c.if-cost-least.false,
         c.cost.ensures,
         ap (slice_index c.self.inside.ways.now.costs) (c.new.ensures ∙ same),
       )
