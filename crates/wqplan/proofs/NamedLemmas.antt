@@ -6,7 +6,7 @@ use Rattle.clap.specs.Words.{Text}
 use Rattle.wq_commands.specs.declared.end.End.{End}
 use Rattle.wq_meter.specs.Shell.{Given}
 use Rattle.wq_circles.specs.Circling.{AnswersCircles}
-use Rattle.wqplan.specs.CommandLine.{Asked, Behind, check_asked, named_asked, names_asked, plan_asked}
+use Rattle.wqplan.specs.CommandLine.{Behind, check_asked, named_asked, names_asked, plan_asked}
 use Rattle.wqplan.specs.Ended.{EndsCircles, names_behind}
 use Rattle.wqplan.specs.Told.{IsToldAsAsked, Names, SaysAllCircles, SaysCirclesNamed}
 use Rattle.wqplan.specs.declared.command_line.Files.{Files}

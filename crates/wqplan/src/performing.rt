@@ -596,12 +596,8 @@ fn carry_out_seeded<'a, O: World<'a>, R: Threads + Wait + Sync, I: Read, W: Writ
     let names = names_of(files);
     let named = request.tail.names();
     match verb {
-        Verb::Plan => plan(
-            world, alloc, seed, &names, files, input, writer, teller,
-        ),
-        Verb::Check => check(
-            world, alloc, seed, &names, files, input, writer, teller,
-        ),
+        Verb::Plan => plan(world, alloc, seed, &names, files, input, writer, teller),
+        Verb::Check => check(world, alloc, seed, &names, files, input, writer, teller),
         Verb::Deadlock => carry_out_files(
             world,
             alloc,

@@ -28,7 +28,7 @@ returns-then-has_second-clause-ended g c =
     let files = paths c.args.files.now in
     let on = c.carry_out_files in
     let yes : true ≡ has_second files = sym c.if-has_second.true ∙ c.has_second.ensures in
-    ended_as H I Plan files nothing two_texts 
+    ended_as H I Plan files nothing two_texts
     (λ s t (f : Found (Planned Global)) e o. PlansText s t.second f e o)
     (λ t h. subst (λ b. HaveTexts H I (one_or_two_texts b) files t) yes h)
     (λ t found end out h. subst (λ b. EndsPlan b t end out) yes (plan_around-kept t found end out h))
@@ -42,7 +42,7 @@ returns-then-has_second-clause-told g c =
     let on = c.carry_out_files in
     let yes : true ≡ has_second files = sym c.if-has_second.true ∙ c.has_second.ensures in
     let n = names_of_files files in
-    told_as H I Plan files nothing two_texts 
+    told_as H I Plan files nothing two_texts
     (λ s t (f : Found (Planned Global)) e o. PlansText s t.second f e o)
     (λ t h. subst (λ b. HaveTexts H I (one_or_two_texts b) files t) yes h)
     (λ t found end out h. subst (λ b. EndsPlan b t end out) yes (plan_around-kept t found end out h))
