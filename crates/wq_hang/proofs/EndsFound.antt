@@ -1,7 +1,7 @@
 -- The best end so far: what was looked at, flush by flush and item by item.
-use Rattle.std.proofs.Common.{◌≡◌, ℕ, ◌+◌, ◌<◌, ◌≤◌, ◌⊎◌, inl, inr, false, List, [], ◌∷◌, ◌++◌, length, Some, None}
+use Rattle.std.proofs.Common.{◌≡◌, ℕ, ◌+◌, ◌<◌, ◌≤◌, ◌⊎◌, inl, inr, List, [], ◌∷◌, ◌++◌, length, Some, None}
 use Rattle.std.proofs.Common.{Option}
-use Rattle.std.proofs.Common.{refl, sym, ap, subst, ◌∙◌, arith}
+use Rattle.std.proofs.Common.{refl, sym, ap, subst, arith}
 use Rattle.std.specs.Prelude.{Contains, slice_index}
 use Rattle.std.specs.List.{All}
 use Rattle.std.proofs.lemmas.Bool.{cases_lt}
@@ -12,10 +12,10 @@ use Rattle.wq_core.specs.Wiring.{Wiring, HasRescuer, items, lane_of}
 use Rattle.wq_hang.specs.declared.hop.Hop.{Hop}
 use Rattle.wq_hang.specs.declared.least_for.End.{End}
 use Rattle.wq_hang.specs.declared.least_for.End.TheVariants as end
-use Rattle.wq_hang.specs.Walk.{IsHop, IsPath, IsToBare, max_walk_cost}
-use Rattle.wq_hang.specs.Search.{Reach, hop_cost, hops_cost, hop_to, step, IsBetter, IsNoBetter}
-use Rattle.wq_hang.specs.WaysFor.{AreNear, IsWayFrom, PendingFound}
-use Rattle.wq_hang.specs.EndsFor.{Field, IsRoundAlone, EndsBare, EndsRound, EndsAlone, NoneBare, NoneFrom, NoneAlone}
+use Rattle.wq_hang.specs.Walk.{IsToBare, max_walk_cost}
+use Rattle.wq_hang.specs.Search.{Reach, hops_cost, step, IsBetter, IsNoBetter}
+use Rattle.wq_hang.specs.WaysFor.{AreNear, PendingFound}
+use Rattle.wq_hang.specs.EndsFor.{Field, EndsBare, EndsRound, NoneBare, NoneFrom, NoneAlone}
 use Rattle.wq_hang.specs.EndsFor.{IsBelowRounds, IsEnd, IsBest}
 use Rattle.wq_hang.proofs.Declared.{declared-item}
 

@@ -1,7 +1,6 @@
-use Rattle.std.proofs.Common.{◌≡◌, ℕ, List, length, ap, sym, subst, ◌∙◌}
+use Rattle.std.proofs.Common.{ℕ, List, length, ap, sym, subst, ◌∙◌}
 use Rattle.std.specs.Prelude.{Contains}
-use Rattle.wq_core.specs.Wiring.{Wiring, items}
-use Rattle.wq_hang.specs.Search.{Reach}
+use Rattle.wq_core.specs.Wiring.{items}
 use Rattle.wq_hang.specs.WaysFor.{AreNear, AreLatest}
 use Rattle.wq_hang.specs.EndsFor.{Field}
 use Rattle.wq_hang.specs.Walk.{max_walk_cost}

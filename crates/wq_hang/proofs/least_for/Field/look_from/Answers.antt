@@ -1,9 +1,9 @@
-use Rattle.std.proofs.Common.{◌≡◌, ◌+◌, ◌-◌, ◌<◌, ◌≤◌, ◌⊎◌, inl, inr, ℕ, List, Some, length, take, get_or, refl, sym}
+use Rattle.std.proofs.Common.{◌≡◌, ◌+◌, ◌-◌, ◌<◌, ◌⊎◌, inl, inr, ℕ, List, Some, length, take, refl, sym}
 use Rattle.std.proofs.Common.{ap, subst, ◌∙◌}
 use Rattle.std.proofs.Common.{arith}
 use Rattle.std.specs.Prelude.{Contains, slice_index}
 use Rattle.std.proofs.lemmas.List.Elements.{Contains-get_or}
-use Rattle.wq_core.specs.Wiring.{HasRescuer, items, lane_of}
+use Rattle.wq_core.specs.Wiring.{items}
 use Rattle.wq_hang.specs.declared.least_for.End.TheVariants as end
 use Rattle.wq_hang.specs.Search.{AreBounds, IsBetter, IsNoBetter}
 use Rattle.wq_hang.specs.EndsFor.{Field, IsBelowRounds, IsBest, NoneFrom}

@@ -1,5 +1,4 @@
-use Rattle.std.proofs.Common.{◌≡◌, ◌-◌, ◌<◌, ◌≤◌, inl, inr, ℕ, length, take, drop, ap, subst, ◌∙◌, arith}
-use Rattle.std.specs.Prelude.{Contains, slice_index}
+use Rattle.std.proofs.Common.{◌-◌, ◌<◌, ◌≤◌, inl, inr, ℕ, length, take, drop, subst, arith}
 use Rattle.std.proofs.lemmas.List.Elements.{All-weaker, All-take, All-drop}
 use Rattle.wq_core.specs.Wiring.{items}
 use Rattle.wq_hang.specs.EndsFor.{IsField}

@@ -1,11 +1,11 @@
-use Rattle.std.proofs.Common.{◌≡◌, ◌-◌, ◌<◌, ◌≤◌, inl, inr, ℕ, List, length, take, drop, sym, subst, arith, length-drop}
+use Rattle.std.proofs.Common.{◌≡◌, ◌-◌, ◌<◌, inl, inr, ℕ, List, length, take, drop, sym, subst, arith, length-drop}
 use Rattle.std.proofs.lemmas.List.{take_all}
 use Rattle.std.specs.Prelude.{Contains, slice_index}
 use Rattle.std.specs.List.{All}
 use Rattle.std.proofs.lemmas.List.Elements.{All-weaker, All-take, All-drop}
 use Rattle.wq_core.specs.Wiring.{items}
 use Rattle.wq_hang.specs.WaysFor.{AreNear}
-use Rattle.wq_hang.specs.EndsFor.{Field, IsField, NoneFrom}
+use Rattle.wq_hang.specs.EndsFor.{Field, IsField}
 use Rattle.wq_hang.proofs.Taken.{contains_parts}
 use Rattle.wq_hang.proofs.EndsFound.{IsBelowRounds-hop, NoneFrom-all, NoneFrom-less}
 use Rattle.wq_hang.proofs.least_for.Field.look_from_near.Goals as goal

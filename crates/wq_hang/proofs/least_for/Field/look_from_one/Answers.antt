@@ -1,12 +1,7 @@
-use Rattle.std.proofs.Common.{◌≡◌, ◌+◌, ◌≤◌, ℕ, List, Some, length, refl, sym, ap, subst, ◌∙◌, arith}
-use Rattle.std.specs.Prelude.{slice_index}
+use Rattle.std.proofs.Common.{ap, ◌∙◌, arith}
 use Rattle.wq_core.specs.Wiring.{items}
-use Rattle.wq_hang.specs.declared.hop.Hop.{Hop}
-use Rattle.wq_hang.specs.declared.least_for.End.TheVariants as end
-use Rattle.wq_hang.specs.Search.{IsBetter}
-use Rattle.wq_hang.specs.EndsFor.{Field, IsBest}
+use Rattle.wq_hang.specs.EndsFor.{Field}
 use Rattle.wq_hang.proofs.Bounding.{AreBounds-none}
-use Rattle.wq_hang.proofs.EndsFound.{field_of, EndsRound-better, IsBest-is}
 use Rattle.wq_hang.proofs.least_for.Field.look_from_one.Goals as goal
 
 pub better_round-requires-clause-on : goal.better_round-requires-clause-on

@@ -1,7 +1,7 @@
 use Rattle.std.proofs.Common.{◌≡◌, ◌<◌, ◌≤◌, ℕ, Bool, List, length, sym, ap, subst, ◌∙◌, arith}
-use Rattle.std.specs.Prelude.{Contains, IfSome, IfNone}
+use Rattle.std.specs.Prelude.{IfSome, IfNone}
 use Rattle.std.specs.List.{All}
-use Rattle.wq_core.specs.Wiring.{Wiring, HasRescuer, items, lane_of}
+use Rattle.wq_core.specs.Wiring.{Wiring, items}
 use Rattle.wq_core.specs.Workqueues.{with_bare}
 use Rattle.wq_hang.specs.declared.hop.Hop.{Hop}
 use Rattle.wq_hang.specs.Walk.{IsRound, IsRoundOn, IsLeastRoundOn}

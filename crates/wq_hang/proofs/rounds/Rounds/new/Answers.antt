@@ -1,7 +1,6 @@
-use Rattle.std.proofs.Common.{◌≡◌, Bool, true, false, List, sym, ap, subst, ◌∙◌}
-use Rattle.std.specs.Prelude.{slice_index_or}
+use Rattle.std.proofs.Common.{◌≡◌, subst, ◌∙◌}
 use Rattle.wq_groups.specs.DeclaredGroups.{declared_waits}
-use Rattle.wq_core.specs.Wiring.{Wiring, lane_of}
+use Rattle.wq_core.specs.Wiring.{Wiring}
 use Rattle.wq_hang.specs.Search.{AreMade}
 use Rattle.wq_hang.proofs.SomeLanes.{same_bare}
 use Rattle.wq_hang.proofs.rounds.Rounds.new.Goals as goal

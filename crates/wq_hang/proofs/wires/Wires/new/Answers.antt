@@ -1,6 +1,6 @@
-use Rattle.std.proofs.Common.{◌≡◌, List, refl, sym, ap, subst, ◌∙◌}
+use Rattle.std.proofs.Common.{◌≡◌, refl, sym, ap, subst, ◌∙◌}
 use Rattle.wq_groups.specs.DeclaredGroups.{declared_waits}
-use Rattle.wq_core.specs.Wiring.{Wiring, IsWiring}
+use Rattle.wq_core.specs.Wiring.{IsWiring}
 use Rattle.wq_core.specs.Workqueues.{Workqueues, wiring_of}
 use Rattle.wq_hang.specs.Wires.{wires}
 use Rattle.wq_hang.proofs.SomeLanes.{IsWiring-assigned}
