@@ -463,7 +463,31 @@ def held():
     yield "one is behind another on each of 2,048 workqueues, and such a one NAMEd", declaration(ITEMS, behind_pairs()), pairs_of_items(), ["1"]
     yield "layers, 64 workqueues, every other without a rescuer", declaration(ITEMS, layers()), in_turn_with_bare(64, 2), ["0"]
     yield "a chain, one workqueue", declaration(ITEMS, chain()), one(), [short(LAST)]
-    yield "a chain, own workqueues, all of them", declaration(ITEMS, chain()), own(), [short(i) for i in range(ITEMS)]
+    everyone = [short(i) for i in range(ITEMS)]
+    yield "a chain, own workqueues, all of them", declaration(ITEMS, chain()), own(), everyone
+    for name, flushes, assignment in [
+        ("a torus, own workqueues", torus(), own()),
+        ("four flushes on, around", around(), own()),
+        ("one is behind another on each of 2,048 workqueues", behind_pairs(), pairs_of_items()),
+    ]:
+        yield f"{name}, all items", declaration(ITEMS, flushes), assignment, everyone
+        yield f"{name}, every second item", declaration(ITEMS, flushes), assignment, everyone[1::2]
+
+
+def each_on_its_own(items):
+    return "".join(f"wq {q} {short(i)}\n" for q, i in enumerate(items))
+
+
+def arounds():
+    """Of each a name, the declaration, and the workqueues that stay."""
+    every_second, backwards_too = each_on_its_own(range(0, ITEMS, 2)), each_on_its_own(range(LAST, 0, -2))
+    for name, flushes in [("a chain", chain()), ("layers", layers()), ("random flushes", falling(1)), ("a circle of all", circle())]:
+        text = declaration(ITEMS, flushes)
+        yield f"{name}, every second stays", text, every_second
+        yield f"{name}, every second stays, the last one first", text, backwards_too
+        yield f"{name}, only the last stays", text, each_on_its_own([LAST])
+        yield f"{name}, all stay", text, own()
+        yield f"{name}, one stays without a rescuer", text, f"norescuer 0 {short(LAST)}\n"
 
 
 COLLIDING = "names that collide for the seed 0"
@@ -556,6 +580,10 @@ def cases(program, folder, write, most_run=MOST_CERTIFICATE):
         run = program.answer("hang", folder, path, queues, *names)
         if run.startswith(("run", "unsure")):
             yield "replay", f"{name}, with NAMEs", [path, queues, write(run), *names]
+    for name, text, stay in arounds():
+        path, fixed = write(text), write(stay)
+        yield "plan", name, [path, fixed]
+        yield "check", name, [path, write(program.answer("plan", folder, path, fixed)), fixed]
     for name, text in texts():
         path = write(text)
         yield "plan", name, [path]

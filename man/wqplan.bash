@@ -75,13 +75,13 @@ _wqplan() {
             ;;
         explain)
             [ "$words" -gt 0 ] && return
-            local codes='1 2 3 4 5 6 7 8 9 10 11 12 40 41 42 43 50 51 52 53 54 69'
+            local codes='1 2 3 4 5 6 7 8 9 10 11 12 40 41 42 43 50 51 52 53 54 55 69'
             codes+=' TextTooLong LineTooLong BadByte UnknownWord MissingName BadName ItemTwice UnknownItem'
             codes+=' TooManyItems TooManyFlushes GroupedTwice ExtraWord BadCertLine NotAllItems GroupSplit'
-            codes+=' NumberOutOfRange NotFalling ChainBroken LengthDiffers CircleBroken RunBroken TooManyLanes read'
-            codes+=" memory thread tally write plan wq chain arc circle run unsure yes no 'not lawful' deadlock stuck"
-            codes+=' open safe components arc? norescuer ways workqueues refused fault item flush flushwq flush?'
-            codes+=' flushwq? ordered'
+            codes+=' NumberOutOfRange NotFalling ChainBroken LengthDiffers CircleBroken RunBroken HasRescuer'
+            codes+=' TooManyLanes read memory thread tally write plan wq order chain arc circle run unsure yes no'
+            codes+=" 'not lawful' deadlock stuck open safe components arc? norescuer ways workqueues refused fault"
+            codes+=' item flush flushwq flush? flushwq? ordered'
             mapfile -t COMPREPLY < <(compgen -W "$codes" -- "$word")
             # The blank of `not lawful` belongs to the word.
             COMPREPLY=("${COMPREPLY[@]// /\\ }")
@@ -94,12 +94,8 @@ _wqplan() {
             fi
             files=1
             ;;
-        repair)
-            files=2
-            ;;
-        plan) files=1 ;;
-        check | deadlock | hang | repair | circles | dot) files=2 ;;
-        replay) files=3 ;;
+        plan | deadlock | hang | repair | circles | dot) files=2 ;;
+        check | replay) files=3 ;;
         *) return ;;
     esac
     [ "$words" -ge "$files" ] || _wqplan_files "$word"

@@ -749,6 +749,51 @@ done
 run hang nvme-auth.wq nvme-auth.later.assign
 ends 'nvme-auth: a later kernel: hang' 0 safe
 
+# What must go on, so that memory is freed, and how few steps hold it up. 1: it has no rescuer. 4: it waits for what has none, or is behind
+# it; or another item on its workqueue waits for it. 5: it is behind one that waits for what has none. 7, 8: two items wait.
+while read -r steps name assign items; do
+    run hang "$name.wq" "$assign.assign" $items
+    cp out named.run
+    if [ "$steps" = safe ]; then
+        is "$name, $assign: hang, with $items" '0: safe' "$status: $(cat out)"
+        continue
+    fi
+    begins "$name, $assign: hang, with $items" 1 "run $steps"
+    has "$name, $assign: hang, with $items: why" ': `[a-zA-Z_.]+` is held up: ' "$(head -n 1 err)"
+    run replay "$name.wq" "$assign.assign" named.run $items
+    has "$name, $assign: that run, replayed" '^1: (stuck|deadlock)$' "$status: $(cat out)"
+    sed "1s/.*/run $((steps - 1))/; \$d" named.run >shorter.run
+    run replay "$name.wq" "$assign.assign" shorter.run $items
+    ends "$name, $assign: that run without its last step" 0 open
+done <<'end'
+safe bcache bcache bch_data_insert_start.io write_dirty
+safe dm-integrity dm-integrity integrity_writer integrity_bio_wait.offload
+safe dm-snapshot dm-snapshot do_work.merging do_work.other
+7 dm-thin dm-thin do_worker
+4 ext4 ext4 end_io_rsv_work
+7 libfc libfc wb_workfn
+4 md md submit.upper data.upper
+safe md md.perarray submit.upper data.upper
+4 nbd nbd wb_workfn
+1 netfs netfs write_collection_worker
+4 netfs netfs wb_workfn
+8 nfs nfs pgio_release
+safe nfs nfs wb_workfn
+safe nfs nfs.moved pgio_release
+4 nvme-auth nvme-auth connect_work
+safe nvme-auth nvme-auth io_work
+safe nvme-auth nvme-auth.later connect_work
+8 nvme-delete nvme-delete wb_workfn.second
+7 nvme-multipath nvme-multipath requeue_work
+5 nvme-scan nvme-scan connect_work
+4 nvmet-tcp nvmet-tcp nvmet_tcp_io_work
+4 rbd rbd rbd_queue_workfn
+4 srp srp wb_workfn
+3 target target submit_work
+4 xfs xfs wb_workfn xfs_end_io
+safe xfs xfs xlog_cil_push_work xlog_ioend_work xfs_buf_ioend_work
+end
+
 # The tests of want of memory have the largest declaration, byte for byte but for its unsure lines, and its workqueues, as if each had
 # a rescuer.
 # Where a line of that file ends in \, its text goes on in the next one.

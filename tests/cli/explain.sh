@@ -77,6 +77,8 @@ explained() {
     words=$(sed -n '$s/.*wqplan //p' "example$1/commands")
     file=${words##* }
     [ "$file" != plan ] || file='<stdin>'
+    # (behind a certificate may be the workqueues that stay)
+    [[ $words != 'check '*' '*' '* ]] || file=$(cut -d' ' -f3 <<<"$words")
     # (what the lines before the last one print, if they ask something too, is an answer like its own)
     head -n -1 "example$1/commands" >"example$1/earlier"
     tail -n 1 "example$1/commands" >"example$1/last"

@@ -433,9 +433,11 @@ run_fed() {
 # What every form of a command is given, by docs/tables/commands.txt: of each argument a file, its limit, what help says of it, and the
 # refusal of a text that is too long.
 printf 'plan 3\nwq 0 c\nwq 1 b\nwq 2 a\nchain 3\narc a b\narc b c\n' >chain_plan
-declare -A text_of=([FILE]=chain [DECL]=chain [CERT]=chain_plan [ASSIGN]=lanes [RUN]=open)
-declare -A limit_of=([FILE]=1048576 [DECL]=1048576 [CERT]=8388608 [ASSIGN]=8388608 [RUN]=8388608)
-declare -A subjects_of=([FILE]='declaration,standard input' [DECL]=declaration [CERT]=circle [ASSIGN]=workqueue [RUN]=step)
+printf '# no workqueue stays\n' >none_stays
+declare -A text_of=([FILE]=chain [DECL]=chain [CERT]=chain_plan [ASSIGN]=lanes [RUN]=open [FIXED]=none_stays)
+declare -A limit_of=([FILE]=1048576 [DECL]=1048576 [CERT]=8388608 [ASSIGN]=8388608 [RUN]=8388608 [FIXED]=8388608)
+declare -A subjects_of=([FILE]='declaration,standard input' [DECL]=declaration [CERT]=circle [ASSIGN]=workqueue [RUN]=step
+    [FIXED]=workqueue)
 declare -A longer_than=([1048576]=too_large [8388608]=too_large_certificate)
 declare -A refusal_of=([1048576]='refused 1 line 0\n' [8388608]='refused 40 line 0\n')
 
@@ -707,15 +709,15 @@ run </dev/null
 check 'no subcommand' 2 '' some
 run plant </dev/null
 check 'an unknown subcommand' 2 '' some
-run plan declaration circle </dev/null
-check 'two FILEs' 2 '' some
+run plan declaration none_stays circle </dev/null
+check 'a file behind FILE and FIXED' 2 '' some
 # What is said of an option that isn't there: nothing of a file with its name. What it is like is said as ever.
 usage="Usage: ${program##*/} plan"
 run plan --json </dev/null
-check 'plan --json' 2 '' "error: unexpected argument '--json' found\n\n$usage [FILE]\n\nFor more information, try '--help'.\n"
+check 'plan --json' 2 '' "error: unexpected argument '--json' found\n\n$usage [FILE] [FIXED]\n\nFor more information, try '--help'.\n"
 run plan --halp </dev/null
 like="error: unexpected argument '--halp' found\n\n  tip: a similar argument exists: '--help'\n"
-check 'plan --halp' 2 '' "$like\n$usage --help [FILE]\n\nFor more information, try '--help'.\n"
+check 'plan --halp' 2 '' "$like\n$usage --help [FILE] [FIXED]\n\nFor more information, try '--help'.\n"
 for words in 'run declaration 9' 'run declaration -1' 'run declaration x' 'run declaration 2x' 'run declaration 256' \
     'run declaration 2 3' 'run declaration 1.0' 'run -- declaration -1'; do
     run $words </dev/null

@@ -162,12 +162,16 @@ def rows_that_follow(rows):
         if not answer or len(given.answers) > 1 or given.is_long:
             continue
         word, *rest = answer.split(maxsplit=2)
+        fixed = texts[1:] if given.words[0] == "plan" else []
         if word == b"plan":
-            yield row("plans that are checked", "check", [texts[0], answer], b"yes %s\n" % rest[0])
+            yield row("plans that are checked", "check", [texts[0], answer, *fixed], b"yes %s\n" % rest[0])
         elif word == b"circle":
-            yield row("circles that are checked", "check", [texts[0], answer], b"yes circle %s\n" % rest[0])
-            run = answer[answer.index(b"run "):]
-            yield row("runs of circles", "replay", [texts[0], own_workqueues(texts[0]), run], "deadlock")
+            yield row("circles that are checked", "check", [texts[0], answer, *fixed], b"yes circle %s\n" % rest[0])
+            if not fixed:
+                run = answer[answer.index(b"run "):]
+                yield row("runs of circles", "replay", [texts[0], own_workqueues(texts[0]), run], "deadlock")
+        elif word == b"norescuer" and fixed:
+            yield row("norescuer texts that are checked", "check", [texts[0], answer, *fixed], "yes norescuer")
         elif word in (b"wq", b"norescuer"):
             yield row("repairs that are safe", "deadlock", [texts[0], answer], "safe")
             yield row("repairs that need no repair", "repair", [texts[0], answer], answer)

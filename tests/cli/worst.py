@@ -68,7 +68,11 @@ CASES = {
     ("hang", "a chain, one workqueue, one unsure"),
     ("hang", "one is behind another on each of 2,048 workqueues, and such a one NAMEd, with NAMEs"),
     ("hang", "flushes of the next 512, 2,048 workqueues, with NAMEs"),
+    ("hang", "one is behind another on each of 2,048 workqueues, every second item, with NAMEs"),
     ("circles", "layers, 64 workqueues, every other without a rescuer, with NAMEs"),
+    ("plan", "a circle of all, every second stays"),
+    ("plan", "a chain, every second stays, the last one first"),
+    ("check", "a chain, every second stays"),
 } | REFUSED
 
 

@@ -444,9 +444,9 @@ def completion(numbers, faults, words, directives, commands):
 # The forms of the arguments of commands, as variants of `FileForm` and `TailForm` in crates/wqplan/src/command_line.rt.
 FILE_FORMS = {
     "": "Nothing",
-    "[FILE]": "Input",
+    "[FILE] [FIXED]": "Input",
     "DECL": "One",
-    "DECL CERT": "Two Certificate",
+    "DECL CERT [FIXED]": "TwoOrThree Certificate",
     "DECL ASSIGN": "Two Assignment",
     "DECL [ASSIGN]": "OneOrTwo",
     "DECL ASSIGN RUN": "Three",

@@ -21,7 +21,10 @@ FORMAT = (ROOT / "docs/FORMAT.md").read_text()
 MESSAGES = (ROOT / "docs/MESSAGES.md").read_text()
 # Where texts and their limits are described: not histories, nor what is worked out.
 TEXTS = ["Lines, words and numbers", "Names", "Limits", "Certificates"]
-FORMS = ["Plan texts", "Circle texts", "Run texts", "Certificates", "Refusals"]
+FORMS = [
+    "Plan texts", "Circle texts", "Run texts", "Certificates", "Refusals", "Plan texts around workqueues",
+    "Circle and norescuer texts around workqueues",
+]
 # The words of steps.
 STEPS = ["queue", "cancel", "start", "wait", "waitwq", "over", "overwq", "finish"]
 # A drawing is a text of Graphviz, and no page shows it.
@@ -29,6 +32,7 @@ NOT_SHOWN = ["dot"]
 # What the examples of wqplan(5) show, by section, and the files that a command of `$` reads.
 OF_PLANS = "$ wqplan plan decl"
 OF_CIRCLES = "$ (cat decl && echo ordered disk log) >ordered; wqplan plan ordered"
+OF_PLANS_AROUND = "$ echo wq 0 cache >fixed; wqplan plan decl fixed"
 OF_RUNS = "$ wqplan deadlock decl assign"
 OF_UNSURE = "$ sed 's/^flush /flush? /' decl >unsure; wqplan hang unsure assign"
 OF_COMPONENTS = "$ wqplan circles decl assign"
@@ -159,7 +163,8 @@ def commands():
 def codes():
     """The number and the name of each refusal, and of each `no` with what stands behind it."""
     refusals = [row[:2] for name in ("Refusals", "Refusals of certificates", "The command `run`") for row in rows(name)]
-    nos = [(row[0].strip("`"), row[1]) for row in rows("The command `check`")]
+    sections = "The command `check`", "Certificates around workqueues"
+    nos = [(row[0].strip("`"), row[1]) for section in sections for row in rows(section)]
     return [" ".join(row) for row in refusals], nos
 
 
@@ -247,7 +252,7 @@ def examples_of_texts(page):
     """The examples of wqplan(5), as transcripts: a declaration and an assignment are files, the others are answers."""
     heads = {
         "DECLARATIONS": "$ cat decl", "ASSIGNMENTS": "$ cat assign",
-        "PLANS": OF_PLANS, "CIRCLES": OF_CIRCLES, "RUNS": OF_RUNS,
+        "PLANS": OF_PLANS, "CIRCLES": OF_CIRCLES, "RUNS": OF_RUNS, "PLANS AROUND WORKQUEUES": OF_PLANS_AROUND,
         "UNSURE LINES": OF_UNSURE, "COMPONENTS": OF_COMPONENTS, "REFUSALS": OF_REFUSALS,
     }
     return [[heads[name], *lines] for name, lines in page.blocks(".EX", ".EE")], set(heads)

@@ -13,7 +13,7 @@ import sys
 from records import records  # beside this file
 
 # The arguments that are files, and what text each is. Without FILE it is standard input, which makes no form.
-TEXTS = {"FILE": "declaration", "DECL": "declaration", "CERT": "answer", "ASSIGN": "assignment", "RUN": "run"}
+TEXTS = {"FILE": "declaration", "DECL": "declaration", "CERT": "answer", "ASSIGN": "assignment", "RUN": "run", "FIXED": "fixed"}
 
 
 def arguments_of(row):

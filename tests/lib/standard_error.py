@@ -35,7 +35,7 @@ NO = re.compile(rb"(no) ([0-9]+)(?: [^\n]*)?\n")
 NUMBER = rb"[1-9][0-9]*"
 # Answers that only a declaration without an item has, and answers that others have, too.
 NO_ITEM = re.compile(rb"plan 0\nchain 0\n|yes 0\n|workqueues 0\nfaults 0\n")
-MAY_BE_NO_ITEM = re.compile(rb"safe\n|open\n|digraph [^\0]*|(?:(?:wq|norescuer) [0-9]+(?:  # [ -~]+)?\n)*")
+MAY_BE_NO_ITEM = re.compile(rb"safe\n|open\n|plan 0\norder[ 0-9]*\nchain 0\n|digraph [^\0]*|(?:(?:wq|norescuer) [0-9]+(?:  # [ -~]+)?\n)*")
 # The line that is meant, and below it the marks, with the hint if there is one; and where there is none.
 MARKED = rb"    [ -~]+\n {4,}\^+(?: [ -~]+)?\n"
 NO_HINT = MARKED.replace(rb"(?: [ -~]+)?", b"")
@@ -172,6 +172,8 @@ def said_beside(printed, files, command):
         return either(files) + files[0] + FOR_SURE
     if first == b"unsure":
         return either(files) + files[0] + NOT_DECIDED % printed.split()[1] + no_difference(files, rb"on these workqueues")
+    if command == "plan" and first in (b"circle", b"norescuer") and count == 2:
+        return either(files)
     if first == b"circle" and count == 1 and command != "run":
         return b"(?:%s)%s" % (circular_wait(files[0], WAITS_IN_GROUPS, FRONT_OF_PLAN), b"" if command else b"?")
     if first == b"components" and count == 1:
@@ -188,12 +190,12 @@ def said_beside(printed, files, command):
 def answer(printed):
     """The first word of a refusal or of a `no`, its number and its line; of any other answer None.
 
-    The line of a `no` is any: it is that of the word that is meant.
+    The line of a `no` is any: it is that of the word that is meant. With 55 there is none.
     """
     refused, no = REFUSED.fullmatch(printed), NO.fullmatch(printed)
     if refused:
         return refused.groups()
-    return (*no.groups(), NUMBER) if no else None
+    return (*no.groups(), b"0" if no[2] == b"55" else NUMBER) if no else None
 
 
 def meant(printed, files):
@@ -254,9 +256,29 @@ def belongs(printed, errors, files, command=None, names=()):
 
 def fits(printed, errors, places, command, names=()):
     """Whether this belongs on standard error beside the answer of a command to the files at these places, or without one to standard
-    input.
+    input. With a third file of `check` no line may be meant; but if that file has no workqueue, all is as without it.
     """
-    return belongs(printed, errors, meant(printed, [os.fsencode(place) for place in places] or [STDIN]), command, names)
+    files = [os.fsencode(place) for place in places] or [STDIN]
+    if command == "check" and len(files) == 3 and has_no_byte(printed, errors, files[1]):
+        return True
+    if (command, len(files)) in (("plan", 2), ("check", 3)) and NO_ITEM.fullmatch(printed) and not errors:
+        return True  # there are items, and all of them are on workqueues of FIXED
+    refused = REFUSED.fullmatch(printed)
+    if command == "check" and len(files) == 3 and refused and 40 <= int(refused[2]) < 50:
+        return any(belongs(printed, errors, [file], command, names) for file in files[1:])
+    return belongs(printed, errors, meant(printed, files), command, names)
+
+
+def has_no_byte(printed, errors, file):
+    """Whether this is a diagnosis of a certificate around workqueues, of which no byte is meant."""
+    found = NO.fullmatch(printed)
+    if found:
+        return is_of(file, diagnosis(*found.groups(), b"0"), errors)
+    refused = REFUSED.fullmatch(printed)
+    if not refused or not 40 <= int(refused[2]) < 50:
+        return False
+    line = b"" if refused[3] == b"0" else b":" + refused[3]
+    return is_of(file, re.compile(rb"%s: [ -~]+ \[refused %s, `wqplan explain %s`\]\n" % (line, refused[2], refused[2])), errors)
 
 
 def main(arguments):

@@ -7,6 +7,7 @@ same. Of two random ones the second has unsure lines, mostly (make_unsure.py).
 import random
 import re
 
+import make_around
 import make_assignments
 import make_certificates
 import make_circles
@@ -88,15 +89,16 @@ COMMANDS = {
         lambda: [(what, [text]) for what, text in make_declarations.limit_cases()],
         lambda seed, number: [make_declarations.random_case(seed, number)],
         [("plans", 0, r"plan N\n(wq N Z\n)*chain N\nA*"),
-         ("circles", 1, r"circle N\nA+run N\nS+")]
-        + DECLARATION_REFUSALS,
+         ("plans around", 0, r"plan N\n(wq N Z\n)*order( N)*\nchain N\nA*"),
+         ("circles", 1, r"circle N\nA+run N\nS+"), ("no rescuer", 1, r"norescuer 1\narc Z\nrun N\nS+")]
+        + DECLARATION_REFUSALS + CERTIFICATE_REFUSALS[1:],
     ),
     "check": (
         make_certificates.limit_check_cases,
         make_certificates.random_check_case,
         [("yes", 0, r"yes N\n"), ("yes circle", 0, r"yes circle N\n"), ("no 50", 1, r"no 50 Z\n"),
          ("no 51", 1, r"no 51 N\n"), ("no 52", 1, r"no 52\n"), ("no 53", 1, r"no 53 N\n"),
-         ("no 54", 1, r"no 54\n")]
+         ("no 54", 1, r"no 54\n"), ("yes norescuer", 0, r"yes norescuer\n"), ("no 55", 1, r"no 55\n")]
         + CERTIFICATE_REFUSALS,
     ),
     "replay": (
@@ -200,9 +202,9 @@ def kind_of(command, answer):
     return None
 
 
-def cases(command, seed, count, most=None, sure=False, names=False):
+def cases(command, seed, count, most=None, sure=False, more=False):
     """The cases of a command: those at the limits, if their texts have fewer bytes than `most`, and so many random ones. None has an unsure
-    line if `sure`; if `names`, every third of a command whose NAMEs must go on has some.
+    line if `sure`; if `more`, every third has what may also stand there: NAMEs that must go on, or FIXED.
     """
     limit_cases, random_case, _ = COMMANDS[command]
     at_limits = [texts for _, texts in limit_cases()]
@@ -212,9 +214,18 @@ def cases(command, seed, count, most=None, sure=False, names=False):
     for number in range(count):
         texts = random_case(seed, number)
         texts = texts if sure or number % 2 == 0 else make_unsure.unsure_case(command, seed, number, texts)
-        yield with_names(command, seed, number, texts) if names and command in MUST_GO_ON and number % 3 == 0 else texts
+        yield with_more(command, seed, number, texts, sure) if more and number % 3 == 0 else texts
 
 
+def with_more(command, seed, number, texts, sure):
+    """A case of the command with NAMEs or with FIXED, if it may have them."""
+    if command in AROUND:
+        return AROUND[command](seed, number, sure)
+    return with_names(command, seed, number, texts) if command in MUST_GO_ON else texts
+
+
+# The commands that may have FIXED, and a random case of each.
+AROUND = {"plan": make_around.random_plan_case, "check": make_around.random_check_case}
 # The commands whose NAMEs are items that must go on.
 MUST_GO_ON = ("hang", "replay", "circles")
 

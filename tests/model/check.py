@@ -1,10 +1,11 @@
-# A model of `wqplan check DECL CERT`. It says of an answer to a declaration whether it is true, as
+# A model of `wqplan check DECL CERT [FIXED]`. It says of an answer to a declaration whether it is true, as
 # docs/FORMAT.md asks for in "The command `check`". See plan.py for what the model is.
 
 import sys
 
 sys.dont_write_bytecode = True
-import certificate  # noqa: E402  (beside this file)
+import around  # noqa: E402  (beside this file)
+import certificate  # noqa: E402
 import declaration  # noqa: E402
 from command_line import answer_texts  # noqa: E402
 from declaration import Refused  # noqa: E402
@@ -55,26 +56,33 @@ def check_circle_text(declared, text):
     return b"yes circle %d" % len(text.arcs)
 
 
-def answer(declaration_text, certificate_text):
+def check_text(declared, claimed):
+    """The line of the answer."""
+    if isinstance(claimed, certificate.PlanText):
+        return check_plan_text(declared, claimed)
+    return check_circle_text(declared, claimed)
+
+
+def answer(declaration_text, certificate_text, fixed_text=None):
     """The bytes of the answer, and the exit status (Faults and exit statuses)."""
     try:
         declared = declaration.read_declaration(declaration_text)
-        claimed = certificate.read_answer(certificate_text, declared)
+        fixed = None if fixed_text is None else around.read_fixed(fixed_text, declared)
+        if fixed is None or fixed.count == 0:
+            line = check_text(declared, certificate.read_answer(certificate_text, declared))
+        else:
+            line = around.check_text(declared, fixed, around.read_answer(certificate_text, declared, fixed))
     except Refused as refused:
         return refused.answer()
-    if isinstance(claimed, certificate.PlanText):
-        line = check_plan_text(declared, claimed)
-    else:
-        line = check_circle_text(declared, claimed)
     return line + b"\n", 0 if line.startswith(b"yes") else 1
 
 
 def main(arguments):
     """The exit status."""
-    if len(arguments) != 3 or arguments[0] != "check":
-        print("usage: check.py check DECL CERT", file=sys.stderr)
+    if len(arguments) not in (3, 4) or arguments[0] != "check":
+        print("usage: check.py check DECL CERT [FIXED]", file=sys.stderr)
         return 2
-    return answer_texts(answer, arguments[1:], (declaration.TEXT_LIMIT, certificate.TEXT_LIMIT))
+    return answer_texts(answer, arguments[1:], (declaration.TEXT_LIMIT, certificate.TEXT_LIMIT, certificate.TEXT_LIMIT))
 
 
 if __name__ == "__main__":

@@ -1,5 +1,6 @@
 # A model of what standard error says of unsure lines: docs/FORMAT.md, "What isn't sure".
 
+import around
 import certificate
 from circle import led_to_no_rescuer
 from circles import arcs_on_circles, own_workqueues
@@ -77,7 +78,7 @@ def chain(declared, count, places):
 def notes_of(command, texts, printed):
     """The notes that belong beside this answer, which isn't a refusal."""
     declared = read_declaration(texts[0])
-    if not declared.unsure():
+    if not declared.unsure() or around.is_asked(command, texts):
         return []
     assignment = None
     if len(texts) > 1 and command not in ("check", "plan"):

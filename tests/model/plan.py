@@ -1,4 +1,4 @@
-# A model of `wqplan plan [FILE]`: a small plain program that reads a declaration and prints the
+# A model of `wqplan plan [FILE [FIXED]]`: a small plain program that reads a declaration and prints the
 # answer that docs/FORMAT.md asks for. It was written from docs/FORMAT.md alone, by someone who had
 # not read the sources, the specifications or the proofs. So it is an opinion from outside the
 # proofs: where it and the program differ, one of them has read the page wrongly, or the page is
@@ -11,7 +11,9 @@
 import sys
 
 sys.dont_write_bytecode = True
-from certificate import Assignment  # noqa: E402  (beside this file)
+import around  # noqa: E402  (beside this file)
+import certificate  # noqa: E402
+from certificate import Assignment  # noqa: E402
 from circle import arcs_of, find_circle  # noqa: E402
 from deadlock import deadlocking_run, run_text  # noqa: E402
 from command_line import answer_texts  # noqa: E402
@@ -92,28 +94,33 @@ def circle_text(declaration, circle):
     return lines + run_text(deadlocking_run(declaration, own, [item for item, _ in circle]))
 
 
-def answer(text):
+def answer(text, fixed_text=None):
     """The bytes of the answer to the text, and the exit status (Faults and exit statuses)."""
     try:
         declaration = read_declaration(text)
+        fixed = None if fixed_text is None else around.read_fixed(fixed_text, declaration)
     except Refused as refused:
         return refused.answer()
+    lines, status = planned_text(declaration) if fixed is None or fixed.count == 0 else around.planned_text(declaration, fixed)
+    return b"".join(line + b"\n" for line in lines), status
+
+
+def planned_text(declaration):
+    """The lines of the answer, and the status."""
     group_of = declaration.group_of
     arcs = arcs_of(declaration.flushes, group_of, len(declaration.groups))
     circle = find_circle(arcs, group_of)
     if circle:
-        lines, status = circle_text(declaration, circle), 1
-    else:
-        lines, status = plan_text(declaration), 0
-    return b"".join(line + b"\n" for line in lines), status
+        return circle_text(declaration, circle), 1
+    return plan_text(declaration), 0
 
 
 def main(arguments):
     """The exit status."""
-    if len(arguments) not in (1, 2) or arguments[0] != "plan":
-        print("usage: plan.py plan [FILE]", file=sys.stderr)
+    if len(arguments) not in (1, 2, 3) or arguments[0] != "plan":
+        print("usage: plan.py plan [FILE [FIXED]]", file=sys.stderr)
         return 2
-    return answer_texts(answer, arguments[1:] or [None], (TEXT_LIMIT,))
+    return answer_texts(answer, arguments[1:] or [None], (TEXT_LIMIT, certificate.TEXT_LIMIT))
 
 
 if __name__ == "__main__":

@@ -8,6 +8,7 @@ import dataclasses
 import functools
 import re
 
+import around
 import certificate
 import circles
 import messages  # in tests/lib
@@ -226,9 +227,11 @@ def case_of(command, files, texts, printed):
         return None
     declared = read_declaration(texts[0])
     if command == "check":
-        if not printed.startswith(b"no 50 "):
+        if not printed.startswith(b"no 50 ") or around.is_asked(command, texts):
             return None
         case = Case(files, texts, declared, certificate.read_answer(texts[1], declared).assignment)
+    elif command == "plan" and len(texts) == 2:
+        case = Case(files, texts, declared, around.start_of(declared, around.read_fixed(texts[1], declared)))
     elif len(texts) == 1:
         front = FRONT_OF_PLAN if command == "plan" else FRONT
         case = Case(files, texts, declared, circles.own_workqueues(declared), True, front)
@@ -240,7 +243,7 @@ def case_of(command, files, texts, printed):
 # Of each command the first words of the answers beside which reasons are said. A plan to which `check` says no may be safe.
 BESIDE = {
     ("deadlock", b"run"), ("hang", b"run"), ("deadlock", b"unsure"), ("hang", b"unsure"), ("replay", b"deadlock"), ("replay", b"stuck"), ("check", b"no"),
-    ("circles", b"components"), ("plan", b"circle"),
+    ("circles", b"components"), ("plan", b"circle"), ("plan", b"norescuer"),
 }
 
 

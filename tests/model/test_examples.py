@@ -12,7 +12,8 @@ ROWS = [row for row in BY_HAND if not row.complains and row.table not in LONG]
 @pytest.mark.parametrize("row", ROWS, ids=name)
 def test_model_answers_the_row(row):
     names = [word.encode() for word in row.words[1:] if isinstance(word, str) and word != "--" and row.words[0] != "run"]
-    printed, status = ANSWERS[row.words[0]](*row.texts, *names)
+    texts = [*row.texts, *names]
+    printed, status = ANSWERS[row.words[0]](*texts)
     printed = printed.partition(b"\n")[0] + b"\n" if row.is_long else printed
     assert (printed in row.answers, status) == (True, row.status), printed[:2_000].decode()
-    assert all(agrees(row.words[0], row.texts, (printed, status), (answer, status)) for answer in row.answers)
+    assert all(agrees(row.words[0], texts, (printed, status), (answer, status)) for answer in row.answers)

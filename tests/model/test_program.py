@@ -20,6 +20,7 @@ import collections
 import os
 import re
 
+import around
 import dot
 import notes
 import programs
@@ -65,7 +66,9 @@ def wrong_further(text, errors):
 def wrong_beside(command, files, texts, found):
     """What is wrong with the program's words on standard error beside its answer, or None: their form, and of reasons the words."""
     printed, _, errors = found
-    if not fits(printed, errors, files, command, texts[len(TEXTS_OF[command]):] if command != "plan" else []):
+    if around.is_none(command, texts):
+        files, texts = files[:-1], texts[:-1]
+    if not fits(printed, errors, files, command, texts[len(TEXTS_OF[command]):]):
         return "standard error hasn't the form that belongs to this answer"
     if printed.startswith(b"refused ") and printed.split()[1] in HAS_FURTHER:
         return wrong_further(texts[0], errors)
@@ -73,7 +76,10 @@ def wrong_beside(command, files, texts, found):
         return None
     if command == "repair":
         return told_changes.wrong_with(files, texts[:2], texts[2:], printed, errors)
-    behind = errors.split(b"\n", reasons.BLOCK)[reasons.BLOCK] if printed.startswith(b"no ") else errors
+    behind = errors
+    if printed.startswith(b"no "):
+        lines = 1 if around.is_asked(command, texts) else reasons.BLOCK
+        behind = errors.split(b"\n", lines)[lines]
     names = texts[len(TEXTS_OF[command]):]
     if names:
         others = unrescued.said_of(command, files, texts, printed)
@@ -96,9 +102,9 @@ def ask(program, tmp_path):
     """ask(command, texts, *words): the program's answer. Fails where what is on standard error doesn't belong to it."""
 
     def answer(command, texts, *words):
-        named = {} if command == "plan" else dict(zip(TEXTS_OF[command], texts))
+        named = {} if command == "plan" and len(texts) == 1 else dict(zip(TEXTS_OF[command], texts))
         with programs.files(tmp_path, named) as places:
-            found = programs.ask([program, command, *places, *words, *names_behind(command, texts)], input=texts[0] if command == "plan" else None)
+            found = programs.ask([program, command, *places, *words, *names_behind(command, texts)], input=None if named else texts[0])
         wrong = None if found.is_late() else wrong_beside(command, [os.fsencode(place) for place in places] or [STDIN], texts, found)
         assert wrong is None, f"{asked(command, texts, *words)}\n{found.printed.decode()}standard error:\n{found.errors.decode()}{wrong}"
         return found
@@ -122,6 +128,9 @@ def questions(command, texts, printed):
     Each question is a command, the texts for it, and the answer that must come.
     """
     head = printed.split(b"\n", 1)[0]
+    if not head.startswith(b"refused ") and around.is_asked(command, texts):
+        yield from around_questions(command, texts, printed)
+        return
     if command == "plan" and head.startswith(b"plan "):
         yield "check", [texts[0], printed], (head.replace(b"plan", b"yes") + b"\n", 0)
         yield "deadlock", [texts[0], printed], (b"safe\n", 0)
@@ -145,6 +154,23 @@ def questions(command, texts, printed):
         yield "check", [texts[0], printed], (b"yes " + head + b"\n", 0)
     if command == "circles" and head == b"safe" and len(texts) == 2:
         yield "deadlock", texts, (b"safe\n", 0)
+
+
+def around_questions(command, texts, printed):
+    """The same about an answer around workqueues."""
+    if command != "plan":
+        return
+    text, fixed_text = texts
+    head = printed.split(b"\n", 1)[0].replace(b"norescuer 1", b"norescuer")
+    yield "check", [text, printed, fixed_text], (b"yes " + head.removeprefix(b"plan ") + b"\n", 0)
+    declared = read_declaration(text)
+    fixed = around.read_fixed(fixed_text, declared)
+    if head.startswith(b"plan "):
+        added = [line for line in printed.splitlines(keepends=True) if line.startswith(b"wq ")]
+        yield "deadlock", [text, around.text_of(fixed) + b"".join(added)], (b"safe\n", 0)
+    else:
+        start = around.text_of(around.start_of(declared, fixed))
+        yield "replay", [text, start, printed[printed.index(b"\nrun ") + 1:]], (b"deadlock\n", 1)
 
 
 @pytest.fixture
@@ -188,7 +214,7 @@ def test_program(compare, command, request):
     seed, count = request.config.getoption("--seed"), request.config.getoption("--cases") or CASES // FEWER.get(command, 1)
     came = collections.Counter()
     sure = request.config.getoption("--sure")
-    for number, texts in enumerate(cases(command, seed, count, sure=sure, names=True)):
+    for number, texts in enumerate(cases(command, seed, count, sure=sure, more=True)):
         words = HELPERS[number % len(HELPERS)] if command == "run" else []
         came.update(of_smallest(compare, command, texts, words))
     wanted = [kind for kind, _, _ in KINDS[command]] + REASONS_OF.get(command, [])

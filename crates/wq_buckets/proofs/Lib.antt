@@ -1,3 +1,4 @@
 pub mod Linking
 pub mod Cutting
 pub mod Picking
+pub mod Counting

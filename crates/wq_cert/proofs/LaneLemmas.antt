@@ -4,7 +4,7 @@ use Rattle.std.specs.List.{list_any, position, position_or_len, concat}
 use Rattle.std.specs.Prelude.{slice_get}
 use Rattle.std.proofs.Math.Bool.{or-false}
 use Rattle.std.proofs.lemmas.Bool.{cases_Bool, cases_eq, cases_lt, le-ltb, eq-eqb, ne_eqb, both_ways, cond-true, cond-false}
-use Rattle.std.proofs.lemmas.List.{length-set, length-append, get_or-set_same, get_or-set_other, take_all}
+use Rattle.std.proofs.lemmas.List.{length-set, length-append, get_or-set_same, get_or-set_other}
 use Rattle.std.proofs.lemmas.List.Folds.{list_any-append, list_any_more, list_any_at, Any-from_list_any, position_or_len_push}
 use Rattle.std.proofs.lemmas.List.FromFn.{length-map-range_with_len, get_or-map-range_with_len, fill_by_all}
 use Rattle.std.proofs.lemmas.List.Sums.{fails_before_first, passes_at_first, prefix_len-le-length}
@@ -73,7 +73,7 @@ module _ {X : Type 0} (p : X → Bool) where
 
 -- ---- the workqueue of a group
 
-any_concat : (q : ℕ → Bool) (xss : List (List ℕ)) → list_any q (concat xss) ≡ list_any (λ xs. list_any q xs) xss
+pub any_concat : (q : ℕ → Bool) (xss : List (List ℕ)) → list_any q (concat xss) ≡ list_any (λ xs. list_any q xs) xss
 any_concat q [] = refl
 any_concat q (xs ∷ xss) = list_any-append q xs (concat xss) ∙ ap (λ b. list_any q xs || b) (any_concat q xss)
 
@@ -81,7 +81,8 @@ module _ (group_of : List ℕ) (workqueues : List (List ℕ)) (g : ℕ) where
   holds : List ℕ → Bool
   holds items = holds_member group_of items g
 
-  any_holds : (b : Bool) → holds_member group_of (concat workqueues) g ≡ b → list_any (λ items. holds_member group_of items g) workqueues ≡ b
+  pub any_holds : (b : Bool) → holds_member group_of (concat workqueues) g ≡ b
+      → list_any (λ items. holds_member group_of items g) workqueues ≡ b
   any_holds b is = sym (any_concat (λ i. get_or group_of i 0 == g) workqueues) ∙ is
 
   -- it is one of those that hold a member, if one does
@@ -147,7 +148,8 @@ pub record Settled (p : Partition) (lane : ℕ) (old new : List (Option ℕ)) (i
 pub length-lanes_with : (p : Partition) (workqueues : List (List ℕ)) → length (lanes_with p workqueues) ≡ p.groups
 length-lanes_with p workqueues = length-map-range_with_len (workqueue_with p.group_of workqueues) 0 p.groups
 
-get_or-lanes_with : (p : Partition) (workqueues : List (List ℕ)) (g : ℕ) (d : Option ℕ) → g < p.groups → get_or (lanes_with p workqueues) g d ≡ workqueue_with p.group_of workqueues g
+pub get_or-lanes_with : (p : Partition) (workqueues : List (List ℕ)) (g : ℕ) (d : Option ℕ) → g < p.groups
+    → get_or (lanes_with p workqueues) g d ≡ workqueue_with p.group_of workqueues g
 get_or-lanes_with p workqueues g d lt = get_or-map-range_with_len (workqueue_with p.group_of workqueues) 0 p.groups g g d lt (omega arith)
 
 -- item x of group g is the next

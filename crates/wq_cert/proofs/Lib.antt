@@ -44,3 +44,7 @@ pub mod FirstFound
 pub mod PrintedParts
 pub mod ReadParts
 pub mod PartsReadBack
+pub mod FixedWorkqueues
+pub mod PartLanes
+pub mod FixedRead
+pub mod OrderLines

@@ -1,5 +1,7 @@
 -- What is noted about the workqueues that have been read so far, and the assignment that they are.
-use Rattle.std.proofs.Common.{◌≡◌, ℕ, zero, suc, ◌+◌, ◌-◌, ◌<◌, ◌≤◌, ◌==◌, inl, inr, Bool, true, false, not, ◌||◌, cond, leb, List, [], ◌∷◌, ◌++◌, length, map, Option, Some, None, Result, Ok, Err, refl, sym, ap, ap₂, subst, subst₂, ◌∙◌, arith}
+use Rattle.std.proofs.Common.{◌≡◌, ℕ, zero, suc, ◌+◌, ◌-◌, ◌<◌, ◌==◌, inl, inr, Bool, true, false, not, ◌||◌, cond}
+use Rattle.std.proofs.Common.{leb, List, [], ◌∷◌, ◌++◌, length, map, Option, Some, None, Result, Ok, Err, refl, sym}
+use Rattle.std.proofs.Common.{ap, ap₂, subst, subst₂, ◌∙◌, arith}
 use Rattle.std.specs.Prelude.{replicate, option_map, ok_or, bytes_eq, codes}
 use Rattle.std.specs.List.{All, concat, range_with_len}
 use Rattle.std.specs.Option.{option_zip}
@@ -16,7 +18,7 @@ use Rattle.wq_cert.specs.Lines.{CertLine, cert_line}
 use Rattle.wq_cert.specs.Forms.{begins_with, number_of, wq_form, items_of}
 use Rattle.wq_items.specs.Building.{and_then}
 use Rattle.wq_cert.specs.Reading.{Read, and_read, has_stood, splits_group, wq_items, fresh_items, wq_reading, next_workqueues, all_workqueues}
-use Rattle.wq_cert.specs.Noted.{marks, lanes_with, AreNoted, IsNextNoted, AreRead, AreAllRead, said_line}
+use Rattle.wq_cert.specs.Noted.{marks, lanes_with, AreNoted, IsNextNoted, AreAllRead, said_line}
 use Rattle.wq_cert.specs.Texts.{IsCertFaultOf}
 use Rattle.wq_cert.proofs.ReadLemmas.{IsCertFaultOf-then}
 use Rattle.wq_cert.proofs.WorkqueueLists.{concat-push}
@@ -103,11 +105,12 @@ wq_items-below names place line items e = let h = numbered (wq_form names line.w
 
 -- ---- this many workqueues
 
--- after some of n workqueues this many are left, from the lines of `rest` on
-pub record ReadSome (names : List (List ℕ)) (p : Partition) (n : ℕ) (lines : List CertLine) (count : ℕ) (stood : List Bool) (lanes : List (Option ℕ)) (left : ℕ) (rest : List CertLine) : Type 0 where
+-- after the first workqueues and some of n more this many are left, from the lines of `rest` on
+pub record ReadSome (names : List (List ℕ)) (p : Partition) (n : ℕ) (first : List (List ℕ)) (lines : List CertLine)
+    (count : ℕ) (stood : List Bool) (lanes : List (Option ℕ)) (left : ℕ) (rest : List CertLine) : Type 0 where
   pub workqueues : List (List ℕ)
   pub noted : AreNoted p workqueues count stood lanes
-  pub goes_on : next_workqueues names p.group_of n [] lines ≡ next_workqueues names p.group_of left workqueues rest
+  pub goes_on : next_workqueues names p.group_of n first lines ≡ next_workqueues names p.group_of left workqueues rest
 
 -- what the next workqueue gives
 next_workqueue : List (List ℕ) → Partition → ℕ → List (List ℕ) → List CertLine → Result (List ℕ) CertError → Read (List (List ℕ))
@@ -119,33 +122,47 @@ unfolding next_workqueue
 next_workqueue-then names p m workqueues rest (Ok items) = refl
 next_workqueue-then names p m workqueues rest (Err e) = refl
 
-module _ (names : List (List ℕ)) (p : Partition) (n i : ℕ) (lines : List CertLine) (count : ℕ) (stood : List Bool) (lanes : List (Option ℕ)) (left : List LineView) (h : ReadSome names p n lines count stood lanes (n - i) (map cert_line left)) where
-  next_goes_on : i < n → (views : List LineView) → left ≡ views → next_workqueues names p.group_of n [] lines ≡ next_workqueues names p.group_of (suc (n - (i + 1))) h.workqueues (map cert_line views)
+module _ (names : List (List ℕ)) (p : Partition) (n i : ℕ) (first : List (List ℕ)) (lines : List CertLine) (count : ℕ)
+    (stood : List Bool) (lanes : List (Option ℕ)) (left : List LineView)
+    (h : ReadSome names p n first lines count stood lanes (n - i) (map cert_line left)) where
+  -- all of them
+  abbrev whole : Read (List (List ℕ))
+  whole = next_workqueues names p.group_of n first lines
+
+  next_goes_on : i < n → (views : List LineView) → left ≡ views
+      → whole ≡ next_workqueues names p.group_of (suc (n - (i + 1))) h.workqueues (map cert_line views)
   next_goes_on lt views is =
       let fewer : n - i ≡ suc (n - (i + 1)) = omega arith in
-      subst₂ (λ (m : ℕ) (ls : List LineView). next_workqueues names p.group_of n [] lines ≡ next_workqueues names p.group_of m h.workqueues (map cert_line ls)) fewer is h.goes_on
+      subst₂ (λ (m : ℕ) (ls : List LineView).
+      whole ≡ next_workqueues names p.group_of m h.workqueues (map cert_line ls)) fewer is h.goes_on
 
   pub ReadSome-more : (line : LineView) (rest : List LineView) (more_count : ℕ) (more_stood : List Bool) (more_lanes : List (Option ℕ)) → i < n → left ≡ line ∷ rest
-      → IsNextNoted names p h.workqueues (cert_line line) more_count more_stood more_lanes → ReadSome names p n lines more_count more_stood more_lanes (n - (i + 1)) (map cert_line rest)
+      → IsNextNoted names p h.workqueues (cert_line line) more_count more_stood more_lanes
+      → ReadSome names p n first lines more_count more_stood more_lanes (n - (i + 1)) (map cert_line rest)
   unfolding next_workqueue
-  ReadSome-more line rest more_count more_stood more_lanes lt first next = record {
+  ReadSome-more line rest more_count more_stood more_lanes lt stands next = record {
     workqueues = h.workqueues ++ (next.items ∷ []);
     noted = next.noted;
-    goes_on = next_goes_on lt (line ∷ rest) first ∙ ap (next_workqueue names p (n - (i + 1)) h.workqueues (map cert_line rest)) next.read;
+    goes_on = next_goes_on lt (line ∷ rest) stands
+        ∙ ap (next_workqueue names p (n - (i + 1)) h.workqueues (map cert_line rest)) next.read;
   }
 
-  fault_goes_on : (line : LineView) (rest : List LineView) → i < n → left ≡ line ∷ rest → next_workqueues names p.group_of n [] lines ≡ next_workqueue names p (n - (i + 1)) h.workqueues (map cert_line rest) (wq_reading names p.group_of h.workqueues (cert_line line))
+  fault_goes_on : (line : LineView) (rest : List LineView) → i < n → left ≡ line ∷ rest
+      → whole ≡ next_workqueue names p (n - (i + 1)) h.workqueues (map cert_line rest)
+      (wq_reading names p.group_of h.workqueues (cert_line line))
   unfolding next_workqueue
-  fault_goes_on line rest lt first = next_goes_on lt (line ∷ rest) first
+  fault_goes_on line rest lt stands = next_goes_on lt (line ∷ rest) stands
 
   pub ReadSome-fault : (line : LineView) (rest : List LineView) (e : CertError) → i < n → left ≡ line ∷ rest → IsCertFaultOf e (wq_reading names p.group_of h.workqueues (cert_line line))
-      → IsCertFaultOf e (next_workqueues names p.group_of n [] lines)
-  ReadSome-fault line rest e lt first fault =
+      → IsCertFaultOf e whole
+  ReadSome-fault line rest e lt stands fault =
       let all : List CertLine = map cert_line rest in
-      IsCertFaultOf-then (λ (items : List ℕ). next_workqueues names p.group_of (n - (i + 1)) (h.workqueues ++ (items ∷ [])) all) e (wq_reading names p.group_of h.workqueues (cert_line line)) (next_workqueues names p.group_of n [] lines)
-      (fault_goes_on line rest lt first ∙ next_workqueue-then names p (n - (i + 1)) h.workqueues (map cert_line rest) (wq_reading names p.group_of h.workqueues (cert_line line))) fault
+      let r = wq_reading names p.group_of h.workqueues (cert_line line) in
+      IsCertFaultOf-then
+      (λ (items : List ℕ). next_workqueues names p.group_of (n - (i + 1)) (h.workqueues ++ (items ∷ [])) all) e r whole
+      (fault_goes_on line rest lt stands ∙ next_workqueue-then names p (n - (i + 1)) h.workqueues all r) fault
 
-  pub ReadSome-short : i < n → left ≡ [] → next_workqueues names p.group_of n [] lines ≡ Err (BadCertLine 0)
+  pub ReadSome-short : i < n → left ≡ [] → whole ≡ Err (BadCertLine 0)
   ReadSome-short lt none = next_goes_on lt [] none
 
 -- ---- all workqueues

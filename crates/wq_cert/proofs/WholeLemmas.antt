@@ -24,7 +24,9 @@ zero_plus : (k : ℕ) → 0 + k ≡ k
 zero_plus k = omega arith
 
 -- then each group has a workqueue
-group_held : (p : Partition) (workqueues : List (List ℕ)) (g : ℕ) → IsPartition p → hold_all (length p.group_of) workqueues ≡ true → g < p.groups → holds_member p.group_of (concat workqueues) g ≡ true
+pub group_held : (p : Partition) (workqueues : List (List ℕ)) (g : ℕ) → IsPartition p
+    → hold_all (length p.group_of) workqueues ≡ true → g < p.groups
+    → holds_member p.group_of (concat workqueues) g ≡ true
 group_held p workqueues g is whole lt = member (is.filled g lt)
   where
     member : Contains p.group_of g → holds_member p.group_of (concat workqueues) g ≡ true

@@ -2,6 +2,7 @@ pub use Rattle.wq_text.specs.Refusal
 pub use Rattle.wq_items.specs.Table
 pub use Rattle.wq_groups.specs.Assignment
 pub use Rattle.wq_core.specs.Wiring
+pub use Rattle.wq_fixed.specs.Fixed
 pub mod Certificate
 pub mod Lines
 pub mod Forms
@@ -18,3 +19,6 @@ pub mod FirstFaults
 pub mod WorkqueueRows
 pub mod LineRows
 pub mod Growth
+pub mod FixedReading
+pub mod AroundText
+pub mod AroundReading

@@ -38,12 +38,12 @@ pub record IsNextNoted (names : List (List ℕ)) (p : Partition) (workqueues : L
   pub read : wq_reading names p.group_of workqueues line ≡ Ok items
   pub noted : AreNoted p (workqueues ++ (items ∷ [])) count stood lanes
 
--- n workqueues are read from these lines up to `rest`, and this is noted about them
-pub record AreRead (names : List (List ℕ)) (p : Partition) (n : ℕ) (lines : List CertLine) (count : ℕ)
-    (stood : List Bool) (lanes : List (Option ℕ)) (rest : List CertLine) : Type 0 where
+-- n workqueues after the first ones are read from these lines up to `rest`, and this is noted about all of them
+pub record AreRead (names : List (List ℕ)) (p : Partition) (n : ℕ) (first : List (List ℕ)) (lines : List CertLine)
+    (count : ℕ) (stood : List Bool) (lanes : List (Option ℕ)) (rest : List CertLine) : Type 0 where
   pub workqueues : List (List ℕ)
   pub noted : AreNoted p workqueues count stood lanes
-  pub read : next_workqueues names p.group_of n [] lines ≡ Ok (workqueues, rest)
+  pub read : next_workqueues names p.group_of n first lines ≡ Ok (workqueues, rest)
 
 -- the line, with `wq` in place of a first word `norescuer` if the flag is set
 abbrev pub said_line : Bool → LineView → CertLine

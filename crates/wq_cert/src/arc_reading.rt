@@ -19,7 +19,7 @@ use wq_core::Step;
 use wq_items::{ItemId, ItemTable};
 
 /// Reads `count` arcs, each on one of the next lines.
-fn read_arcs<A: Allocator + Copy>(
+pub(crate) fn read_arcs<A: Allocator + Copy>(
     alloc: A,
     table: &ItemTable<'_, A>,
     count: u32,

@@ -25,7 +25,10 @@ use wq_groups::Groups;
 use wq_items::ItemTable;
 
 /// For each of these lines, whether it is that of a workqueue without a rescuer.
-fn bare_lines<A: Allocator>(alloc: A, lines: CertLines<'_>) -> Result<Vec<bool, A>, AllocError>
+pub(crate) fn bare_lines<A: Allocator>(
+    alloc: A,
+    lines: CertLines<'_>,
+) -> Result<Vec<bool, A>, AllocError>
     ensures { IfOk result (λ bare. bare.items ≡ map is_bare_line (map cert_line lines.entry)) }
 {
     let mut bare = Vec::new(alloc);

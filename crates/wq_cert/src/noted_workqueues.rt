@@ -5,17 +5,20 @@
 //! the assignment each take time and memory linear in the number of items.
 
 ghost use Rattle.std.specs.Prelude.{◌≡◌, ◌<◌, ℕ, ◌∷◌, ◌++◌, [], true, false, not, List, length, map, Ok, Err, IfOk};
-ghost use Rattle.std.specs.Prelude.{IfErr, Option, Some, None, MatchOption, unwrap_or};
-ghost use Rattle.std.specs.List.{All, concat, list_all};
-ghost use Rattle.wq_groups.specs.Partition.{IsPartition};
+ghost use Rattle.std.specs.Prelude.{◌≤◌, ◌||◌, IfErr, Option, Some, None, MatchOption, slice_index_or, unwrap_or};
+ghost use Rattle.std.specs.List.{All, concat, count_by, list_all, range_with_len};
+ghost use Rattle.wq_fixed.specs.Fixed.{has_none};
 ghost use Rattle.wq_cert.specs.Lines.{cert_line};
 ghost use Rattle.wq_cert.specs.Noted.{marks, lanes_with, AreNoted, IsNextNoted, is_other, said_line};
 ghost use Rattle.wq_cert.specs.Reading.{has_stood, splits_group, fresh_items, wq_items, wq_reading, whole_assignment};
+ghost use Rattle.wq_cert.specs.FixedReading.{is_with_its_group, part_lanes};
+ghost use Rattle.wq_cert.specs.AroundReading.{fixed_workqueues};
 ghost use Rattle.wq_cert.specs.Texts.{IsCertFaultOf};
 
 use crate::fault::CertError;
 use crate::form::wq_form;
 use std::alloc::{AllocError, Allocator};
+use wq_fixed::Fixed;
 use wq_groups::{Assignment, Groups, LaneId, MAX_ASSIGNED_LANES};
 use wq_items::{ItemId, ItemTable};
 use wq_text::Line;
@@ -127,7 +130,112 @@ fn lanes_of<A: Allocator>(
         .collect(alloc)
 }
 
+/// Whether an item splits its group: it is on no workqueue, and its group has one.
+fn splits(is_marked: bool, lane: Option<LaneId>) -> bool
+    ensures { result ≡ not (is_marked || has_none lane) }
+{
+    !is_marked && lane.is_some()
+}
+
+/// Whether each item of a group that has a workqueue is marked.
+fn are_whole<A: Allocator + Copy>(
+    stood: &[bool],
+    lane_of_group: &[Option<LaneId>],
+    groups: &Groups<A>,
+) -> bool
+    requires items { length stood.now ≡ length groups.now.group_of }
+    requires groups { length lane_of_group.now ≡ groups.now.groups }
+    ensures { (workqueues : List (List ℕ)) → stood.now ≡ marks (length groups.now.group_of) (concat workqueues)
+        → lane_of_group.now ≡ lanes_with groups.now workqueues
+        → result ≡ list_all (is_with_its_group groups.now.group_of workqueues)
+        (range_with_len 0 (length groups.now.group_of)) }
+{
+    for (group, is_marked) in groups.numbers().iter().zip(stood) {
+        let lane = lane_of_group[usize::from(*group)];
+        if splits(*is_marked, lane) {
+            return false;
+        }
+    }
+    true
+}
+
+/// How many groups have no workqueue.
+fn count_without(lane_of_group: &[Option<LaneId>]) -> u32
+    requires { length lane_of_group.now ≤ 4096 }
+    ensures { result ≡ count_by has_none lane_of_group.now }
+{
+    let mut count = 0;
+    for lane in lane_of_group {
+        if lane.is_none() {
+            count += 1;
+        }
+    }
+    count
+}
+
+/// For each item, whether its group has a workqueue.
+fn fixed_items<A: Allocator + Copy>(
+    alloc: A,
+    groups: &Groups<A>,
+    lane_of_group: &[Option<LaneId>],
+) -> Result<Vec<bool, A>, AllocError>
+    requires { length lane_of_group.now ≡ groups.now.groups }
+    ensures { IfOk result (λ stood. stood.items
+        ≡ map (λ g. not (has_none (slice_index_or lane_of_group.now g None))) groups.now.group_of) }
+{
+    let mut stood = Vec::with_capacity(alloc, groups.numbers().len())?;
+    for group in groups.numbers() {
+        let lane = lane_of_group[usize::from(*group)];
+        stood.push(lane.is_some())?;
+    }
+    Ok(stood)
+}
+
 impl<A: Allocator + Copy> NotedWorkqueues<A> {
+    /// The fixed workqueues, for this many items in these groups.
+    pub(crate) fn of_fixed(
+        alloc: A,
+        groups: &Groups<A>,
+        items: u16,
+        fixed: &Fixed<A>,
+    ) -> Result<Self, AllocError>
+        requires items { length groups.now.group_of ≡ items }
+        requires groups { length fixed.now.lane_of_group ≡ groups.now.groups }
+        ensures { IfOk result (λ q. AreNoted groups.now (fixed_workqueues groups.now fixed.now) q.count q.stood.items
+            q.lane_of_group.items) }
+    {
+        let _groups = groups.len();
+        let stood = fixed_items(alloc, groups, fixed.lane_of_group())?;
+        let lane_of_group = Vec::from_slice(alloc, fixed.lane_of_group())?;
+        Ok(NotedWorkqueues {
+            count: fixed.lanes(),
+            stood,
+            lane_of_group,
+        })
+    }
+
+    /// The workqueue of each group that has one, if these groups are whole, and the others not too many.
+    pub(crate) fn part(self, groups: &Groups<A>) -> Result<Vec<Option<LaneId>, A>, CertError>
+        requires { (workqueues : List (List ℕ))
+            × AreNoted groups.now workqueues self.count self.stood.items self.lane_of_group.items }
+        ensures lanes { (workqueues : List (List ℕ))
+            → AreNoted groups.now workqueues self.count self.stood.items self.lane_of_group.items
+            → IfOk result (λ lanes. part_lanes groups.now workqueues ≡ Ok lanes.items) }
+        ensures fault { (workqueues : List (List ℕ))
+            → AreNoted groups.now workqueues self.count self.stood.items self.lane_of_group.items
+            → IfErr result (λ e. part_lanes groups.now workqueues ≡ Err e) }
+    {
+        let _groups = groups.len();
+        if !are_whole(self.stood.as_slice(), self.lane_of_group.as_slice(), groups) {
+            return Err(CertError::GroupSplit { line: 0 });
+        }
+        let free = count_without(self.lane_of_group.as_slice());
+        if u32::from(self.count) + free > u32::from(MAX_ASSIGNED_LANES) {
+            return Err(CertError::NumberOutOfRange { line: 0 });
+        }
+        Ok(self.lane_of_group)
+    }
+
     /// No workqueue yet, for this many items in these groups.
     pub(crate) fn none(alloc: A, groups: &Groups<A>, items: u16) -> Result<Self, AllocError>
         requires { length groups.now.group_of ≡ items }

@@ -17,7 +17,10 @@ use wq_items::{ItemId, ItemTable};
 use wq_text::{put, put_end, put_number, put_word};
 
 /// Appends `plan K`.
-fn put_plan_line<A: Allocator + Copy>(out: &mut Vec<u8, A>, lanes: u16) -> Result<(), AllocError>
+pub(crate) fn put_plan_line<A: Allocator + Copy>(
+    out: &mut Vec<u8, A>,
+    lanes: u16,
+) -> Result<(), AllocError>
     ensures { OnOk result (out.new.items ≡ out.old.items ++ line_text (plan_line lanes)) }
 {
     put(out, b"plan")?;
@@ -26,7 +29,7 @@ fn put_plan_line<A: Allocator + Copy>(out: &mut Vec<u8, A>, lanes: u16) -> Resul
 }
 
 /// Appends `wq Q NAME..`, with the names of these items.
-fn put_wq_line<A: Allocator + Copy>(
+pub(crate) fn put_wq_line<A: Allocator + Copy>(
     out: &mut Vec<u8, A>,
     table: &ItemTable<'_, A>,
     q: u16,
@@ -46,7 +49,7 @@ fn put_wq_line<A: Allocator + Copy>(
 }
 
 /// Appends `chain N`.
-fn put_chain_line<A: Allocator + Copy>(
+pub(crate) fn put_chain_line<A: Allocator + Copy>(
     out: &mut Vec<u8, A>,
     lanes: u16,
     chain: &[(ItemId, ItemId)],

@@ -18,7 +18,7 @@ use wq_groups::{Assignment, Groups};
 use wq_items::ItemTable;
 
 /// Reads `count` workqueues, each on one of the next lines.
-fn read_next_workqueues<A: Allocator + Copy>(
+pub(crate) fn read_next_workqueues<A: Allocator + Copy>(
     alloc: A,
     table: &ItemTable<'_, A>,
     groups: &Groups<A>,
@@ -27,8 +27,8 @@ fn read_next_workqueues<A: Allocator + Copy>(
 ) -> Result<NotedWorkqueues<A>, CertError>
     requires { length groups.now.group_of ≡ length table.now.names }
     ensures workqueues { IfOk result (λ q.
-        AreRead table.now.names groups.now count (map cert_line lines.old) q.count q.stood.items q.lane_of_group.items
-        (map cert_line lines.new)) }
+        AreRead table.now.names groups.now count [] (map cert_line lines.old) q.count q.stood.items
+        q.lane_of_group.items (map cert_line lines.new)) }
     ensures fault { IfErr result (λ e.
         IsCertFaultOf e (next_workqueues table.now.names groups.now.group_of count [] (map cert_line lines.old))) }
 {
@@ -62,7 +62,7 @@ pub(crate) fn read_counted<A: Allocator + Copy>(
 
 /// Reads the workqueues on these lines, up to the first line with another first word, and the number of that line. If
 /// `bare`, `norescuer` lines are read like `wq` lines.
-fn read_all_workqueues<A: Allocator + Copy>(
+pub(crate) fn read_all_workqueues<A: Allocator + Copy>(
     alloc: A,
     table: &ItemTable<'_, A>,
     groups: &Groups<A>,

@@ -1,5 +1,6 @@
 -- Each certificate has an answer.
-use Rattle.std.proofs.Common.{◌≡◌, ℕ, zero, suc, ◌+◌, ◌-◌, ◌<◌, ◌⊎◌, inl, inr, false, List, length, get_or, Option, Some, None, Result, Ok, Err, refl, sym, subst, ◌∙◌, arith}
+use Rattle.std.proofs.Common.{◌≡◌, ℕ, zero, suc, ◌+◌, ◌-◌, ◌<◌, ◌⊎◌, inl, inr, false, List, length, get_or, Option}
+use Rattle.std.proofs.Common.{Some, None, Result, Ok, Err, refl, sym, subst, ◌∙◌, arith}
 use Rattle.std.specs.Prelude.{slice_get, slice_index}
 use Rattle.std.proofs.lemmas.Bool.{cases_eq}
 use Rattle.std.proofs.lemmas.List.{get_or_default}
@@ -15,7 +16,8 @@ use Rattle.wq_cert.specs.Certificate.{PlanCertificate, CircleCertificate, Certif
 use Rattle.wq_checker.specs.declared.answer.Yes.{Yes}
 use Rattle.wq_checker.specs.declared.answer.Yes.TheVariants as yes
 use Rattle.wq_checker.specs.declared.answer.No.{No}
-use Rattle.wq_checker.specs.declared.answer.No.TheVariants.{NotFalling, LengthDiffers, ChainBroken, CircleBroken, RunBroken}
+use Rattle.wq_checker.specs.declared.answer.No.TheVariants.{NotFalling, LengthDiffers, ChainBroken, CircleBroken}
+use Rattle.wq_checker.specs.declared.answer.No.TheVariants.{RunBroken}
 use Rattle.wq_checker.specs.declared.falling.DeclaredFlush.{DeclaredFlush}
 use Rattle.wq_checker.specs.Chains.{Joins, AllJoin, IsFirstBreak, before_in_chain, before_in_circle}
 use Rattle.wq_checker.specs.Falling.{Falls, AllFall, Declares, IsFirstNotFalling}
@@ -39,46 +41,61 @@ module _ (d : Declaration) (is : IsDeclaration d) (a : Assignment) where
   abbrev falls_at : ℕ → ℕ → Type 0
   falls_at i k = Falls d a i (get_or (targets_of d.waits i) k nothing).item
 
-  first_of : (i : ℕ) → (o : Option DeclaredFlush) × FindsFirst d a (OfItem d i) o
-  first_of i = found (first_below (falls_at i) (λ k. cases_Falls i (get_or (targets_of d.waits i) k nothing).item) (length (targets_of d.waits i)))
+  first_of : (i : ℕ) → (o : Option DeclaredFlush) × FindsFirst (Falls d a) (OfItem d i) o
+  first_of i = found
+      (first_below (falls_at i) (λ k. cases_Falls i (get_or (targets_of d.waits i) k nothing).item)
+      (length (targets_of d.waits i)))
     where
-      found : ((k : ℕ) → k < length (targets_of d.waits i) → falls_at i k) ⊎ ((m : ℕ) × (m < length (targets_of d.waits i)) × (¬ falls_at i m) × ((k : ℕ) → k < m → falls_at i k)) → (o : Option DeclaredFlush) × FindsFirst d a (OfItem d i) o
+      found : ((k : ℕ) → k < length (targets_of d.waits i) → falls_at i k) ⊎
+          ((m : ℕ) × (m < length (targets_of d.waits i)) × (¬ falls_at i m) × ((k : ℕ) → k < m → falls_at i k))
+          → (o : Option DeclaredFlush) × FindsFirst (Falls d a) (OfItem d i) o
       found (inl each) = (
         None,
         λ k target of. (
             let there : Declares d i target = subst (λ (n : ℕ). Declares d n target) of.0 of.1 in
-            let at : get_or (targets_of d.waits i) there.0 nothing ≡ target = get_or_default (targets_of d.waits i) there.0 nothing target there.1 ∙ there.2 in
-            subst (λ (n : ℕ). Falls d a n target.item) (sym of.0) (subst (λ (t : Target). Falls d a i t.item) at (each there.0 there.1))
+            let at : get_or (targets_of d.waits i) there.0 nothing ≡ target =
+            get_or_default (targets_of d.waits i) there.0 nothing target there.1 ∙ there.2 in
+            subst (λ (n : ℕ). Falls d a n target.item) (sym of.0)
+            (subst (λ (t : Target). Falls d a i t.item) at (each there.0 there.1))
             ),
       )
       found (inr (m, within, fails, before)) =
           let target : Target = get_or (targets_of d.waits i) m nothing in (
             Some (record { item = i; target = target }),
-            IsFirstOf-item d a i m target (targets_of-rise d.waits i is.places_rise) within (get_or_default (targets_of d.waits i) m nothing target within) fails
-                (λ k e less. subst (λ (t : Target). Falls d a i t.item) (get_or_default (targets_of d.waits i) k nothing e (omega (arith, less, within))) (before k less)),
+            IsFirstOf-item d (Falls d a) i m target (targets_of-rise d.waits i is.places_rise) within
+                (get_or_default (targets_of d.waits i) m nothing target within) fails
+                (λ k e less. subst (λ (t : Target). Falls d a i t.item)
+                (get_or_default (targets_of d.waits i) k nothing e (omega (arith, less, within))) (before k less)),
           )
 
-  first_of_all : (n : ℕ) → (o : Option DeclaredFlush) × FindsFirst d a (OfItemsBelow d n) o
+  first_of_all : (n : ℕ) → (o : Option DeclaredFlush) × FindsFirst (Falls d a) (OfItemsBelow d n) o
   first_of_all zero = (None, λ k target of. absurd (omega (arith, of.0)))
   first_of_all (suc n) =
       let low = first_of_all n in
-      let last = first_of n in
-      (earlier low.0 last.0, subst (λ (m : ℕ). FindsFirst d a (OfItemsBelow d m) (earlier low.0 last.0)) (let e : n + 1 ≡ suc n = omega arith in e) (FindsFirst-earlier d a n low.0 last.0 low.1 last.1))
+      let last = first_of n in (
+        earlier low.0 last.0,
+        subst (λ (m : ℕ). FindsFirst (Falls d a) (OfItemsBelow d m) (earlier low.0 last.0))
+            (let e : n + 1 ≡ suc n = omega arith in e) (FindsFirst-earlier d (Falls d a) n low.0 last.0 low.1 last.1),
+      )
 
   cases_fall : AllFall d a ⊎ ((i j : ℕ) × IsFirstNotFalling d a i j)
   cases_fall = of (first_of_all (length d.waits)).0 (first_of_all (length d.waits)).1
     where
-      of : (o : Option DeclaredFlush) → FindsFirst d a (OfItemsBelow d (length d.waits)) o → AllFall d a ⊎ ((i j : ℕ) × IsFirstNotFalling d a i j)
+      of : (o : Option DeclaredFlush) → FindsFirst (Falls d a) (OfItemsBelow d (length d.waits)) o
+          → AllFall d a ⊎ ((i j : ℕ) × IsFirstNotFalling d a i j)
       of None found = inl (AllFall-found d a (length d.waits) (omega arith) found)
-      of (Some flush) found = inr (flush.item, flush.target.item, IsFirstNotFalling-found d a (length d.waits) flush (omega arith) found)
+      of (Some flush) found =
+          inr (flush.item, flush.target.item, IsFirstNotFalling-found d a (length d.waits) flush (omega arith) found)
 
 -- ---- arcs that join
 
 module _ (d : Declaration) where
   cases_Joins : (o : Option (ℕ × ℕ)) (arc : ℕ × ℕ) → Decided (Joins d o arc)
-  cases_Joins None arc = cases_Any (λ (t : Target). t.item ≡ arc.1) (λ t. cases_eq t.item arc.1) (targets_of d.waits arc.0)
+  cases_Joins None arc = cases_Any (λ (t : Target). t.item ≡ arc.1) (λ t. cases_eq t.item arc.1)
+      (targets_of d.waits arc.0)
   cases_Joins (Some before) arc =
-      both (cases_Any (λ (t : Target). t.item ≡ arc.1) (λ t. cases_eq t.item arc.1) (targets_of d.waits arc.0)) (cases_eq (slice_index d.group_of before.1) (slice_index d.group_of arc.0))
+      both (cases_Any (λ (t : Target). t.item ≡ arc.1) (λ t. cases_eq t.item arc.1) (targets_of d.waits arc.0))
+      (cases_eq (slice_index d.group_of before.1) (slice_index d.group_of arc.0))
 
   module _ (before : ℕ → Option (ℕ × ℕ)) (arcs : List (ℕ × ℕ)) where
     -- the arc at k, if there is one, joins
@@ -91,7 +108,9 @@ module _ (d : Declaration) where
         of : (o : Option (ℕ × ℕ)) → slice_get arcs k ≡ o → Decided (joins_at k)
         of None none = inl (λ arc stands. absurd (let e : None ≡ Some arc = sym none ∙ stands in cc))
         of (Some arc) here =
-            alike (λ (joins : Joins d (before k) arc) other stands. (let same : arc ≡ other = (let e : Some arc ≡ Some other = sym here ∙ stands in cc) in subst (Joins d (before k)) same joins))
+            alike (λ (joins : Joins d (before k) arc) other stands.
+            (let same : arc ≡ other = (let e : Some arc ≡ Some other = sym here ∙ stands in cc) in
+            subst (Joins d (before k)) same joins))
             (λ (each : joins_at k). each arc here) (cases_Joins (before k) arc)
 
     IsFirstBreak-at : (m : ℕ) → (¬ joins_at m) → ((k : ℕ) → k < m → joins_at k) → IsFirstBreak d before arcs (m + 1)
@@ -101,7 +120,11 @@ module _ (d : Declaration) where
         of None none = absurd (fails (λ arc stands. absurd (let e : None ≡ Some arc = sym none ∙ stands in cc)))
         of (Some arc) here =
             let same : m ≡ m + 1 - 1 = omega arith in
-            let breaks : ¬ Joins d (before m) arc = λ joins. fails (λ other stands. (let one : arc ≡ other = (let e : Some arc ≡ Some other = sym here ∙ stands in cc) in subst (Joins d (before m)) one joins)) in
+            let breaks : ¬ Joins d (before m) arc =
+            λ joins. fails
+            (λ other stands.
+            (let one : arc ≡ other = (let e : Some arc ≡ Some other = sym here ∙ stands in cc) in
+            subst (Joins d (before m)) one joins)) in
             record {
               from_one = omega arith;
               arc = arc;
@@ -128,7 +151,10 @@ module _ (d : Declaration) (is : IsDeclaration d) where
         | inl lacks ↦ (Err (ChainBroken 0), (falls, long, inl (lacks, refl)))
         | inr has ↦ elim (cases_joined d (before_in_chain c.arcs) c.arcs) [
           | inr broken ↦ (Err (ChainBroken broken.0), (falls, long, inr broken.1))
-          | inl joined ↦ (Ok (yes.Plan c.assignment.lanes), (record { falls = falls; long = long; has_group = has; joined = joined }, refl))
+          | inl joined ↦ (
+            Ok (yes.Plan c.assignment.lanes),
+            (record { falls = falls; long = long; has_group = has; joined = joined }, refl),
+          )
         ]
       ]
     ]

@@ -1,10 +1,10 @@
 -- A certificate has at most one answer, and a list of steps at most one end.
-use Rattle.std.proofs.Common.{◌≡◌, ℕ, zero, suc, ◌-◌, ◌<◌, inl, inr, List, [], ◌∷◌, take, Option, Some, Result, Ok, Err, refl, sym, ap, subst, ◌∙◌, arith}
+use Rattle.std.proofs.Common.{◌≡◌, ℕ, zero, suc, ◌-◌, ◌<◌, inl, inr, List, [], ◌∷◌, take, Option, Some, Result, Ok, Err}
+use Rattle.std.proofs.Common.{refl, sym, ap, subst, ◌∙◌, arith}
 use Rattle.std.specs.Prelude.{slice_get}
 use Rattle.std.proofs.lemmas.Bool.{cases_order}
 use Rattle.std.proofs.lemmas.Option.{slice_get_within}
 use Rattle.wq_items.specs.declared.target.Target.{Target}
-use Rattle.wq_items.specs.Table.{ItemWaits}
 use Rattle.wq_groups.specs.Declaration.{Declaration, IsDeclaration}
 use Rattle.wq_groups.specs.Assignment.{Assignment}
 use Rattle.wq_core.specs.declared.step.Step.{Step}
@@ -18,42 +18,49 @@ use Rattle.wq_cert.specs.Certificate.{PlanCertificate, CircleCertificate, Certif
 use Rattle.wq_checker.specs.declared.answer.Yes.{Yes}
 use Rattle.wq_checker.specs.declared.answer.Yes.TheVariants as yes
 use Rattle.wq_checker.specs.declared.answer.No.{No}
-use Rattle.wq_checker.specs.declared.answer.No.TheVariants.{NotFalling, LengthDiffers, ChainBroken, CircleBroken, RunBroken}
+use Rattle.wq_checker.specs.declared.answer.No.TheVariants.{NotFalling, LengthDiffers, ChainBroken, CircleBroken}
+use Rattle.wq_checker.specs.declared.answer.No.TheVariants.{RunBroken}
 use Rattle.wq_checker.specs.declared.run.RunEnd.{RunEnd}
 use Rattle.wq_checker.specs.declared.run.RunEnd.TheVariants.{NotLawful, Deadlock, Stuck, Free}
 use Rattle.wq_checker.specs.Chains.{AllJoin, IsFirstBreak, before_in_chain, before_in_circle}
-use Rattle.wq_checker.specs.Falling.{Falls, AllFall, Declares, IsFirstNotFalling}
-use Rattle.wq_checker.specs.Answers.{LacksGroup, IsChainBrokenAt, IsPlanAsked, IsAsked, AnswersPlan, AnswersCircle, AnswersCertificate}
+use Rattle.wq_checker.specs.Falling.{Falls, AllFall, IsFirstNotFalling}
+use Rattle.wq_checker.specs.Answers.{LacksGroup, IsChainBrokenAt, IsPlanAsked, IsAsked, AnswersPlan, AnswersCircle}
+use Rattle.wq_checker.specs.Answers.{AnswersCertificate}
 use Rattle.wq_checker.specs.RunEnds.{IsFirstUnlawful, EndsAs, EndsFor}
+use Rattle.wq_checker.proofs.FallingLemmas.{Declares-ItemWaits}
 use Rattle.wq_checker.proofs.FlushPlaces.{same_flush}
 use Rattle.wq_checker.proofs.RunEndLemmas.{IsRun-unlawful}
 
 module _ (d : Declaration) where
   -- ---- arcs that join
 
-  joined-unbroken : (before : ℕ → Option (ℕ × ℕ)) (arcs : List (ℕ × ℕ)) (at : ℕ) → AllJoin d before arcs → ¬ IsFirstBreak d before arcs at
+  joined-unbroken : (before : ℕ → Option (ℕ × ℕ)) (arcs : List (ℕ × ℕ)) (at : ℕ) → AllJoin d before arcs
+      → ¬ IsFirstBreak d before arcs at
   joined-unbroken before arcs at joined break = break.breaks (joined (at - 1) break.arc break.stands)
 
-  one_break : (before : ℕ → Option (ℕ × ℕ)) (arcs : List (ℕ × ℕ)) (m n : ℕ) → IsFirstBreak d before arcs m → IsFirstBreak d before arcs n → m ≡ n
+  one_break : (before : ℕ → Option (ℕ × ℕ)) (arcs : List (ℕ × ℕ)) (m n : ℕ) → IsFirstBreak d before arcs m
+      → IsFirstBreak d before arcs n → m ≡ n
   one_break before arcs m n one other = elim (cases_order m n) [
     | inl same ↦ same
     | inr (inl less) ↦ absurd (one.breaks (other.first (m - 1) one.arc (omega (arith, less, one.from_one)) one.stands))
-    | inr (inr less) ↦ absurd (other.breaks (one.first (n - 1) other.arc (omega (arith, less, other.from_one)) other.stands))
+    | inr (inr less) ↦ absurd
+        (other.breaks (one.first (n - 1) other.arc (omega (arith, less, other.from_one)) other.stands))
   ]
 
   -- ---- flushes that fall
 
-  Declares-ItemWaits : (i j : ℕ) (target : Target) → Declares d i target → target.item ≡ j → ItemWaits d.waits i j
-  Declares-ItemWaits i j target there of = (there.0, target, there.1, there.2, of)
-
   fall-none_stays : (a : Assignment) (i j : ℕ) → AllFall d a → ¬ IsFirstNotFalling d a i j
-  fall-none_stays a i j falls first = first.stays (falls i j (Declares-ItemWaits i j first.target first.declares first.of_target))
+  fall-none_stays a i j falls first = first.stays
+      (falls i j (Declares-ItemWaits d i j first.target first.declares first.of_target))
 
-  not_before : (a : Assignment) (i j k l : ℕ) → (one : IsFirstNotFalling d a i j) (other : IsFirstNotFalling d a k l) → ¬ one.target.place < other.target.place
-  not_before a i j k l one other less = one.stays (subst (λ (n : ℕ). Falls d a i n) one.of_target (other.first i one.target one.declares less))
+  not_before : (a : Assignment) (i j k l : ℕ) → (one : IsFirstNotFalling d a i j) (other : IsFirstNotFalling d a k l)
+      → ¬ one.target.place < other.target.place
+  not_before a i j k l one other less =
+      one.stays (subst (λ (n : ℕ). Falls d a i n) one.of_target (other.first i one.target one.declares less))
 
   module _ (is : IsDeclaration d) where
-    one_flush : (a : Assignment) (i j k l : ℕ) → IsFirstNotFalling d a i j → IsFirstNotFalling d a k l → (i ≡ k) × (j ≡ l)
+    one_flush : (a : Assignment) (i j k l : ℕ) → IsFirstNotFalling d a i j → IsFirstNotFalling d a k l
+        → (i ≡ k) × (j ≡ l)
     one_flush a i j k l one other = elim (cases_order one.target.place other.target.place) [
       | inl same ↦ (
           let flush = same_flush d is i k one.target other.target one.declares other.declares same in
@@ -68,7 +75,8 @@ module _ (d : Declaration) where
     module _ (c : PlanCertificate) (asked : IsPlanAsked d c) where
       -- if there is no group, there is no arc
       lacking-unbroken : (at : ℕ) → LacksGroup d c → ¬ IsFirstBreak d (before_in_chain c.arcs) c.arcs at
-      lacking-unbroken at lacks break = absurd (omega (arith, asked.count, lacks.0, slice_get_within c.arcs (at - 1) break.arc break.stands))
+      lacking-unbroken at lacks break = absurd
+          (omega (arith, asked.count, lacks.0, slice_get_within c.arcs (at - 1) break.arc break.stands))
 
       one_broken : (m n : ℕ) → IsChainBrokenAt d c m → IsChainBrokenAt d c n → m ≡ n
       one_broken m n (inl one) (inl other) = one.1 ∙ sym other.1
@@ -76,40 +84,50 @@ module _ (d : Declaration) where
       one_broken m n (inr one) (inl other) = absurd (lacking-unbroken m other.0 one)
       one_broken m n (inr one) (inr other) = one_break (before_in_chain c.arcs) c.arcs m n one other
 
-      good-unbroken : (at : ℕ) → (¬ LacksGroup d c) → AllJoin d (before_in_chain c.arcs) c.arcs → ¬ IsChainBrokenAt d c at
+      good-unbroken : (at : ℕ) → (¬ LacksGroup d c) → AllJoin d (before_in_chain c.arcs) c.arcs
+          → ¬ IsChainBrokenAt d c at
       good-unbroken at has joined (inl lacks) = has lacks.0
       good-unbroken at has joined (inr break) = joined-unbroken (before_in_chain c.arcs) c.arcs at joined break
 
       one_for_plan : (r s : Result Yes No) → AnswersPlan d c r → AnswersPlan d c s → r ≡ s
       one_for_plan (Ok (yes.Plan m)) (Ok (yes.Plan n)) one other = ap (λ (x : ℕ). Ok (yes.Plan x)) (one.1 ∙ sym other.1)
       one_for_plan (Ok (yes.Plan m)) (Ok (yes.Circle n)) one other = absurd other
-      one_for_plan (Ok (yes.Plan m)) (Err (NotFalling i j)) one other = absurd (fall-none_stays c.assignment i j one.0.falls other)
+      one_for_plan (Ok (yes.Plan m)) (Err (NotFalling i j)) one other =
+          absurd (fall-none_stays c.assignment i j one.0.falls other)
       one_for_plan (Ok (yes.Plan m)) (Err LengthDiffers) one other = absurd (other.1 one.0.long)
-      one_for_plan (Ok (yes.Plan m)) (Err (ChainBroken at)) one other = absurd (good-unbroken at one.0.has_group one.0.joined other.2)
+      one_for_plan (Ok (yes.Plan m)) (Err (ChainBroken at)) one other =
+          absurd (good-unbroken at one.0.has_group one.0.joined other.2)
       one_for_plan (Ok (yes.Plan m)) (Err (CircleBroken at)) one other = absurd other
       one_for_plan (Ok (yes.Plan m)) (Err RunBroken) one other = absurd other
       one_for_plan (Ok (yes.Circle n)) s one other = absurd one
-      one_for_plan (Err (NotFalling i j)) (Ok (yes.Plan n)) one other = absurd (fall-none_stays c.assignment i j other.0.falls one)
+      one_for_plan (Err (NotFalling i j)) (Ok (yes.Plan n)) one other =
+          absurd (fall-none_stays c.assignment i j other.0.falls one)
       one_for_plan (Err (NotFalling i j)) (Ok (yes.Circle n)) one other = absurd other
       one_for_plan (Err (NotFalling i j)) (Err (NotFalling k l)) one other =
           let same = one_flush c.assignment i j k l one other in
           ap (λ (x : ℕ). Err (NotFalling x j)) same.0 ∙ ap (λ (x : ℕ). Err (NotFalling k x)) same.1
-      one_for_plan (Err (NotFalling i j)) (Err LengthDiffers) one other = absurd (fall-none_stays c.assignment i j other.0 one)
-      one_for_plan (Err (NotFalling i j)) (Err (ChainBroken at)) one other = absurd (fall-none_stays c.assignment i j other.0 one)
+      one_for_plan (Err (NotFalling i j)) (Err LengthDiffers) one other =
+          absurd (fall-none_stays c.assignment i j other.0 one)
+      one_for_plan (Err (NotFalling i j)) (Err (ChainBroken at)) one other =
+          absurd (fall-none_stays c.assignment i j other.0 one)
       one_for_plan (Err (NotFalling i j)) (Err (CircleBroken at)) one other = absurd other
       one_for_plan (Err (NotFalling i j)) (Err RunBroken) one other = absurd other
       one_for_plan (Err LengthDiffers) (Ok (yes.Plan n)) one other = absurd (one.1 other.0.long)
       one_for_plan (Err LengthDiffers) (Ok (yes.Circle n)) one other = absurd other
-      one_for_plan (Err LengthDiffers) (Err (NotFalling i j)) one other = absurd (fall-none_stays c.assignment i j one.0 other)
+      one_for_plan (Err LengthDiffers) (Err (NotFalling i j)) one other =
+          absurd (fall-none_stays c.assignment i j one.0 other)
       one_for_plan (Err LengthDiffers) (Err LengthDiffers) one other = refl
       one_for_plan (Err LengthDiffers) (Err (ChainBroken at)) one other = absurd (one.1 other.1)
       one_for_plan (Err LengthDiffers) (Err (CircleBroken at)) one other = absurd other
       one_for_plan (Err LengthDiffers) (Err RunBroken) one other = absurd other
-      one_for_plan (Err (ChainBroken m)) (Ok (yes.Plan n)) one other = absurd (good-unbroken m other.0.has_group other.0.joined one.2)
+      one_for_plan (Err (ChainBroken m)) (Ok (yes.Plan n)) one other =
+          absurd (good-unbroken m other.0.has_group other.0.joined one.2)
       one_for_plan (Err (ChainBroken m)) (Ok (yes.Circle n)) one other = absurd other
-      one_for_plan (Err (ChainBroken m)) (Err (NotFalling i j)) one other = absurd (fall-none_stays c.assignment i j one.0 other)
+      one_for_plan (Err (ChainBroken m)) (Err (NotFalling i j)) one other =
+          absurd (fall-none_stays c.assignment i j one.0 other)
       one_for_plan (Err (ChainBroken m)) (Err LengthDiffers) one other = absurd (other.1 one.1)
-      one_for_plan (Err (ChainBroken m)) (Err (ChainBroken n)) one other = ap (λ (x : ℕ). Err (ChainBroken x)) (one_broken m n one.2 other.2)
+      one_for_plan (Err (ChainBroken m)) (Err (ChainBroken n)) one other =
+          ap (λ (x : ℕ). Err (ChainBroken x)) (one_broken m n one.2 other.2)
       one_for_plan (Err (ChainBroken m)) (Err (CircleBroken at)) one other = absurd other
       one_for_plan (Err (ChainBroken m)) (Err RunBroken) one other = absurd other
       one_for_plan (Err (CircleBroken at)) s one other = absurd one
@@ -120,46 +138,58 @@ module _ (d : Declaration) where
     one_for_circle : (c : CircleCertificate) (r s : Result Yes No) → AnswersCircle d c r → AnswersCircle d c s → r ≡ s
     one_for_circle c (Ok (yes.Plan m)) s one other = absurd one
     one_for_circle c (Ok (yes.Circle m)) (Ok (yes.Plan n)) one other = absurd other
-    one_for_circle c (Ok (yes.Circle m)) (Ok (yes.Circle n)) one other = ap (λ (x : ℕ). Ok (yes.Circle x)) (one.1 ∙ sym other.1)
+    one_for_circle c (Ok (yes.Circle m)) (Ok (yes.Circle n)) one other =
+        ap (λ (x : ℕ). Ok (yes.Circle x)) (one.1 ∙ sym other.1)
     one_for_circle c (Ok (yes.Circle m)) (Err (NotFalling i j)) one other = absurd other
     one_for_circle c (Ok (yes.Circle m)) (Err LengthDiffers) one other = absurd other
     one_for_circle c (Ok (yes.Circle m)) (Err (ChainBroken at)) one other = absurd other
-    one_for_circle c (Ok (yes.Circle m)) (Err (CircleBroken at)) one other = absurd (joined-unbroken (before_in_circle c.arcs) c.arcs at one.0.joined other)
+    one_for_circle c (Ok (yes.Circle m)) (Err (CircleBroken at)) one other =
+        absurd (joined-unbroken (before_in_circle c.arcs) c.arcs at one.0.joined other)
     one_for_circle c (Ok (yes.Circle m)) (Err RunBroken) one other = absurd (other.1 one.0.deadlocks)
     one_for_circle c (Err (NotFalling i j)) s one other = absurd one
     one_for_circle c (Err LengthDiffers) s one other = absurd one
     one_for_circle c (Err (ChainBroken at)) s one other = absurd one
     one_for_circle c (Err (CircleBroken m)) (Ok (yes.Plan n)) one other = absurd other
-    one_for_circle c (Err (CircleBroken m)) (Ok (yes.Circle n)) one other = absurd (joined-unbroken (before_in_circle c.arcs) c.arcs m other.0.joined one)
+    one_for_circle c (Err (CircleBroken m)) (Ok (yes.Circle n)) one other =
+        absurd (joined-unbroken (before_in_circle c.arcs) c.arcs m other.0.joined one)
     one_for_circle c (Err (CircleBroken m)) (Err (NotFalling i j)) one other = absurd other
     one_for_circle c (Err (CircleBroken m)) (Err LengthDiffers) one other = absurd other
     one_for_circle c (Err (CircleBroken m)) (Err (ChainBroken at)) one other = absurd other
-    one_for_circle c (Err (CircleBroken m)) (Err (CircleBroken n)) one other = ap (λ (x : ℕ). Err (CircleBroken x)) (one_break (before_in_circle c.arcs) c.arcs m n one other)
-    one_for_circle c (Err (CircleBroken m)) (Err RunBroken) one other = absurd (joined-unbroken (before_in_circle c.arcs) c.arcs m other.0 one)
+    one_for_circle c (Err (CircleBroken m)) (Err (CircleBroken n)) one other =
+        ap (λ (x : ℕ). Err (CircleBroken x)) (one_break (before_in_circle c.arcs) c.arcs m n one other)
+    one_for_circle c (Err (CircleBroken m)) (Err RunBroken) one other =
+        absurd (joined-unbroken (before_in_circle c.arcs) c.arcs m other.0 one)
     one_for_circle c (Err RunBroken) (Ok (yes.Plan n)) one other = absurd other
     one_for_circle c (Err RunBroken) (Ok (yes.Circle n)) one other = absurd (one.1 other.0.deadlocks)
     one_for_circle c (Err RunBroken) (Err (NotFalling i j)) one other = absurd other
     one_for_circle c (Err RunBroken) (Err LengthDiffers) one other = absurd other
     one_for_circle c (Err RunBroken) (Err (ChainBroken at)) one other = absurd other
-    one_for_circle c (Err RunBroken) (Err (CircleBroken m)) one other = absurd (joined-unbroken (before_in_circle c.arcs) c.arcs m one.0 other)
+    one_for_circle c (Err RunBroken) (Err (CircleBroken m)) one other =
+        absurd (joined-unbroken (before_in_circle c.arcs) c.arcs m one.0 other)
     one_for_circle c (Err RunBroken) (Err RunBroken) one other = refl
 
-    pub one_answer : (c : Certificate) (r s : Result Yes No) → IsAsked d c → AnswersCertificate d c r → AnswersCertificate d c s → r ≡ s
+    pub one_answer : (c : Certificate) (r s : Result Yes No) → IsAsked d c → AnswersCertificate d c r
+        → AnswersCertificate d c s → r ≡ s
     one_answer (OfPlan c) r s asked one other = one_for_plan c asked r s one other
     one_answer (OfCircle c) r s asked one other = one_for_circle c r s one other
 
 -- ---- ends
 
 -- the steps of a prefix of a list
-IsRunFrom-front : (w : Wiring) (s : State) (steps : List Step) (m k : ℕ) (step : Step) → IsRunFrom w s (take m steps) → k < m → slice_get steps k ≡ Some step → Lawful w (after w s (take k steps)) step
+IsRunFrom-front : (w : Wiring) (s : State) (steps : List Step) (m k : ℕ) (step : Step) → IsRunFrom w s (take m steps)
+    → k < m → slice_get steps k ≡ Some step → Lawful w (after w s (take k steps)) step
 IsRunFrom-front w s [] m k step run less stands = absurd cc
 IsRunFrom-front w s (first ∷ steps) zero k step run less stands = absurd (omega arith)
-IsRunFrom-front w s (first ∷ steps) (suc m) zero step run less stands = let same : first ≡ step = cc in subst (Lawful w s) same run.0
-IsRunFrom-front w s (first ∷ steps) (suc m) (suc k) step run less stands = IsRunFrom-front w (effect w s first) steps m k step run.1 (omega arith) stands
+IsRunFrom-front w s (first ∷ steps) (suc m) zero step run less stands = let same : first ≡ step =
+    cc in subst (Lawful w s) same run.0
+IsRunFrom-front w s (first ∷ steps) (suc m) (suc k) step run less stands =
+    IsRunFrom-front w (effect w s first) steps m k step run.1 (omega arith) stands
 
 module _ (w : Wiring) (steps : List Step) where
   not_earlier : (m n : ℕ) → IsFirstUnlawful w steps m → IsFirstUnlawful w steps n → ¬ m < n
-  not_earlier m n one other less = one.unlawful (IsRunFrom-front w (empty_state w) steps (n - 1) (m - 1) one.step other.before (omega (arith, less, one.from_one)) one.stands)
+  not_earlier m n one other less = one.unlawful
+      (IsRunFrom-front w (empty_state w) steps (n - 1) (m - 1) one.step other.before (omega (arith, less, one.from_one))
+      one.stands)
 
   one_unlawful : (m n : ℕ) → IsFirstUnlawful w steps m → IsFirstUnlawful w steps n → m ≡ n
   one_unlawful m n one other = elim (cases_order m n) [

@@ -1,6 +1,7 @@
 pub use Rattle.wq_groups.specs.Declaration
 pub use Rattle.wq_core.specs.Deadlock
 pub use Rattle.wq_cert.specs.Certificate
+pub use Rattle.wq_cert.specs.AroundReading
 pub mod Chains
 pub mod Falling
 pub mod Answers
@@ -8,3 +9,6 @@ pub mod Implications
 pub mod RunEnds
 pub mod Searching
 pub mod Codes
+pub mod Around
+pub mod CodesAround
+pub mod SearchingAround

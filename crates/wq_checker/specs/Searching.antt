@@ -3,26 +3,25 @@ use Rattle.std.specs.Prelude.{◌≡◌, ◌↔◌, ℕ, ◌<◌, nat_lt, if◌t
 use Rattle.std.specs.Prelude.{Contains}
 use Rattle.wq_items.specs.declared.target.Target.{Target}
 use Rattle.wq_groups.specs.Declaration.{Declaration}
-use Rattle.wq_groups.specs.Assignment.{Assignment}
 use Rattle.wq_core.specs.declared.step.Step.{Step}
 use Rattle.wq_core.specs.Wiring.{Wiring}
 use Rattle.wq_core.specs.State.{State, HasUnfinishedOf, empty_state}
 use Rattle.wq_core.specs.Runs.{IsRun, end_of, AsDeclaredFrom}
 use Rattle.wq_core.specs.Held.{Machine}
 use Rattle.wq_checker.specs.declared.falling.DeclaredFlush.{DeclaredFlush}
-use Rattle.wq_checker.specs.Falling.{Falls, Declares}
+use Rattle.wq_checker.specs.Falling.{Declares}
 
--- of the flushes that `Of` has and that don't fall, this is the first by place
-pub record IsFirstOf (d : Declaration) (a : Assignment) (Of : ℕ → Target → Type 0) (flush : DeclaredFlush)
-    : Type 0 where
+-- of the flushes that `Of` has and that don't fall, this is the first by place. `Fall i j` says that one of item j by
+-- item i falls
+pub record IsFirstOf (Fall : ℕ → ℕ → Type 0) (Of : ℕ → Target → Type 0) (flush : DeclaredFlush) : Type 0 where
   pub there : Of flush.item flush.target
-  pub stays : ¬ Falls d a flush.item flush.target.item
-  pub first : (k : ℕ) (other : Target) → Of k other → other.place < flush.target.place → Falls d a k other.item
+  pub stays : ¬ Fall flush.item flush.target.item
+  pub first : (k : ℕ) (other : Target) → Of k other → other.place < flush.target.place → Fall k other.item
 
 -- the first flush that doesn't fall is found, if there is one; otherwise each falls
-abbrev pub FindsFirst : Declaration → Assignment → (ℕ → Target → Type 0) → Option DeclaredFlush → Type 0
-FindsFirst d a Of None = (k : ℕ) (target : Target) → Of k target → Falls d a k target.item
-FindsFirst d a Of (Some flush) = IsFirstOf d a Of flush
+abbrev pub FindsFirst : (ℕ → ℕ → Type 0) → (ℕ → Target → Type 0) → Option DeclaredFlush → Type 0
+FindsFirst Fall Of None = (k : ℕ) (target : Target) → Of k target → Fall k target.item
+FindsFirst Fall Of (Some flush) = IsFirstOf Fall Of flush
 
 -- the flushes of item i
 abbrev pub OfItem : Declaration → ℕ → ℕ → Target → Type 0

@@ -16,7 +16,7 @@ use wq_groups::Groups;
 use wq_items::{ItemId, ItemTable, Target};
 
 /// Whether any target is of this item.
-fn have_target(targets: &[Target], item: ItemId) -> bool
+pub(crate) fn have_target(targets: &[Target], item: ItemId) -> bool
     ensures { IsTrue result ↔ Any (λ (t : Target). t.item ≡ item) targets.now }
 {
     targets.iter().any(|t| t.item == item)

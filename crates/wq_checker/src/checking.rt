@@ -73,7 +73,7 @@ fn own_lanes<A: Allocator + Copy>(alloc: A, groups: u16) -> Result<Assignment<A>
 }
 
 /// Whether a run ends in a deadlock.
-fn is_deadlock(end: RunEnd) -> bool
+pub(crate) fn is_deadlock(end: RunEnd) -> bool
     ensures { IsTrue result ↔ (end ≡ Deadlock) }
 {
     match end {

@@ -6,7 +6,7 @@
 ghost use Rattle.std.specs.Prelude.{◌≡◌, ◌<◌, IfSome, IfNone, length};
 ghost use Rattle.wq_groups.specs.Declaration.{declaration_of};
 ghost use Rattle.wq_groups.specs.Assignment.{item_lane};
-ghost use Rattle.wq_checker.specs.Falling.{AllFall, IsFirstNotFalling};
+ghost use Rattle.wq_checker.specs.Falling.{AllFall, Falls, IsFirstNotFalling};
 ghost use Rattle.wq_checker.specs.Searching.{FindsFirst, OfItem, earlier};
 
 use std::alloc::Allocator;
@@ -15,13 +15,13 @@ use wq_items::{ItemId, ItemTable, Target};
 
 /// A declared flush: an item, and a target that it declares.
 #[derive(Clone, Copy)]
-struct DeclaredFlush {
-    item: ItemId,
-    target: Target,
+pub(crate) struct DeclaredFlush {
+    pub(crate) item: ItemId,
+    pub(crate) target: Target,
 }
 
 /// The workqueue of an item.
-fn lane_of<A: Allocator + Copy>(
+pub(crate) fn lane_of<A: Allocator + Copy>(
     groups: &Groups<A>,
     assignment: &Assignment<A>,
     item: ItemId,
@@ -43,7 +43,7 @@ fn first_of_item<A: Allocator + Copy>(
     requires grouped { length groups.now.group_of ≡ length table.now.names }
     requires assigned { length assignment.now.lane_of_group ≡ groups.now.groups }
     requires item { item < length table.now.names }
-    ensures { FindsFirst (declaration_of table.now groups.now) assignment.now
+    ensures { FindsFirst (Falls (declaration_of table.now groups.now) assignment.now)
         (OfItem (declaration_of table.now groups.now) item) result }
 {
     let _items = table.len();
@@ -60,7 +60,10 @@ fn first_of_item<A: Allocator + Copy>(
 }
 
 /// The flush with the lower place, if there are two.
-fn earlier(one: Option<DeclaredFlush>, other: Option<DeclaredFlush>) -> Option<DeclaredFlush>
+pub(crate) fn earlier(
+    one: Option<DeclaredFlush>,
+    other: Option<DeclaredFlush>,
+) -> Option<DeclaredFlush>
     ensures { result ≡ earlier one other }
 {
     match (one, other) {

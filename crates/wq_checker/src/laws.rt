@@ -2,20 +2,25 @@
 //!
 //! They speak of declarations, certificates and lists of steps alone, whatever code checks them.
 
-ghost use Rattle.std.specs.Prelude.{◌≡◌, ◌↔◌, ℕ, ◌<◌, List, length, Result};
+ghost use Rattle.std.specs.Prelude.{◌≡◌, ◌↔◌, ℕ, ◌<◌, List, length, Result, IsOk};
 ghost use Rattle.wq_items.specs.Chain.{Circle};
 ghost use Rattle.wq_groups.specs.Declaration.{Declaration, IsDeclaration};
 ghost use Rattle.wq_groups.specs.Assignment.{Assignment, IsAssignment};
 ghost use Rattle.wq_core.specs.declared.step.Step.{Step};
 ghost use Rattle.wq_core.specs.Wiring.{Wiring, LaneWaits, wiring};
 ghost use Rattle.wq_core.specs.Deadlock.{IsSafe, Deadlocks, IsLeast};
+ghost use Rattle.wq_fixed.specs.Fixed.{Fixed};
 ghost use Rattle.wq_cert.specs.Certificate.{PlanCertificate, CircleCertificate, Certificate};
+ghost use Rattle.wq_cert.specs.AroundReading.{AroundCertificate};
 ghost use Rattle.wq_checker.specs.declared.answer.Yes.{Yes};
 ghost use Rattle.wq_checker.specs.declared.answer.No.{No};
+ghost use Rattle.wq_checker.specs.declared.around.YesAround.{YesAround};
+ghost use Rattle.wq_checker.specs.declared.around.NoAround.{NoAround};
 ghost use Rattle.wq_checker.specs.declared.run.RunEnd.{RunEnd};
 ghost use Rattle.wq_checker.specs.Chains.{IsChainAlong, IsCircleAlong};
 ghost use Rattle.wq_checker.specs.Answers.{IsGoodPlan, IsGoodCircle, IsPlanAsked, IsCircleAsked, IsAsked};
 ghost use Rattle.wq_checker.specs.Answers.{AnswersCertificate};
+ghost use Rattle.wq_checker.specs.Around.{AnswersAround, IsGoodAround};
 ghost use Rattle.wq_core.specs.MustGoOn.{rescued_items};
 ghost use Rattle.wq_checker.specs.RunEnds.{EndsAs, EndsFor};
 
@@ -67,6 +72,12 @@ pub fn a_certificate_has_one_answer()
         (r : Result Yes No) × AnswersCertificate d c r }
     ensures at_most_one { (d : Declaration) (c : Certificate) (r s : Result Yes No) → IsDeclaration d → IsAsked d c →
         AnswersCertificate d c r → AnswersCertificate d c s → r ≡ s }
+{}
+
+/// Around fixed workqueues, a yes is answered exactly to a good certificate.
+pub fn a_yes_is_answered_exactly_to_a_good_certificate()
+    ensures { (d : Declaration) (f : Fixed) (c : AroundCertificate) (r : Result YesAround NoAround) →
+        AnswersAround d f c r → IsOk r ↔ IsGoodAround d f c }
 {}
 
 /// A list of steps has at most one end.

@@ -1,12 +1,10 @@
 -- Lists of flushes that a loop makes, and marks of places.
-use Rattle.std.proofs.Common.{◌≡◌, ℕ, ◌+◌, ◌<◌, ◌≤◌, ◌==◌, ◌||◌, ◌⊎◌, Bool, true, false, cond, List, [], ◌∷◌, ◌++◌}
-use Rattle.std.proofs.Common.{length, map, take, get_or, set, replicate, inl, inr, Some, None, refl, sym, ap, subst}
+use Rattle.std.proofs.Common.{◌≡◌, ℕ, ◌+◌, ◌<◌, ◌==◌, ◌||◌, Bool, true, false, cond, List, [], ◌∷◌, ◌++◌}
+use Rattle.std.proofs.Common.{length, map, take, get_or, replicate, refl, sym, ap}
 use Rattle.std.proofs.Common.{◌∙◌, arith}
-use Rattle.std.specs.Prelude.{filter, flat_map, slice_get, slice_index_or}
-use Rattle.std.specs.List.{All}
-use Rattle.std.proofs.lemmas.Bool.{cases_eq, eq-eqb, ne_eqb, or_left, or_right}
-use Rattle.std.proofs.lemmas.List.{take_more, map_push, get_or-set_same, get_or-set_other, get_or-replicate}
-use Rattle.std.proofs.lemmas.List.{length-set, length-replicate, append-nil}
+use Rattle.std.specs.Prelude.{filter, flat_map, slice_index_or}
+use Rattle.std.proofs.lemmas.List.{take_more, map_push, get_or-replicate}
+use Rattle.std.proofs.lemmas.List.{length-replicate, append-nil}
 use Rattle.std.proofs.lemmas.List.Elements.{filter_more}
 use Rattle.std.proofs.lemmas.List.Concat.{flat_map-append}
 use Rattle.std.proofs.lemmas.List.Folds.{list_any-append}
@@ -16,7 +14,7 @@ use Rattle.wq_groups.specs.Assignment.{item_lane}
 use Rattle.wq_graph.specs.declared.arc.WaitArc.{WaitArc}
 use Rattle.wq_core.specs.Assigned.{Assigned, IsAssigned}
 use Rattle.wq_core.specs.Workqueues.{Workqueues}
-use Rattle.wq_circles.specs.Held.{ArePlacesMarked, HasMarked, beginnings, begins_marked, is_marked_component}
+use Rattle.wq_circles.specs.Held.{ArePlacesMarked, HasMarked, beginnings}
 
 -- ---- a loop that keeps what passes
 
@@ -67,27 +65,6 @@ lane-within a is i item =
     let each = is.assignment.assignment in
     each.within _ 0 (omega (arith, one, each.one_each))
 
--- ---- a component's first flush
-
-pub marked-first : (d : Declaration) (ws : Workqueues) (led : List Bool) (arcs : List WaitArc) (a : WaitArc)
-    → Some a ≡ slice_get arcs 0 → is_marked_component d ws led arcs ≡ begins_marked d ws led a
-marked-first d ws led [] a is = absurd (let never : Some a ≡ None = is in cc)
-marked-first d ws led (b ∷ arcs) a is =
-    let same : b ≡ a = (let first : Some a ≡ Some b = is in cc) in
-    ap (begins_marked d ws led) same
-
-pub marked-none : (d : Declaration) (ws : Workqueues) (led : List Bool) (arcs : List WaitArc)
-    → None ≡ slice_get arcs 0 → is_marked_component d ws led arcs ≡ false
-marked-none d ws led [] is = refl
-marked-none d ws led (b ∷ arcs) is = absurd (let never : None ≡ Some b = is in cc)
-
-pub first-passes : (n : ℕ) (arcs : List WaitArc) (a : WaitArc) → All (λ (b : WaitArc). b.src < n) arcs
-    → Some a ≡ slice_get arcs 0 → a.src < n
-first-passes n [] a all is = absurd (let never : Some a ≡ None = is in cc)
-first-passes n (b ∷ arcs) a all is =
-    let same : b ≡ a = (let first : Some a ≡ Some b = is in cc) in
-    subst (λ (x : WaitArc). x.src < n) same (all 0 a (omega arith))
-
 -- ---- marks
 
 or_false : (b : Bool) → b ≡ (b || false)
@@ -113,31 +90,6 @@ HasMarked-then xs ys one two three first second = record {
       ∙ ap (λ (b : Bool). b || is_among ys p) (first.marked p within)
       ∙ or_assoc (at one p) (is_among xs p) (is_among ys p)
       ∙ ap (λ (b : Bool). at one p || b) (sym (list_any-append (λ (q : ℕ). q == p) xs ys));
-}
-
--- a place isn't that of another mark
-other_place : (place p : ℕ) (b : Bool) → (place ≡ p → ⊥) → b ≡ (b || is_among (place ∷ []) p)
-other_place place p b other = or_false b ∙ ap (λ (c : Bool). b || (c || false)) (sym (ne_eqb place p other))
-
--- a mark is set
-pub HasMarked-set : (place : ℕ) (old : List Bool) → place < length old
-    → HasMarked (place ∷ []) old (set old place true)
-HasMarked-set place old within =
-    record { one_each = length-set old place true; marked = λ p lt. marked p (cases_eq p place) }
-  where
-    marked : (p : ℕ) → ((p ≡ place) ⊎ (p ≡ place → ⊥))
-        → at (set old place true) p ≡ (at old p || is_among (place ∷ []) p)
-    marked p (inl own) =
-        ap (at (set old place true)) own ∙ get_or-set_same old place true false within
-        ∙ sym (or_right (at old p) (is_among (place ∷ []) p) (or_left (place == p) false (eq-eqb place p (sym own))))
-    marked p (inr other) =
-        get_or-set_other old place p true false other ∙ other_place place p (at old p) (λ same. other (sym same))
-
--- or there is none
-pub HasMarked-past : (place : ℕ) (old : List Bool) → length old ≤ place → HasMarked (place ∷ []) old old
-HasMarked-past place old past = record {
-  one_each = refl;
-  marked = λ p within. other_place place p (at old p) (λ same. omega (arith, same, within, past));
 }
 
 -- all marks are made

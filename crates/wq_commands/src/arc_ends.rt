@@ -10,7 +10,7 @@ use wq_graph::WaitArc;
 use wq_items::ItemId;
 
 /// The item and the target of each arc.
-pub(crate) fn ends_of<A: Allocator + Copy>(
+pub fn ends_of<A: Allocator + Copy>(
     alloc: A,
     arcs: &[WaitArc],
 ) -> Result<Vec<(ItemId, ItemId), A>, AllocError>

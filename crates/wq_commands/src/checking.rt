@@ -44,7 +44,7 @@ fn yes_circle_text<A: Allocator + Copy>(alloc: A, length: u32) -> Result<Vec<u8,
 }
 
 /// The line of a yes.
-fn yes_line<A: Allocator + Copy>(alloc: A, yes: Yes) -> Result<Vec<u8, A>, AllocError>
+pub fn yes_line<A: Allocator + Copy>(alloc: A, yes: Yes) -> Result<Vec<u8, A>, AllocError>
     ensures { IfOk result (λ text. text.items ≡ line_text (yes_words yes)) }
 {
     match yes {
@@ -97,7 +97,7 @@ fn put_details<A: Allocator + Copy>(
 }
 
 /// The line of a no: `no 50 ITEM TARGET`, `no 51 AT`, `no 52`, `no 53 AT` or `no 54`.
-fn no_line<A: Allocator + Copy>(
+pub fn no_line<A: Allocator + Copy>(
     alloc: A,
     table: &ItemTable<'_, A>,
     no: &No,

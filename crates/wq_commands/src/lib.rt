@@ -29,8 +29,10 @@ mod replaying_for;
 mod shell;
 
 pub use answer::text_of_circle;
+pub use arc_ends::ends_of;
 pub use assigned::{own_workqueues, workqueues_of};
 pub use check::{CheckCommand, check_cmd};
+pub use checking::{no_line, yes_line};
 pub use deadlock::{DeadlockCommand, deadlock_cmd};
 pub use deadlocking::{Verdict, safe_text};
 pub use declaration::{MAX_DECLARATION, MAX_DECLARATION_LINE, Stop, read_declaration};

@@ -3,7 +3,7 @@
 //! Each byte of the line is looked at a fixed number of times: when words are cut, when names are judged, and when
 //! there is a fault.
 
-ghost use Rattle.std.specs.Prelude.{◌≡◌};
+ghost use Rattle.std.specs.Prelude.{◌≡◌, ◌&&◌};
 ghost use Rattle.std.specs.List.{list_all};
 ghost use Rattle.wq_text.specs.Words.{words_of};
 ghost use Rattle.wq_decl.specs.Names.{is_name_byte, is_name, are_names};
@@ -36,11 +36,25 @@ fn is_name_byte(byte: u8) -> bool
     NAME_BYTES[byte as usize] != b','
 }
 
-/// Whether each byte may be in a name.
+/// Whether each of four bytes may be in a name.
+fn are_four_name_bytes(a: u8, b: u8, c: u8, d: u8) -> bool
+    ensures { result ≡ (is_name_byte a && (is_name_byte b && (is_name_byte c && is_name_byte d))) }
+{
+    is_name_byte(a) && is_name_byte(b) && is_name_byte(c) && is_name_byte(d)
+}
+
+/// Whether each byte may be in a name. Four bytes are looked at in a step.
 fn are_name_bytes(word: &[u8]) -> bool
     ensures { result ≡ list_all is_name_byte word.now }
 {
-    for byte in word {
+    let mut rest = word;
+    while let [a, b, c, d, others @ ..] = rest {
+        if !are_four_name_bytes(*a, *b, *c, *d) {
+            return false;
+        }
+        rest = others;
+    }
+    for byte in rest {
         if !is_name_byte(*byte) {
             return false;
         }

@@ -6,12 +6,13 @@
 ghost use Rattle.std.specs.Prelude.{◌≡◌, ◌∷◌, codes, map, option_map, ℕ, IfOk};
 ghost use Rattle.wq_diagnosis.specs.Diagnosis.{head, shown_lines, IsDiagnosis};
 ghost use Rattle.wq_checker.specs.Codes.{no_code};
+ghost use Rattle.wq_checker.specs.CodesAround.{no_around_code};
 ghost use Rattle.wq_diagnosis.specs.Refused.{no_item_note, NotesNoItem};
 
 use crate::further::push_further;
 use crate::layout::{column, lines_of, place_words, push_excerpt, put_line, put_lines};
 use std::alloc::{AllocError, Allocator};
-use wq_checker::No;
+use wq_checker::{No, NoAround};
 use wq_commands::TOO_MANY_LANES;
 use wq_findings::{
     CertificateKind, Finding, Found, Mark, Refused, What, in_answer, in_certificate,
@@ -327,6 +328,114 @@ fn number_of(line: &Option<Line<'_>>) -> u32 {
         Some(line) => line.no(),
         None => 0,
     }
+}
+
+/// What is wrong with a line of a certificate around fixed workqueues that is refused with this number; or, if that is
+/// 0, with the whole text.
+fn fault_around(code: u32, line: u32) -> &'static str {
+    match code {
+        40 if line == 0 => "the text ends too early, or it has more than 8,388,608 bytes",
+        41 => "an item is on two workqueues, or one that FIXED doesn't have is on none",
+        42 => "the items of a group are on several workqueues",
+        43 => "a number isn't the next one, or is too large",
+        _ => "this isn't the next line of a plan, a circle or a norescuer text around workqueues",
+    }
+}
+
+/// What is wrong with the whole of fixed workqueues that are refused with this number.
+fn unfit(code: u32) -> &'static str {
+    match code {
+        42 => "a group has an item on a workqueue, and another one on none",
+        _ => "these workqueues and the groups on none of them are more than 4,096",
+    }
+}
+
+/// The diagnosis of a text that is refused with the number `code` for `line`, of which no byte is meant.
+fn of_text<A: Allocator + Copy>(
+    alloc: A,
+    text: Source<'_>,
+    code: u32,
+    line: u32,
+    what: &'static str,
+) -> Result<Vec<u8, A>, AllocError>
+    ensures { IfOk result (λ said. IsDiagnosis text.entry.file.now (codes "refused") code line said.items) }
+{
+    let finding = Finding::whole(What::Said(what));
+    diagnosis(alloc, text.file, None, Refusal::new(code, line), finding)
+}
+
+/// The diagnosis of a certificate around fixed workqueues that is refused with the number `code` for `line`. No byte is
+/// meant.
+///
+/// The only error is out of memory (20).
+pub fn of_refused_around<A: Allocator + Copy>(
+    alloc: A,
+    certificate: Source<'_>,
+    code: u32,
+    line: u32,
+) -> Result<Vec<u8, A>, AllocError>
+    ensures { IfOk result (λ said. IsDiagnosis certificate.entry.file.now (codes "refused") code line said.items) }
+{
+    of_text(alloc, certificate, code, line, fault_around(code, line))
+}
+
+/// The diagnosis of fixed workqueues that are refused with the number `code` for `line`. `declared` is what the text
+/// `declaration` declares. If all of its lines may stand, no byte is meant.
+///
+/// The only error is out of memory (20).
+pub fn of_refused_fixed<A: Allocator + Copy>(
+    alloc: A,
+    declared: &Declaration<'_, A>,
+    declaration: &[u8],
+    fixed: Source<'_>,
+    code: u32,
+    line: u32,
+) -> Result<Vec<u8, A>, AllocError>
+    ensures { IfOk result (λ said. IsDiagnosis fixed.entry.file.now (codes "refused") code line said.items) }
+{
+    if line == 0 && (code == 42 || code == 43) {
+        return of_text(alloc, fixed, code, line, unfit(code));
+    }
+    let kind = CertificateKind::Assignment;
+    of_refused_certificate(alloc, kind, declared, declaration, fixed, code, line)
+}
+
+/// What is wrong with a certificate around fixed workqueues to which the checker answered this no.
+fn lack_around(no: &NoAround) -> &'static str {
+    match no {
+        NoAround::Plain(No::NotFalling { .. }) => {
+            "a flush leads to no workqueue that comes before its own in `order`"
+        }
+        NoAround::Plain(No::LengthDiffers) => {
+            "the chain should have as many new workqueues as there are"
+        }
+        NoAround::Plain(No::ChainBroken { .. }) => "the chain doesn't join",
+        NoAround::Plain(No::CircleBroken { .. }) => "the circle doesn't join",
+        NoAround::Plain(No::RunBroken) => {
+            "these steps don't deadlock where each free group has a workqueue of its own"
+        }
+        NoAround::HasRescuer => "this isn't a flush that leads to no rescuer",
+    }
+}
+
+/// The diagnosis of a certificate around fixed workqueues to which the checker answered this no. No line is meant.
+///
+/// The only error is out of memory (20).
+pub fn of_lack_around<A: Allocator + Copy>(
+    alloc: A,
+    certificate: Source<'_>,
+    no: &NoAround,
+) -> Result<Vec<u8, A>, AllocError>
+    ensures { IfOk result (λ said.
+        IsDiagnosis certificate.entry.file.now (codes "no") (no_around_code no.now) 0 said.items) }
+{
+    diagnosis(
+        alloc,
+        certificate.file,
+        None,
+        Refusal::no(no.code(), 0),
+        Finding::whole(What::Said(lack_around(no))),
+    )
 }
 
 /// The diagnosis of a certificate of this declaration to which the checker answered `no`.

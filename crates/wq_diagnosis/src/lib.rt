@@ -19,7 +19,8 @@ mod unlawful;
 mod words;
 
 pub use diagnosis::{
-    Source, of_lack, of_no_item, of_refused_certificate, of_refused_declaration, of_too_many,
+    Source, of_lack, of_lack_around, of_no_item, of_refused_around, of_refused_certificate,
+    of_refused_declaration, of_refused_fixed, of_too_many,
 };
 pub use failed::of_failed;
 pub use layout::{column, lines_of, place_words, push_excerpt, put_line, put_lines};

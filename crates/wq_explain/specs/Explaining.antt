@@ -14,7 +14,7 @@ use Rattle.wq_explain.specs.declared.table.TheConstants.{EXPLANATIONS}
 -- the numbers that have an explanation: those of a refused declaration, of a refused certificate, of a `no`, and of a
 -- plan with too many workqueues to run
 abbrev pub numbers : List ℕ
-numbers = 1 ∷ 2 ∷ 3 ∷ 4 ∷ 5 ∷ 6 ∷ 7 ∷ 8 ∷ 9 ∷ 10 ∷ 11 ∷ 12 ∷ 40 ∷ 41 ∷ 42 ∷ 43 ∷ 50 ∷ 51 ∷ 52 ∷ 53 ∷ 54 ∷ 69 ∷ []
+numbers = 1 ∷ 2 ∷ 3 ∷ 4 ∷ 5 ∷ 6 ∷ 7 ∷ 8 ∷ 9 ∷ 10 ∷ 11 ∷ 12 ∷ 40 ∷ 41 ∷ 42 ∷ 43 ∷ 50 ∷ 51 ∷ 52 ∷ 53 ∷ 54 ∷ 55 ∷ 69 ∷ []
 
 -- the names that have an explanation: those of the numbers, in their order, those of the faults, the words with which
 -- lines of answers begin, and the directives
@@ -24,13 +24,13 @@ names =
     ∷ codes "BadName" ∷ codes "ItemTwice" ∷ codes "UnknownItem" ∷ codes "TooManyItems" ∷ codes "TooManyFlushes"
     ∷ codes "GroupedTwice" ∷ codes "ExtraWord" ∷ codes "BadCertLine" ∷ codes "NotAllItems" ∷ codes "GroupSplit"
     ∷ codes "NumberOutOfRange" ∷ codes "NotFalling" ∷ codes "ChainBroken" ∷ codes "LengthDiffers"
-    ∷ codes "CircleBroken" ∷ codes "RunBroken" ∷ codes "TooManyLanes" ∷ codes "read" ∷ codes "memory"
-    ∷ codes "thread" ∷ codes "tally" ∷ codes "write"
-    ∷ codes "plan" ∷ codes "wq" ∷ codes "chain" ∷ codes "arc" ∷ codes "circle" ∷ codes "run" ∷ codes "unsure"
-    ∷ codes "yes" ∷ codes "no" ∷ codes "not lawful" ∷ codes "deadlock" ∷ codes "stuck" ∷ codes "open"
-    ∷ codes "safe" ∷ codes "components" ∷ codes "arc?" ∷ codes "norescuer" ∷ codes "ways" ∷ codes "workqueues"
-    ∷ codes "refused" ∷ codes "fault" ∷ codes "item" ∷ codes "flush" ∷ codes "flushwq" ∷ codes "flush?"
-    ∷ codes "flushwq?" ∷ codes "ordered" ∷ []
+    ∷ codes "CircleBroken" ∷ codes "RunBroken" ∷ codes "HasRescuer" ∷ codes "TooManyLanes" ∷ codes "read"
+    ∷ codes "memory" ∷ codes "thread" ∷ codes "tally" ∷ codes "write"
+    ∷ codes "plan" ∷ codes "wq" ∷ codes "order" ∷ codes "chain" ∷ codes "arc" ∷ codes "circle" ∷ codes "run"
+    ∷ codes "unsure" ∷ codes "yes" ∷ codes "no" ∷ codes "not lawful" ∷ codes "deadlock" ∷ codes "stuck"
+    ∷ codes "open" ∷ codes "safe" ∷ codes "components" ∷ codes "arc?" ∷ codes "norescuer" ∷ codes "ways"
+    ∷ codes "workqueues" ∷ codes "refused" ∷ codes "fault" ∷ codes "item" ∷ codes "flush" ∷ codes "flushwq"
+    ∷ codes "flush?" ∷ codes "flushwq?" ∷ codes "ordered" ∷ []
 
 -- a row of the table: the number that it explains, if it explains one; the name of the number or of the fault, the word
 -- of an answer, or the directive; its line in a list; and what it means

@@ -283,7 +283,9 @@ const NOT_ALL_ITEMS: Explanation = (
     "41 NotAllItems\n",
     "\
 `refused 41 line N`: line N, a `wq` or `norescuer` line, has an item twice, or
-one that such a line above it has. With line 0 an item is on no such line.
+one that such a line above it has. With line 0 an item is on no such line. In a
+plan around FIXED an item of FIXED counts as one of a line above, and only the
+others have to be on a line.
 
 The rule: docs/FORMAT.md, \"Certificates\"
 
@@ -304,7 +306,8 @@ const GROUP_SPLIT: Explanation = (
     "42 GroupSplit\n",
     "\
 `refused 42 line N`: line N, a `wq` or `norescuer` line, has an item that shares
-an `ordered` line with one that is on such a line above.
+an `ordered` line with one that is on such a line above. With line 0 FIXED has
+an item of an `ordered` line, and lacks another one.
 
 The rule: docs/FORMAT.md, \"Certificates\"
 
@@ -327,7 +330,10 @@ const NUMBER_OUT_OF_RANGE: Explanation = (
 `refused 43 line N`: a number of line N is out of its range. The `wq` lines are
 numbered 0, 1, 2 and so on, in an assignment together with `norescuer` lines;
 `plan`, `chain` and `circle` have at most 4,096, `circle` at least 1, `unsure`
-at most 16,384; and no step is on a workqueue above 4,095.
+at most 16,384; and no step is on a workqueue above 4,095. In a plan around
+FIXED the `wq` lines are numbered on from those of FIXED, and `order` has the
+numbers of both. With line 0 the workqueues of FIXED, and the groups that are on
+none of them, are more than 4,096.
 
 The rule: docs/FORMAT.md, \"Certificates\"
 
@@ -349,7 +355,8 @@ const NOT_FALLING: Explanation = (
     "\
 `no 50 ITEM TARGET`: ITEM flushes TARGET, or the whole workqueue of TARGET, and
 its workqueue isn't above that of TARGET. A plan is only taken where each flush
-leads to a lower workqueue.
+leads to a lower workqueue. Around FIXED it has to lead to a workqueue with a
+rescuer that comes before that of ITEM in `order`.
 
 The rule: docs/FORMAT.md, \"The command `check`\"
 
@@ -372,7 +379,9 @@ const CHAIN_BROKEN: Explanation = (
     "\
 `no 51 AT`: arc AT of the chain, counted from 1, isn't a declared flush, of
 whichever kind, or its item isn't in the group of the target of the arc before
-it. With AT 0 the chain is one group, and the declaration has none.
+it. With AT 0 the chain is one group, and the declaration has none. Around FIXED
+the item has to be on the workqueue of that target, which has a rescuer; with AT
+0 no group is left that FIXED doesn't have.
 
 The rule: docs/FORMAT.md, \"The command `check`\"
 
@@ -394,7 +403,8 @@ const LENGTH_DIFFERS: Explanation = (
     "52 LengthDiffers\n",
     "\
 `no 52`: the chain doesn't have as many groups as there are workqueues, so it
-doesn't show that fewer workqueues aren't enough.
+doesn't show that fewer workqueues aren't enough. Around FIXED only workqueues
+count that FIXED doesn't have, on the chain and in the plan.
 
 The rule: docs/FORMAT.md, \"The command `check`\"
 
@@ -416,7 +426,8 @@ const CIRCLE_BROKEN: Explanation = (
     "\
 `no 53 AT`: arc AT of the circle, counted from 1, isn't a declared flush, of
 whichever kind, or its item isn't in the group of the target of the arc before
-it. The arc before the first one is the last.
+it. The arc before the first one is the last. Around FIXED the item has to be on
+the workqueue of that target, which has a rescuer.
 
 The rule: docs/FORMAT.md, \"The command `check`\"
 
@@ -437,7 +448,8 @@ const RUN_BROKEN: Explanation = (
     "54 RunBroken\n",
     "\
 `no 54`: the circle goes round, but the run after it doesn't deadlock where
-each group has a workqueue of its own, numbered as the groups are.
+each group has a workqueue of its own, numbered as the groups are. Around FIXED
+only those have one that FIXED doesn't have; they are numbered on from its own.
 
 The rule: docs/FORMAT.md, \"The command `check`\"
 
@@ -449,6 +461,29 @@ To see it:
 To mend it:
 Leave the run out: the circle alone is enough. Or take the run that `wqplan
 plan` prints. `wqplan replay` says how a run ends.
+",
+);
+
+const HAS_RESCUER: Explanation = (
+    Some(55),
+    "HasRescuer",
+    "55 HasRescuer\n",
+    "\
+`no 55`: the arc of the norescuer text isn't a declared flush, or its item is on
+a workqueue without a rescuer, or its target on one that has one. Items that
+FIXED doesn't have are on workqueues with a rescuer.
+
+The rule: docs/FORMAT.md, \"Planning around workqueues\"
+
+To see it:
+    printf 'item a\\nitem b\\nflush a b\\n' > decl
+    printf 'wq 0 b\\n' > fixed
+    printf 'norescuer 1\\narc a b\\n' > cert
+    wqplan check decl cert fixed
+
+To mend it:
+Ask `wqplan plan` with this FIXED again. It prints such a flush where one is in
+the way of each plan.
 ",
 );
 
@@ -578,7 +613,7 @@ command again.
 );
 
 /// The explanations of the numbers, in their order, and those of the faults.
-pub static EXPLANATIONS: [Explanation; 27] = [
+pub static EXPLANATIONS: [Explanation; 28] = [
     TEXT_TOO_LONG,
     LINE_TOO_LONG,
     BAD_BYTE,
@@ -600,6 +635,7 @@ pub static EXPLANATIONS: [Explanation; 27] = [
     LENGTH_DIFFERS,
     CIRCLE_BROKEN,
     RUN_BROKEN,
+    HAS_RESCUER,
     TOO_MANY_LANES,
     READ,
     MEMORY,

@@ -12,7 +12,7 @@ const PLAN: Explanation = (
     "\
 `plan K`: with the items on K workqueues, as the `wq` lines have them, no order
 of what happens ends in a hang while memory is short. With fewer one does: the
-chain shows it.
+chain shows it. With FIXED the K workqueues are new ones, behind those of FIXED.
 
 The rule: docs/FORMAT.md, \"Plan texts\"
 
@@ -48,6 +48,28 @@ hang, and `wqplan repair` what to change then.
 ",
 );
 
+const ORDER: Explanation = (
+    None,
+    "order",
+    "order answer\n",
+    "\
+`order Q..`: in this order, each of these workqueues waits only for those before
+it. They are those that have a rescuer, of FIXED and of the plan. It shows that
+the plan is safe, whatever their numbers are.
+
+The rule: docs/FORMAT.md, \"Planning around workqueues\"
+
+To see it:
+    printf 'item a\\nitem b\\nflush a b\\n' > decl
+    printf 'wq 0 a\\n' > fixed
+    wqplan plan decl fixed
+
+What to do:
+Write the `wq` lines above it behind those of FIXED: together they are an
+assignment. `wqplan check` reads the order, with the plan and FIXED.
+",
+);
+
 const CHAIN: Explanation = (
     None,
     "chain",
@@ -55,7 +77,8 @@ const CHAIN: Explanation = (
     "\
 `chain N`: the N-1 flushes below it follow one another, so N groups of items
 wait for each other in a chain, and each needs a workqueue of its own. It is why
-no plan has fewer workqueues.
+no plan has fewer workqueues. With FIXED the N are workqueues, those of FIXED
+among them, and only the new ones count.
 
 The rule: docs/FORMAT.md, \"Plan texts\"
 
@@ -169,7 +192,8 @@ const YES: Explanation = (
     "\
 `yes K`: the plan that was checked is safe for this declaration, and has the
 fewest workqueues. `yes circle N`: the circle is one of this declaration, so no
-assignment helps.
+assignment helps. `yes norescuer`: nor does one that keeps FIXED, as an item
+waits for one that FIXED has on a workqueue without a rescuer.
 
 The rule: docs/FORMAT.md, \"The command `check`\"
 
@@ -381,7 +405,8 @@ const NORESCUER: Explanation = (
 `norescuer M`: the M flushes below it are of items on workqueues without a
 rescuer, by items on workqueues that have one. While memory is short, nobody is
 sure to run what they wait for, so each of them alone can hang. In an assignment
-`norescuer Q NAME..` says that workqueue Q has no rescuer.
+`norescuer Q NAME..` says that workqueue Q has no rescuer. `plan` prints one
+that leads to a workqueue of FIXED: no new workqueues help.
 
 The rule: docs/FORMAT.md, \"The command `circles`\"
 
@@ -601,9 +626,10 @@ at once. An assignment doesn't say which workqueues are ordered.
 );
 
 /// The explanations of the words of answers and of the directives, in the order of docs/FORMAT.md.
-pub static WORDS: [Explanation; 27] = [
+pub static WORDS: [Explanation; 28] = [
     PLAN,
     WQ,
+    ORDER,
     CHAIN,
     ARC,
     CIRCLE,

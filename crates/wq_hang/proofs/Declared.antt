@@ -10,7 +10,7 @@ use Rattle.wq_items.specs.declared.target.Target.{Target}
 use Rattle.wq_items.proofs.Tables.{targets_of-below}
 use Rattle.wq_core.specs.Wiring.{Wiring, IsWiring, items, declared_by}
 use Rattle.wq_hang.specs.declared.hop.Hop.{Hop}
-use Rattle.wq_hang.specs.Walk.{target_beside, unsure_part}
+use Rattle.wq_hang.specs.Walk.{IsPath, target_beside, unsure_part}
 use Rattle.wq_hang.specs.Search.{hop_cost, least_hop}
 
 pub declared-item : (w : Wiring) (i : ℕ) (t : Target) → Contains (declared_by w i) t → i < items w
@@ -25,6 +25,13 @@ declared-item w i t there = elim (cases_lt i (items w)) [
 pub declared-target : (w : Wiring) (i : ℕ) (t : Target) → IsWiring w → Contains (declared_by w i) t → t.item < items w
 declared-target w i t wiring (k, lt, at) =
     subst (λ (u : Target). u.item < items w) at (targets_of-below (items w) w.waits i wiring.targets_are_items k t lt)
+
+-- the first item of a path by one hop or more declares a flush
+pub path_declares : (w : Wiring) (i j : ℕ) (hops : List Hop) → 0 < length hops → IsPath w i hops j
+    → 0 < length (declared_by w i)
+path_declares w i j [] some path = absurd (omega arith)
+path_declares w i j (h ∷ hops) some path =
+    subst (λ (k : ℕ). 0 < length (declared_by w k)) path.0 (omega (arith, path.1.declared.1))
 
 pub beside_cases : (h : Hop) → ((target_beside h ≡ []) × (h.flush.whole ≡ false → h.flush.item ≡ h.next)) ⊎ ((target_beside h ≡ h.flush.item ∷ []) × (h.flush.item ≢ h.next))
 beside_cases h = by h.flush.whole (eqb h.flush.item h.next) refl refl

@@ -1,7 +1,7 @@
 -- The best end so far: what was looked at, flush by flush and item by item.
-use Rattle.std.proofs.Common.{◌≡◌, ℕ, ◌+◌, ◌<◌, ◌≤◌, ◌⊎◌, inl, inr, false, List, [], ◌∷◌, ◌++◌, length, Some, None}
+use Rattle.std.proofs.Common.{◌≡◌, ℕ, ◌+◌, ◌<◌, ◌≤◌, ◌⊎◌, inl, inr, List, [], ◌∷◌, ◌++◌, length, Some, None}
 use Rattle.std.proofs.Common.{Option}
-use Rattle.std.proofs.Common.{refl, sym, ap, subst, ◌∙◌, arith}
+use Rattle.std.proofs.Common.{refl, sym, ap, subst, arith}
 use Rattle.std.specs.Prelude.{Contains, slice_index}
 use Rattle.std.specs.List.{All}
 use Rattle.std.proofs.lemmas.Bool.{cases_lt}
@@ -12,11 +12,11 @@ use Rattle.wq_core.specs.Wiring.{Wiring, HasRescuer, items, lane_of}
 use Rattle.wq_hang.specs.declared.hop.Hop.{Hop}
 use Rattle.wq_hang.specs.declared.least_for.End.{End}
 use Rattle.wq_hang.specs.declared.least_for.End.TheVariants as end
-use Rattle.wq_hang.specs.Walk.{IsHop, IsPath, IsToBare, max_walk_cost}
-use Rattle.wq_hang.specs.Search.{Reach, hop_cost, hops_cost, hop_to, step, IsBetter, IsNoBetter}
-use Rattle.wq_hang.specs.WaysFor.{AreNear, IsWayFrom, PendingFound}
-use Rattle.wq_hang.specs.EndsFor.{Field, IsRoundAlone, EndsBare, EndsRound, EndsAlone, NoneBare, NoneFrom, NoneAlone}
-use Rattle.wq_hang.specs.EndsFor.{IsEnd, IsBest}
+use Rattle.wq_hang.specs.Walk.{IsToBare, max_walk_cost}
+use Rattle.wq_hang.specs.Search.{Reach, hops_cost, step, IsBetter, IsNoBetter}
+use Rattle.wq_hang.specs.WaysFor.{AreNear, PendingFound}
+use Rattle.wq_hang.specs.EndsFor.{Field, EndsBare, EndsRound, NoneBare, NoneFrom, NoneAlone}
+use Rattle.wq_hang.specs.EndsFor.{IsBelowRounds, IsEnd, IsBest}
 use Rattle.wq_hang.proofs.Declared.{declared-item}
 
 -- what is searched through, by its parts
@@ -99,9 +99,15 @@ pub hops_some : (hops : List Hop) → 0 < length hops → 3 ≤ hops_cost hops
 hops_some [] some = absurd (omega (arith, some))
 hops_some (h ∷ hops) some = omega arith
 
-pub NoneFrom-near : (f : Field) (best i : ℕ) → best ≤ slice_index f.ways.costs i + 3 → NoneFrom f best i
-NoneFrom-near f best i few [] some path = absurd (omega (arith, some))
-NoneFrom-near f best i few (h ∷ hops) some path = omega (arith, few)
+-- no round costs less than a hop
+pub IsBelowRounds-hop : (w : Wiring) → IsBelowRounds w 3
+IsBelowRounds-hop w hops is = hops_some hops is.some
+
+-- if no round costs less than this, none from the item is better
+pub NoneFrom-below : (f : Field) (best i least : ℕ) → IsBelowRounds f.wiring least
+    → best ≤ slice_index f.ways.costs i + least → NoneFrom f best i
+NoneFrom-below f best i least below few hops some path =
+    omega (arith, few, below hops (record { some = some; first = i; path = path }))
 
 -- there is no round from an item that doesn't exist
 pub NoneFrom-past : (f : Field) (best i : ℕ) → items f.wiring ≤ i → NoneFrom f best i
@@ -116,6 +122,14 @@ pub NoneFrom-far : (f : Field) (limit best : ℕ) (near : List ℕ) (i : ℕ) �
 NoneFrom-far f limit best near i less are each below = elim (cases_lt (slice_index f.ways.costs i) limit) [
   | inl low ↦ each (are.all i below low)
   | inr far ↦ λ hops some path. omega (arith, less, far)
+]
+
+-- none from an item is, if none is from those that are near
+pub NoneFrom-all : (f : Field) (limit best : ℕ) (near : List ℕ) → length f.ways.costs ≡ items f.wiring → best ≤ limit
+    → AreNear limit f.ways.costs near → ((i : ℕ) → Contains near i → NoneFrom f best i) → (i : ℕ) → NoneFrom f best i
+NoneFrom-all f limit best near size less are none i = elim (cases_lt i (items f.wiring)) [
+  | inl below ↦ NoneFrom-far f limit best near i less are (none i) (omega (arith, below, size))
+  | inr past ↦ NoneFrom-past f best i past
 ]
 
 -- one item more, from which no round is better than the best end now

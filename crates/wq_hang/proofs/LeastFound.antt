@@ -15,7 +15,7 @@ use Rattle.wq_hang.specs.Walk.{IsHop, IsPath, IsRound, IsWalk, IsLeastWalk, IsRo
 use Rattle.wq_hang.specs.Walk.{BeginsUnsure, AreAlike, AreFirstAlike, target_beside, unsure_part, walk_cost}
 use Rattle.wq_hang.specs.Search.{hops_cost, Reach, IsSearched, IsBetter, IsNoBetter, IsLeastRound, ArePassed, AreMarked}
 use Rattle.wq_hang.specs.Search.{AreBounds}
-use Rattle.wq_hang.proofs.Declared.{declared-item, unsure_part-most}
+use Rattle.wq_hang.proofs.Declared.{declared-item, path_declares, unsure_part-most}
 use Rattle.wq_hang.proofs.Rotations.{round_turned}
 use Rattle.wq_hang.proofs.StuckRounds.{walk_cost-hops}
 use Rattle.wq_hang.proofs.LeastWalks.{no_round}
@@ -80,7 +80,8 @@ IsNoBetter-still w first least none (h ∷ hops) some path =
 -- no round costs less than the item's bound
 pub IsNoBetter-bound : (w : Wiring) (bounds : List ℕ) (first least : ℕ) → AreBounds w bounds first
     → least ≤ slice_index bounds (lane_of w first) → IsNoBetter w first least
-IsNoBetter-bound w bounds first least are low hops some path = omega (arith, low, are first hops some path)
+IsNoBetter-bound w bounds first least are low hops some path =
+    omega (arith, low, are (path_declares w first first hops some path) first hops some path)
 
 pub IsNoBetter-searched : (w : Wiring) (first least : ℕ) (s : Reach) → IsSearched w first least s → least ≤ slice_index s.costs first → IsNoBetter w first least
 IsNoBetter-searched w first least s searched enough hops some path = omega (arith, searched.least hops some path, enough)

@@ -39,3 +39,4 @@ pub mod NeededPlaces
 pub mod LeastFound
 pub mod FirstHops
 pub mod SomeLanes
+mod WiresMade

@@ -1,6 +1,6 @@
 -- A round from where somebody waits for an item alone is no better than rounds from its items, but where all of these
 -- are farther away.
-use Rattle.std.proofs.Common.{◌≡◌, ◌≢◌, ℕ, zero, suc, ◌+◌, ◌*◌, ◌<◌, ◌≤◌, ◌⊎◌, inl, inr, Bool, true, false, eqb, List}
+use Rattle.std.proofs.Common.{◌≡◌, ◌≢◌, ℕ, zero, suc, ◌+◌, ◌<◌, ◌≤◌, ◌⊎◌, inl, inr, Bool, true, false, eqb, List}
 use Rattle.std.proofs.Common.{[], ◌∷◌, ◌++◌, length, refl, sym, ap, subst, ◌∙◌, arith}
 use Rattle.std.specs.Prelude.{Contains, slice_index, slice_index_or, if◌then◌else◌, ◌||◌}
 use Rattle.std.proofs.lemmas.Bool.{cases_eq, cases_lt, eq-eqb, both_ways}
@@ -11,7 +11,7 @@ use Rattle.wq_hang.specs.declared.hop.Hop.{Hop}
 use Rattle.wq_hang.specs.Walk.{IsHop, IsPath, unsure_part, max_walk_cost}
 use Rattle.wq_hang.specs.Search.{hop_cost, hops_cost, hop_to, step, IsNoBetter}
 use Rattle.wq_hang.specs.WaysFor.{BeginsAt, IsWayFrom, AreLatest}
-use Rattle.wq_hang.specs.EndsFor.{Field, IsField, IsRoundAlone, NoneFrom, NoneAlone}
+use Rattle.wq_hang.specs.EndsFor.{Field, IsBelowRounds, IsField, IsRoundAlone, NoneFrom, NoneAlone}
 use Rattle.wq_hang.proofs.Declared.{declared-item, declared-target}
 use Rattle.wq_hang.proofs.LeastWalks.{IsPath-append, hops_cost-append}
 use Rattle.wq_hang.proofs.CutWalks.{path_rescuer}
@@ -335,16 +335,21 @@ module _ (on : List (List ℕ)) (f : Field) (field : IsField on f) (wiring : IsW
       round_enough on f field wiring best most none_from t hops more is limit none few
 
   pub NoneAlone-left : (latest : List ℕ) → AreLatest f.wiring max_walk_cost f.ways.costs latest
-      → (best ≤ from_t + 4)
+      → (least : ℕ) → IsBelowRounds f.wiring least
+      → (best ≤ from_t + least)
       ⊎ ((slice_index latest t ≤ from_t + 1)
       ⊎ ((i : ℕ) → i < items f.wiring → i ≢ t → lane_of f.wiring i ≡ lane_of f.wiring t
       → slice_index f.ways.costs i ≢ from_t + 1))
       → NoneAlone f best t
-  NoneAlone-left latest are (inl few) hops more is =
-      near_enough on f field wiring best most none_from t hops more is few
-  NoneAlone-left latest are (inr (inl few)) hops more is =
+  NoneAlone-left latest are least below (inl few) hops more is =
+      NoneAlone-round least (λ i i_below other lane one others some path. below others (record {
+        some = some;
+        first = i;
+        path = path;
+      })) few hops more is
+  NoneAlone-left latest are least below (inr (inl few)) hops more is =
       latest_enough on f field wiring best most none_from t hops more is latest are few
-  NoneAlone-left latest are (inr (inr none)) hops more is =
+  NoneAlone-left latest are least below (inr (inr none)) hops more is =
       no_one_before on f field wiring best most none_from t hops more is none
 
   -- nobody waits for an item that doesn't exist

@@ -1,9 +1,9 @@
 -- Numbers, each of them once.
-use Rattle.std.proofs.Common.{◌≡◌, ◌≢◌, ℕ, suc, ◌+◌, ◌≤◌, inl, inr, Bool, true, false, not, List, [], ◌∷◌, ◌++◌, length}
+use Rattle.std.proofs.Common.{◌≡◌, ◌≢◌, ℕ, ◌+◌, ◌≤◌, inl, inr, Bool, true, false, not, List, [], ◌∷◌, ◌++◌, length}
 use Rattle.std.proofs.Common.{◌⊎◌, cond, refl, ap, ◌∙◌, arith}
 use Rattle.std.specs.Prelude.{◌==◌, filter}
 use Rattle.std.proofs.lemmas.Bool.{cases_eq, eq-eqb, eqb-true, both_ways}
-use Rattle.std.proofs.lemmas.List.{append-nil, length-append}
+use Rattle.std.proofs.lemmas.List.{append-nil}
 use Rattle.std.proofs.lemmas.List.Elements.{filter-append}
 use Rattle.wq_hang.specs.WalkFor.{once}
 use Rattle.wq_hang.proofs.Apart.{Avoids, Avoids-from, Apart, In, In-filter, filter-In, Apart-filter, Apart-within}
@@ -41,31 +41,6 @@ Apart-once (y ∷ ys) = (
 -- how many they are: no more than others among which each of them is
 pub length-once : (xs ys : List ℕ) → ((x : ℕ) → In x xs → In x ys) → length (once xs) ≤ length ys
 length-once xs ys all = Apart-within (once xs) ys (Apart-once xs) (λ x there. all x (In-once x xs there))
-
-pub length-once_apart : (xs : List ℕ) → Apart xs → length (once xs) ≡ length xs
-length-once_apart xs apart =
-    let most : length (once xs) ≤ length xs = length-once xs xs (λ x there. there) in
-    let least : length xs ≤ length (once xs) = Apart-within xs (once xs) apart (λ x there. once-In x xs there) in
-    omega arith
-
--- as many as there are without one that stands there twice
-pub length-once_again : (t : ℕ) (xs ys : List ℕ)
-    → length (once (xs ++ (t ∷ (ys ++ (t ∷ []))))) ≤ length xs + (length ys + 1)
-length-once_again t xs ys =
-    let few : length (once (xs ++ (t ∷ (ys ++ (t ∷ []))))) ≤ length (xs ++ (t ∷ ys)) =
-    length-once (xs ++ (t ∷ (ys ++ (t ∷ [])))) (xs ++ (t ∷ ys)) (λ x there. first x xs there) in
-    omega (arith, few, length-append xs (t ∷ ys))
-  where
-    later : (x : ℕ) (zs : List ℕ) → In x (zs ++ (t ∷ [])) → In x (t ∷ zs)
-    later x [] there = there
-    later x (z ∷ zs) (inl same) = inr (inl same)
-    later x (z ∷ zs) (inr there) = elim (later x zs there) [ inl same ↦ inl same | inr past ↦ inr (inr past) ]
-
-    first : (x : ℕ) (zs : List ℕ) → In x (zs ++ (t ∷ (ys ++ (t ∷ [])))) → In x (zs ++ (t ∷ ys))
-    first x [] (inl same) = inl same
-    first x [] (inr there) = later x ys there
-    first x (z ∷ zs) (inl same) = inl same
-    first x (z ∷ zs) (inr there) = inr (first x zs there)
 
 -- ---- one more
 

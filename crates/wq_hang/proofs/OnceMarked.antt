@@ -2,9 +2,9 @@
 use Rattle.std.proofs.Common.{◌≡◌, ◌≢◌, ℕ, ◌<◌, ◌⊎◌, inl, inr, Bool, true, false, cond, List, [], ◌∷◌, ◌++◌, length}
 use Rattle.std.proofs.Common.{zero, suc, ◌+◌, take, set, get_or, refl, sym, ap, subst, ◌∙◌, arith}
 use Rattle.std.specs.Prelude.{flat_map, slice_index_or, slice_get, unwrap_or, if◌then◌else◌, ◌==◌, IfSome, IfNone}
-use Rattle.std.specs.Prelude.{replicate, Option, Some, None}
-use Rattle.std.proofs.lemmas.Bool.{cases_eq, both_ways}
-use Rattle.std.proofs.lemmas.List.{get_or-replicate, length-replicate, append-nil, append_assoc, get_or-set_same}
+use Rattle.std.specs.Prelude.{Option, Some, None}
+use Rattle.std.proofs.lemmas.Bool.{cases_eq}
+use Rattle.std.proofs.lemmas.List.{append-nil, append_assoc, get_or-set_same}
 use Rattle.std.proofs.lemmas.List.{get_or-set_other, length-set}
 use Rattle.wq_hang.specs.declared.hop.Hop.{Hop}
 use Rattle.wq_hang.specs.WalkFor.{named_beside, once}
@@ -19,14 +19,6 @@ pub record AreOnce (n : ℕ) (marks : List Bool) (list xs : List ℕ) : Type 0 w
   pub marked : (i : ℕ) → i < n → slice_index_or marks i false ≡ true → In i xs
   pub all : (i : ℕ) → i < n → In i xs → slice_index_or marks i false ≡ true
   pub is : list ≡ once xs
-
-pub AreOnce-none : (n : ℕ) → AreOnce n (replicate n false) [] []
-AreOnce-none n = record {
-  size = length-replicate n false;
-  marked = λ i lt is. absurd (both_ways (get_or (replicate n false) i false) (get_or-replicate n i false false lt) is);
-  all = λ i lt there. absurd there;
-  is = refl;
-}
 
 module _ (n : ℕ) (marks : List Bool) (list xs : List ℕ) (are : AreOnce n marks list xs) where
   -- one more is pushed, unless it is marked

@@ -33,13 +33,13 @@ use Rattle.std.specs.Prelude.{Contains, slice_index, slice_index_or, if◌then�
 use Rattle.std.proofs.lemmas.Bool.{cases_eq, cases_lt, eqb-true, eq-eqb}
 use Rattle.std.proofs.lemmas.List.{get_or-replicate, get_or_past, length-replicate}
 use Rattle.wq_items.proofs.Lists.{Contains-here, Contains-later}
-use Rattle.wq_core.specs.Wiring.{Wiring, IsWiring, HasRescuer, items, lane_of}
+use Rattle.wq_core.specs.Wiring.{Wiring, IsWiring, HasRescuer, items, lane_of, declared_by}
 use Rattle.wq_core.proofs.Wirings.{lane_of-within}
 use Rattle.wq_hang.specs.declared.hop.Hop.{Hop}
 use Rattle.wq_hang.specs.Walk.{IsHop, IsPath, unsure_part}
 use Rattle.wq_hang.specs.Search.{hop_cost, hops_cost, Reach, IsTodo, lane_step, expand, AreItemsOn, IsReachedBy}
 use Rattle.wq_hang.specs.Search.{most_of_use, IsReach, IsFollowed, AreBounds, IsGoing, IsTaken, IsSearched}
-use Rattle.wq_hang.proofs.Declared.{declared-item}
+use Rattle.wq_hang.proofs.Declared.{declared-item, path_declares}
 use Rattle.wq_hang.proofs.Reaching.{queues, work, Later, Grown, most-later, Grown-expand}
 
 -- ---- the beginning
@@ -373,17 +373,18 @@ module _ (w : Wiring) (bounds : List ℕ) (first limit : ℕ) (wiring : IsWiring
 
     -- so does a path that leads back to the first item
     path_enough : (i : ℕ) (hops : List Hop) (cost : ℕ) → first < items w → HasRescuer w (lane_of w first)
-        → IsFollowed w bounds first s i cost → 0 < length hops → IsPath w i hops first
+        → 0 < length (declared_by w first) → IsFollowed w bounds first s i cost → 0 < length hops
+        → IsPath w i hops first
         → slice_index s.costs first ≤ cost + hops_cost hops
-    path_enough i [] cost below rescuer led some path = absurd (omega arith)
-    path_enough i (h ∷ []) cost below rescuer led some path =
+    path_enough i [] cost below rescuer waits led some path = absurd (omega arith)
+    path_enough i (h ∷ []) cost below rescuer waits led some path =
         let led_here : IsFollowed w bounds first s h.item cost =
         subst (λ (k : ℕ). IsFollowed w bounds first s k cost) (sym path.0) led in
         let one = hop_enough h cost path.1 path.2 (subst (λ (k : ℕ). k < items w) (sym path.3) below)
         (subst (λ (k : ℕ). HasRescuer w (lane_of w k)) (sym path.3) rescuer) led_here in
         let all = most-first (lane_of w h.flush.item) (sym path.2 ∙ ap (lane_of w) path.3) in
         omega (arith, one, all, ap (slice_index s.costs) path.3)
-    path_enough i (h ∷ g ∷ hops) cost below rescuer led some path =
+    path_enough i (h ∷ g ∷ hops) cost below rescuer waits led some path =
         let led_here : IsFollowed w bounds first s h.item cost =
         subst (λ (k : ℕ). IsFollowed w bounds first s k cost) (sym path.0) led in
         let next : h.next < items w = subst (λ (k : ℕ). k < items w) path.3.0
@@ -393,7 +394,7 @@ module _ (w : Wiring) (bounds : List ℕ) (first limit : ℕ) (wiring : IsWiring
         let one = hop_enough h cost path.1 path.2 next has led_here in
         let far : slice_index bounds (lane_of w h.flush.item) ≤ hops_cost (g ∷ hops) =
         subst (λ (q : ℕ). slice_index bounds q ≤ hops_cost (g ∷ hops)) path.2
-        (bounded h.next (g ∷ hops) (omega arith) path.3) in
+        (bounded waits h.next (g ∷ hops) (omega arith) path.3) in
         elim (cases_lt (cost + hop_cost h) (most h)) [
           | inr past ↦ omega (
             arith,
@@ -403,7 +404,7 @@ module _ (w : Wiring) (bounds : List ℕ) (first limit : ℕ) (wiring : IsWiring
             arith,
             one,
             of_use,
-            path_enough h.next (g ∷ hops) (slice_index s.costs h.next) below rescuer
+            path_enough h.next (g ∷ hops) (slice_index s.costs h.next) below rescuer waits
                 (all_done h.next next) (omega arith) path.3,
           )
         ]
@@ -411,5 +412,8 @@ module _ (w : Wiring) (bounds : List ℕ) (first limit : ℕ) (wiring : IsWiring
     pub IsSearched-all : first < items w → HasRescuer w (lane_of w first) → IsSearched w first limit s
     IsSearched-all below rescuer = record {
       reach = going.reach;
-      least = λ hops some path. omega (arith, path_enough first hops 0 below rescuer going.begun some path);
+      least = λ hops some path. omega (
+        arith,
+        path_enough first hops 0 below rescuer (path_declares w first first hops some path) going.begun some path,
+      );
     }

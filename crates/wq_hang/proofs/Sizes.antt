@@ -7,7 +7,7 @@ use Rattle.wq_core.specs.Wiring.{Wiring, lane_of}
 use Rattle.wq_hang.specs.declared.hop.Hop.{Hop}
 use Rattle.wq_hang.specs.Search.{Reach, with_todo, reached, reach, hop_to, reach_all, with_lane_cost, reach_lane, step}
 use Rattle.wq_hang.specs.Search.{lane_step, most_of_use, to_target, to_lane, to_both, follow}
-use Rattle.wq_hang.specs.WaysFor.{begin_all, begin_at, follow_below, start_lane}
+use Rattle.wq_hang.specs.WaysFor.{begin_all, begin_at, follow_below}
 
 -- as many items and lanes
 pub record AsLarge (s r : Reach) : Type 0 where
@@ -113,16 +113,3 @@ AsLarge-begin_all [] s = AsLarge-same s
 AsLarge-begin_all (j ∷ js) s =
     let r : Reach = begin_at false 1 s j in
     AsLarge-both s r (begin_all js r) (AsLarge-begin_at false 1 s j) (AsLarge-begin_all js r)
-
-pub AsLarge-start_lane : (q : ℕ) (js : List ℕ) (s : Reach) → AsLarge s (start_lane q js s)
-AsLarge-start_lane q js s = by (ltb 1 (slice_index s.lane_costs q))
-  where
-    by : (b : Bool) → AsLarge s (if b then with_lane_cost q 1 (begin_all js s) else s)
-    by true =
-        let all = AsLarge-begin_all js s in
-        record {
-          one_each = all.one_each;
-          by_each = all.by_each;
-          lanes_each = length-set (begin_all js s).lane_costs q 1 ∙ all.lanes_each;
-        }
-    by false = AsLarge-same s

@@ -6,7 +6,7 @@ use Rattle.std.proofs.lemmas.Bool.{cases_eq, cases_lt}
 use Rattle.std.proofs.lemmas.List.{take_more, take_all, take-append-drop, take-take, drop-take, get_or-set_same}
 use Rattle.std.proofs.lemmas.List.{get_or-set_other, set_past}
 use Rattle.std.proofs.lemmas.List.Elements.{Contains-push, Contains-push_cases, Contains-append_left}
-use Rattle.std.proofs.lemmas.List.Elements.{Contains-append_right, Contains-append_cases}
+use Rattle.std.proofs.lemmas.List.Elements.{Contains-append_cases}
 
 pub contains_more : {X : Type 0} (xs : List X) (i : ℕ) (d x : X) → i < length xs → Contains (take (i + 1) xs) x → Contains (take i xs) x ⊎ (get_or xs i d ≡ x)
 contains_more {X} xs i d x lt there = Contains-push_cases (take i xs) (get_or xs i d) x (subst (λ (l : List X). Contains l x) (take_more xs i d lt) there)
@@ -41,12 +41,12 @@ contains_piece {X} xs from to x le there =
         (take-take from (from + (to - from)) xs (omega arith))
         ∙ ap (λ (l : List X). take from xs ++ l) (drop-take from (to - from) xs)
 
--- a piece has no other elements
-pub piece_contains : {X : Type 0} (xs : List X) (from n : ℕ) (x : X) → Contains (take n (drop from xs)) x
-    → Contains xs x
-piece_contains {X} xs from n x there =
-    subst (λ (l : List X). Contains l x) (take-append-drop from xs)
-    (Contains-append_right (take from xs) (drop from xs) x (contains_taken (drop from xs) n x there))
+-- an element of a list is in its front, or behind that
+pub contains_parts : {X : Type 0} (xs : List X) (n : ℕ) (x : X) → Contains xs x
+    → Contains (take n xs) x ⊎ Contains (drop n xs) x
+contains_parts {X} xs n x there =
+    Contains-append_cases (take n xs) (drop n xs) x
+    (subst (λ (l : List X). Contains l x) (sym (take-append-drop n xs)) there)
 
 -- a mark that is set stays, and others with it
 pub marked_kept : (marks : List Bool) (p q : ℕ) → slice_index_or marks q false ≡ true → get_or (set marks p true) q false ≡ true

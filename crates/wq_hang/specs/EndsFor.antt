@@ -6,7 +6,7 @@ use Rattle.wq_core.specs.Wiring.{Wiring, HasRescuer, items, lane_of}
 use Rattle.wq_hang.specs.declared.hop.Hop.{Hop}
 use Rattle.wq_hang.specs.declared.least_for.End.{End}
 use Rattle.wq_hang.specs.declared.least_for.End.TheVariants as end
-use Rattle.wq_hang.specs.Walk.{IsHop, IsPath, IsToBare, max_walk_cost}
+use Rattle.wq_hang.specs.Walk.{IsHop, IsPath, IsRound, IsToBare, max_walk_cost}
 use Rattle.wq_hang.specs.WalkFor.{IsWalkFor, cost_for}
 use Rattle.wq_hang.specs.Search.{AreItemsOn, Reach, hops_cost, step}
 use Rattle.wq_hang.specs.WaysFor.{ArePending, AreWays, IsWay, IsWayFrom, PendingFound}
@@ -58,6 +58,10 @@ EndsAlone f cost t hops =
     × (slice_index f.pending.costs t + more ≤ cost)
 
 -- ---- none costs less
+
+-- no round costs less than this, wherever it is
+abbrev pub IsBelowRounds : Wiring → ℕ → Type 0
+IsBelowRounds w least = (hops : List Hop) → IsRound w hops → least ≤ hops_cost hops
 
 -- no hop to a bare lane does, with a way to it
 abbrev pub NoneBare : Field → ℕ → Type 0

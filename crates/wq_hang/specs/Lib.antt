@@ -17,3 +17,4 @@ pub mod Answer
 pub mod AnswerFor
 pub mod WaysFor
 pub mod EndsFor
+pub mod Wires

@@ -155,10 +155,11 @@ IsFollowed w bounds first s i cost = (t : Target) → Contains (declared_by w i)
 abbrev pub least_hop : Wiring → ℕ → ℕ
 least_hop w i = if list_any (λ (t : Target). not t.unsure) (declared_by w i) then 3 else unsure_cost + 3
 
--- bounds: to come from an item to the first one, by one hop or more, costs at least the bound of the item's lane
+-- bounds: to come from an item to the first one, which declares a flush, by one hop or more costs at least the bound of
+-- the item's lane
 abbrev pub AreBounds : Wiring → List ℕ → ℕ → Type 0
-AreBounds w bounds first = (i : ℕ) (hops : List Hop) → 0 < length hops → IsPath w i hops first
-    → slice_index bounds (lane_of w i) ≤ hops_cost hops
+AreBounds w bounds first = 0 < length (declared_by w first) → (i : ℕ) (hops : List Hop) → 0 < length hops
+    → IsPath w i hops first → slice_index bounds (lane_of w i) ≤ hops_cost hops
 
 -- while the search goes on: the first item's flushes are followed from nothing; and each other item is to be gone on
 -- from, or its flushes are followed

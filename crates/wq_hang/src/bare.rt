@@ -40,7 +40,11 @@ fn earlier(found: Option<Hop>, hop: Hop) -> Hop
 }
 
 /// The first hop that leads to a bare lane, of those found so far and those of an item whose lane has a rescuer.
-fn first_with<A: Allocator>(waits: &Waits<'_, A>, item: ItemId, found: Option<Hop>) -> Option<Hop>
+fn first_with<A: Allocator + Copy>(
+    waits: &Waits<'_, A>,
+    item: ItemId,
+    found: Option<Hop>,
+) -> Option<Hop>
     requires item { item < items waits.now }
     requires rescuer { HasRescuer waits.now (lane_of waits.now item) }
     requires found { IsFirstBelow waits.now item found }
@@ -63,7 +67,7 @@ fn first_with<A: Allocator>(waits: &Waits<'_, A>, item: ItemId, found: Option<Ho
 
 /// Of the flushes that lead from a lane that has a rescuer to a bare lane the first: of the sure ones, if there are
 /// any, the one that is declared first.
-pub(crate) fn first_to_bare<A: Allocator>(waits: &Waits<'_, A>) -> Option<Hop>
+pub(crate) fn first_to_bare<A: Allocator + Copy>(waits: &Waits<'_, A>) -> Option<Hop>
     ensures some { IfSome result (IsFirstToBare waits.now) }
     ensures none { IfNone result ((h : Hop) → IsHop waits.now h
         → HasRescuer waits.now (lane_of waits.now h.flush.item)) }

@@ -24,8 +24,9 @@ use crate::on_lanes::{items_on_lanes, marked_items};
 use crate::running::{run_of_walk, targets_beside};
 use crate::search::Search;
 use crate::waits::Waits;
+use crate::wires::Wires;
 use std::alloc::{AllocError, Allocator};
-use wq_core::{Assigned, Core};
+use wq_core::Assigned;
 use wq_items::ItemId;
 
 /// What a round has to cost less than: what a flush that leads to a bare lane costs, if there is one.
@@ -105,10 +106,10 @@ pub fn hang<A: Allocator + Copy>(
     if workqueues.assignment().lanes() == 0 {
         return Ok(Answer::Safe);
     }
-    // The wait graph, which these are made of, is let go before the machine takes memory.
+    // The wait graph, which these are made of, is let go before the search takes memory.
     let numbers = lane_numbers(alloc, assigned)?;
-    let core = Core::on_workqueues(alloc, assigned.table(), assigned.groups(), workqueues)?;
-    let waits = Waits::new(&core, workqueues.bare());
+    let wires = Wires::new(alloc, assigned)?;
+    let waits = Waits::new(&wires, workqueues.bare());
     match least_walk(alloc, &waits, &numbers)? {
         Some((hops, beside)) => {
             let steps = run_of_walk(alloc, &waits, hops.as_slice(), beside.as_slice())?;

@@ -13,8 +13,9 @@ use crate::least_for::least_walk_for;
 use crate::numbering::lane_numbers;
 use crate::running::{pending_for, run_of_walk};
 use crate::waits::Waits;
+use crate::wires::Wires;
 use std::alloc::{AllocError, Allocator};
-use wq_core::{Assigned, Core};
+use wq_core::Assigned;
 use wq_items::ItemId;
 
 /// Whether one of these items can be held up on the workqueues of declared groups, and else how that happens soonest.
@@ -33,10 +34,10 @@ pub fn held_up<A: Allocator + Copy>(
         named.now) }
 {
     let workqueues = assigned.workqueues();
-    // The wait graph, which these are made of, is let go before the machine takes memory.
+    // The wait graph, which these are made of, is let go before the search takes memory.
     let numbers = lane_numbers(alloc, assigned)?;
-    let core = Core::on_workqueues(alloc, assigned.table(), assigned.groups(), workqueues)?;
-    let waits = Waits::new(&core, workqueues.bare());
+    let wires = Wires::new(alloc, assigned)?;
+    let waits = Waits::new(&wires, workqueues.bare());
     match least_walk_for(alloc, &waits, &numbers, named)? {
         Some(walk) => {
             let beside = pending_for(alloc, &waits, walk.named, walk.hops.as_slice())?;

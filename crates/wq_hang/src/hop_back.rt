@@ -35,7 +35,7 @@ fn has_sure(flushes: &[Target]) -> bool
 }
 
 /// What each hop of an item costs at least: 3, and more if the item declares no sure flush.
-pub(crate) fn least_hop<A: Allocator>(waits: &Waits<'_, A>, item: ItemId) -> u32
+pub(crate) fn least_hop<A: Allocator + Copy>(waits: &Waits<'_, A>, item: ItemId) -> u32
     requires { item < items waits.now }
     ensures { result ≡ least_hop waits.now item }
 {

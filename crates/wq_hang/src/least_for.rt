@@ -3,9 +3,11 @@
 //! What it costs to come to each item is found first. A walk then ends in one of three ways: by a flush that leads to a
 //! bare lane; by a round from an item; or by a round from where somebody waits for an item alone, back to there, which
 //! waits for the same entry: that is queued once. Rounds from items are looked for from the nearest items first, as
-//! far as they can be better than the best end so far. One from where somebody waits for an item alone is better than
-//! those from its items only if all these are farther away: so few are looked for. It takes the time of a search for
-//! each of these, and of two for each of the last kind.
+//! far as they can be better than the best end so far. After the first few, if others may be better, the least of all
+//! rounds is found: none costs less, so from most of the others none is looked for; and a round from its nearest item
+//! ends a walk, too. One from where somebody waits for an item alone is better than those from its items only if all
+//! these are farther away: so few are looked for. It takes the time of a least round, of a search for each of the items
+//! that are left, and of two for each of the last kind.
 
 ghost use Rattle.std.specs.Prelude.{◌≡◌, ◌≢◌, ◌+◌, ◌<◌, ◌≤◌, ◌⊎◌, ℕ, List, Contains, false, length, slice_index};
 ghost use Rattle.std.specs.Prelude.{map, IfOk, OnOk, IfSome, IfNone, MatchOption, Some};
@@ -16,13 +18,15 @@ ghost use Rattle.wq_hang.specs.Walk.{AreFirstAlike, max_walk_cost};
 ghost use Rattle.wq_hang.specs.WalkFor.{IsLeastWalkFor, IsWalkFor};
 ghost use Rattle.wq_hang.specs.WaysFor.{AreLatest, AreNear};
 ghost use Rattle.wq_hang.specs.EndsFor.{EndsAlone, IsBest, IsBestEnd, IsEnd, IsLedTo, IsRoundAlone, IsWalkAt};
-ghost use Rattle.wq_hang.specs.EndsFor.{NoneAlone, NoneBare, NoneFrom, first_or};
-ghost use Rattle.wq_hang.specs.Search.{AreBounds, IsNoBetter};
+ghost use Rattle.wq_hang.specs.EndsFor.{IsBelowRounds, NoneAlone, NoneBare, NoneFrom, first_or};
+ghost use Rattle.wq_hang.specs.Search.{AreBounds, ArePassed, IsNoBetter, hop_cost, hops_cost};
 
-use crate::bounds::{bounds_to, by_falling_numbers};
+use crate::bounds::{bounds_to, by_falling_numbers, no_bounds};
 use crate::hop::Hop;
-use crate::least::{AT_A_TIME, MOST, better_round};
-use crate::on_lanes::items_on_lanes;
+use crate::hop_back::unsure_part;
+use crate::least::{AT_A_TIME, MOST, better_round, least_round};
+use crate::marks::marked_lanes;
+use crate::on_lanes::{items_on_lanes, marked_items};
 use crate::pending::{Pending, cost_to_wait, latest};
 use crate::search::Search;
 use crate::settling::settle_held;
@@ -32,6 +36,12 @@ use std::alloc::{AllocError, Allocator};
 use std::marker::Model;
 use wq_buckets::Buckets;
 use wq_items::ItemId;
+
+/// No hop costs less.
+const LEAST_HOP: u32 = 3;
+
+/// From so many items rounds are looked for before the least of all rounds is.
+const FIRST: usize = 8;
 
 /// A walk that holds up an item.
 #[derive(Drop)]
@@ -112,6 +122,25 @@ fn first_or(hops: &[Hop], item: ItemId) -> ItemId
     }
 }
 
+/// What a hop costs.
+fn hop_cost(hop: &Hop) -> u32
+    ensures { result ≡ hop_cost hop.now }
+{
+    let is_beside = !hop.flush.whole && hop.flush.item != hop.next;
+    unsure_part(&hop.flush) + if is_beside { 4 } else { 3 }
+}
+
+/// What hops cost.
+fn hops_cost(hops: &[Hop]) -> u32
+    ensures { result ≤ hops_cost hops.now }
+{
+    let mut cost: u32 = 0;
+    for hop in hops {
+        cost = cost.saturating_add(hop_cost(hop));
+    }
+    cost
+}
+
 /// The numbers behind these costs, those with the least cost first.
 fn cheapest_first<A: Allocator + Copy>(
     alloc: A,
@@ -178,29 +207,32 @@ impl<A: Allocator + Copy> Field<'_, '_, A> {
         best
     }
 
-    /// Whether a round from one of these items may be better than the best end so far: a hop costs 3.
-    fn may_be_better(&self, few: &[u32], best: u32) -> bool
+    /// Whether a round from one of these items may be better than the best end so far, if none costs less than this.
+    fn may_be_better(&self, few: &[u32], least: u32, best: u32) -> bool
         requires few { All (λ i. i < length self.now.ways.costs) few.now }
-        ensures { result ≡ false → (i : ℕ) → Contains few.now i → best ≤ slice_index self.now.ways.costs i + 3 }
+        requires low { least ≤ max_walk_cost }
+        ensures { result ≡ false → (i : ℕ) → Contains few.now i → best ≤ slice_index self.now.ways.costs i + least }
     {
         let _items = self.waits.items();
         for item in few {
-            if self.ways.cost(ItemId::new(*item as u16)) + 3 < best {
+            if self.ways.cost(ItemId::new(*item as u16)) + least < best {
                 return true;
             }
         }
         false
     }
 
-    /// Looks for rounds from these few items.
+    /// Looks for rounds from these few items. No round costs less than `least`.
     fn look_from(
         &self,
         alloc: A,
         search: &mut Search<A>,
         few: &[u32],
+        least: u32,
         best: &mut Best<A>,
     ) -> Result<(), AllocError>
         requires few { All (λ i. i < items self.now.wiring) few.now }
+        requires least { IsBelowRounds self.now.wiring least × (least ≤ max_walk_cost) }
         requires best { IsBest self.now best.old.cost best.old.end }
         ensures best { OnOk result (IsBest self.now best.new.cost best.new.end) }
         ensures less { OnOk result (best.new.cost ≤ best.old.cost) }
@@ -211,7 +243,7 @@ impl<A: Allocator + Copy> Field<'_, '_, A> {
         for i in few {
             let item = ItemId::new(*i as u16);
             let cost = self.ways.cost(item);
-            if cost + 3 < best.cost {
+            if cost + least < best.cost {
                 let limit = best.cost - cost;
                 if let Some((more, hops)) = better_round(
                     alloc, self.waits, self.on, &bounds, search, item, limit,
@@ -223,31 +255,138 @@ impl<A: Allocator + Copy> Field<'_, '_, A> {
         Ok(())
     }
 
-    /// Looks for rounds from these items, a few at a time.
+    /// Looks for rounds from these items, a few at a time. No round costs less than `least`.
     fn look_from_items(
         &self,
         alloc: A,
         search: &mut Search<A>,
         near: &[u32],
+        least: u32,
         best: &mut Best<A>,
     ) -> Result<(), AllocError>
-        requires near { AreNear best.old.cost self.now.ways.costs near.now }
+        requires near { All (λ i. i < items self.now.wiring) near.now }
+        requires least { IsBelowRounds self.now.wiring least × (least ≤ max_walk_cost) }
         requires best { IsBest self.now best.old.cost best.old.end }
         ensures best { OnOk result (IsBest self.now best.new.cost best.new.end) }
         ensures less { OnOk result (best.new.cost ≤ best.old.cost) }
-        ensures none { OnOk result ((i : ℕ) → NoneFrom self.now best.new.cost i) }
+        ensures none { OnOk result ((i : ℕ) → Contains near.now i → NoneFrom self.now best.new.cost i) }
     {
         let _items = self.waits.items();
         let mut from = 0;
         while from < near.len() {
             let to = near.len().min(from + AT_A_TIME);
             let few = &near[from..to];
-            if self.may_be_better(few, best.cost) {
-                self.look_from(alloc, search, few, best)?;
+            if self.may_be_better(few, least, best.cost) {
+                self.look_from(alloc, search, few, least, best)?;
             }
             from = to;
         }
         Ok(())
+    }
+
+    /// Of the items that wait by these hops the nearest.
+    fn nearest(&self, hops: &[Hop]) -> ItemId
+        requires some { 0 < length hops.now }
+        requires items { All (λ (h : Hop). h.item < items self.now.wiring) hops.now }
+        ensures { result < items self.now.wiring }
+    {
+        let mut nearest = hops[0].item;
+        for hop in hops {
+            if self.ways.cost(hop.item) < self.ways.cost(nearest) {
+                nearest = hop.item;
+            }
+        }
+        nearest
+    }
+
+    /// Takes a round from an item for the best end so far, as if it cost 1 more: so an end that costs as much is found
+    /// where it is looked for.
+    fn look_from_one(
+        &self,
+        alloc: A,
+        search: &mut Search<A>,
+        item: ItemId,
+        best: &mut Best<A>,
+    ) -> Result<(), AllocError>
+        requires item { item < items self.now.wiring }
+        requires best { IsBest self.now best.old.cost best.old.end }
+        ensures best { OnOk result (IsBest self.now best.new.cost best.new.end) }
+        ensures less { OnOk result (best.new.cost ≤ best.old.cost) }
+    {
+        let _items = self.waits.items();
+        let cost = self.ways.cost(item) + 1;
+        if cost < best.cost {
+            let bounds = no_bounds(alloc, self.waits.lanes())?;
+            let limit = best.cost - cost;
+            if let Some((more, hops)) = better_round(
+                alloc, self.waits, self.on, &bounds, search, item, limit,
+            )? {
+                best.becomes(cost + more, End::Round(item, hops));
+            }
+        }
+        Ok(())
+    }
+
+    /// Finds less than which no round costs, if a round from one of these other items may be better than the best end
+    /// so far: what a least round costs, as far as it is less than that end. The nearest of its items ends a way, too.
+    /// Each round passes one of the items `passed`.
+    fn least_of_others(
+        &self,
+        alloc: A,
+        search: &mut Search<A>,
+        passed: &[u32],
+        others: &[u32],
+        best: &mut Best<A>,
+    ) -> Result<u32, AllocError>
+        requires others { All (λ i. i < items self.now.wiring) others.now }
+        requires passed { ArePassed self.now.wiring passed.now }
+        requires items { All (λ i. i < items self.now.wiring) passed.now }
+        requires best { IsBest self.now best.old.cost best.old.end }
+        ensures best { OnOk result (IsBest self.now best.new.cost best.new.end) }
+        ensures less { OnOk result (best.new.cost ≤ best.old.cost) }
+        ensures least { IfOk result (λ least. IsBelowRounds self.now.wiring least × (least ≤ max_walk_cost)) }
+    {
+        let _items = self.waits.items();
+        if !self.may_be_better(others, LEAST_HOP, best.cost) {
+            return Ok(LEAST_HOP);
+        }
+        let found = least_round(
+            alloc, self.waits, self.on, self.order, search, passed, best.cost,
+        )?;
+        match found {
+            Some(hops) => {
+                let item = self.nearest(hops.as_slice());
+                self.look_from_one(alloc, search, item, best)?;
+                Ok(hops_cost(hops.as_slice()))
+            }
+            None => Ok(best.cost),
+        }
+    }
+
+    /// Looks for rounds from all items that are near, and finds less than which no round costs.
+    fn look_from_near(
+        &self,
+        alloc: A,
+        search: &mut Search<A>,
+        passed: &[u32],
+        near: &[u32],
+        best: &mut Best<A>,
+    ) -> Result<u32, AllocError>
+        requires near { AreNear best.old.cost self.now.ways.costs near.now }
+        requires passed { ArePassed self.now.wiring passed.now }
+        requires items { All (λ i. i < items self.now.wiring) passed.now }
+        requires best { IsBest self.now best.old.cost best.old.end }
+        ensures best { OnOk result (IsBest self.now best.new.cost best.new.end) }
+        ensures less { OnOk result (best.new.cost ≤ best.old.cost) }
+        ensures none { OnOk result ((i : ℕ) → NoneFrom self.now best.new.cost i) }
+        ensures least { IfOk result (λ least. IsBelowRounds self.now.wiring least × (least ≤ max_walk_cost)) }
+    {
+        let _items = self.waits.items();
+        let to = near.len().min(FIRST);
+        self.look_from_items(alloc, search, &near[..to], LEAST_HOP, best)?;
+        let least = self.least_of_others(alloc, search, passed, &near[to..], best)?;
+        self.look_from_items(alloc, search, &near[to..], least, best)?;
+        Ok(least)
     }
 
     /// Whether another item is on the lane of this one, and to come to it costs 1 more than this.
@@ -318,18 +457,19 @@ impl<A: Allocator + Copy> Field<'_, '_, A> {
     }
 
     /// Whether a round from where somebody waits for an item alone may be better than the best end so far, and than
-    /// those from its items: one before the item costs 1, and its hop 3.
-    fn may_begin_alone(&self, latest: &[u32], item: ItemId, best: u32) -> bool
+    /// those from its items, if no round costs less than this.
+    fn may_begin_alone(&self, latest: &[u32], item: ItemId, least: u32, best: u32) -> bool
         requires item { item < items self.now.wiring }
         requires len { length latest.now ≡ items self.now.wiring }
-        ensures { result ≡ false → (best ≤ slice_index self.now.pending.costs item + 4)
+        requires low { least ≤ max_walk_cost }
+        ensures { result ≡ false → (best ≤ slice_index self.now.pending.costs item + least)
             ⊎ ((slice_index latest.now item ≤ slice_index self.now.pending.costs item + 1)
             ⊎ ((i : ℕ) → i < items self.now.wiring → i ≢ item →
             lane_of self.now.wiring i ≡ lane_of self.now.wiring item →
             slice_index self.now.ways.costs i ≢ slice_index self.now.pending.costs item + 1)) }
     {
         let cost = self.pending.cost(item);
-        cost + 4 < best
+        cost + least < best
             && latest[usize::from(item.get())] > cost + 1
             && self.has_one_before(item, cost)
     }
@@ -368,9 +508,17 @@ impl<A: Allocator + Copy> Field<'_, '_, A> {
         Ok(false)
     }
 
-    /// The items from where somebody waits for which alone rounds are looked for, the nearest first.
-    fn begin_alone(&self, alloc: A, latest: &[u32], best: u32) -> Result<Vec<u32, A>, AllocError>
+    /// The items from where somebody waits for which alone rounds are looked for, the nearest first. No round costs
+    /// less than `least`.
+    fn begin_alone(
+        &self,
+        alloc: A,
+        latest: &[u32],
+        least: u32,
+        best: u32,
+    ) -> Result<Vec<u32, A>, AllocError>
         requires len { length latest.now ≡ items self.now.wiring }
+        requires least { IsBelowRounds self.now.wiring least × (least ≤ max_walk_cost) }
         requires latest { AreLatest self.now.wiring max_walk_cost self.now.ways.costs latest.now }
         requires round { (i : ℕ) → NoneFrom self.now best i }
         requires most { best ≤ max_walk_cost }
@@ -380,7 +528,7 @@ impl<A: Allocator + Copy> Field<'_, '_, A> {
         let mut keys = Vec::new(alloc);
         for i in 0..self.waits.items() as u16 {
             let item = ItemId::new(i);
-            if self.may_begin_alone(latest, item, best) {
+            if self.may_begin_alone(latest, item, least, best) {
                 keys.push((self.pending.cost(item), u32::from(i)))?;
             }
         }
@@ -449,15 +597,22 @@ impl<A: Allocator + Copy> Field<'_, '_, A> {
         Ok(())
     }
 
-    /// The best end.
-    fn best_end(&self, alloc: A, search: &mut Search<A>) -> Result<Option<End<A>>, AllocError>
+    /// The best end. Each round passes one of the items `passed`.
+    fn best_end(
+        &self,
+        alloc: A,
+        search: &mut Search<A>,
+        passed: &[u32],
+    ) -> Result<Option<End<A>>, AllocError>
+        requires passed { ArePassed self.now.wiring passed.now }
+        requires items { All (λ i. i < items self.now.wiring) passed.now }
         ensures { IfOk result (λ found. IsBestEnd self.now found) }
     {
         let mut best = self.to_bare();
         let near = by_cost(alloc, self.waits, self.ways, best.cost)?;
-        self.look_from_items(alloc, search, near.as_slice(), &mut best)?;
+        let least = self.look_from_near(alloc, search, passed, near.as_slice(), &mut best)?;
         let latest = latest(alloc, self.waits, self.ways, MOST)?;
-        let alone = self.begin_alone(alloc, latest.as_slice(), best.cost)?;
+        let alone = self.begin_alone(alloc, latest.as_slice(), least, best.cost)?;
         self.look_from_pending(alloc, search, alone.as_slice(), &mut best)?;
         Ok(best.end)
     }
@@ -521,7 +676,7 @@ impl<A: Allocator + Copy> Field<'_, '_, A> {
 }
 
 /// Of these items the one that waits first, or else the first that is on its lane.
-fn one_held_by<A: Allocator>(
+fn one_held_by<A: Allocator + Copy>(
     waits: &Waits<'_, A>,
     named: &[ItemId],
     first: ItemId,
@@ -574,8 +729,10 @@ fn least_rescued<A: Allocator + Copy>(
         ways: &ways,
         pending: &pending,
     };
+    let marks = marked_lanes(alloc, waits, numbers)?;
+    let passed = marked_items(alloc, waits, marks.as_slice())?;
     let mut search = Search::new(alloc);
-    match field.best_end(alloc, &mut search)? {
+    match field.best_end(alloc, &mut search, passed.as_slice())? {
         Some(end) => field.walk_to(alloc, end),
         None => Ok(None),
     }

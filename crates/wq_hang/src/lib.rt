@@ -30,6 +30,7 @@ mod search;
 mod settling;
 mod waits;
 mod ways;
+mod wires;
 
 pub use answer::{Answer, Held};
 pub use hanging::hang;

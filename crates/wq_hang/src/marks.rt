@@ -13,7 +13,12 @@ use std::alloc::{AllocError, Allocator};
 use wq_items::ItemId;
 
 /// Marks each lane to which a flush of an item leads, if its number isn't greater than that of the item's lane.
-fn mark_from<A: Allocator>(waits: &Waits<'_, A>, numbers: &[u16], item: ItemId, marks: &mut [bool])
+fn mark_from<A: Allocator + Copy>(
+    waits: &Waits<'_, A>,
+    numbers: &[u16],
+    item: ItemId,
+    marks: &mut [bool],
+)
     requires item { item < items waits.now }
     requires numbers { length numbers.now ≡ waits.now.lanes }
     requires marks { length marks.old ≡ waits.now.lanes }

@@ -19,16 +19,17 @@ use crate::numbering::lane_numbers;
 use crate::on_lanes::{items_on_lanes, marked_items_of};
 use crate::search::Search;
 use crate::waits::Waits;
+use crate::wires::Wires;
 use std::alloc::{AllocError, Allocator};
 use std::marker::Model;
 use wq_buckets::Buckets;
-use wq_core::{Assigned, Core};
+use wq_core::Assigned;
 use wq_groups::LaneId;
 
 /// The rounds of workqueues, of which a least one is found for any lanes. Contracts see the wiring.
 #[derive(Drop)]
-pub struct Rounds<A: Allocator> {
-    core: Core<A>,
+pub struct Rounds<'t, 'a, A: Allocator> {
+    wires: Wires<'t, 'a, A>,
     on: Buckets<A>,
     marks: Vec<bool, A>,
     order: Vec<u16, A>,
@@ -37,15 +38,15 @@ pub struct Rounds<A: Allocator> {
     search: Search<A>,
 }
 
-impl<A: Allocator> Model for Rounds<A> {
+impl<'t, 'a, A: Allocator> Model for Rounds<'t, 'a, A> {
     ghost use Rattle.wq_core.specs.Wiring.{Wiring};
     ghost use Rattle.wq_hang.specs.Search.{AreMade};
 
     ghost Value = { Wiring };
 
-    ghost view = { λ r. r.core.wiring };
+    ghost view = { λ r. r.wires };
 
-    ghost invariant = { λ r. AreMade r.core.wiring r.on r.marks.items };
+    ghost invariant = { λ r. AreMade r.wires r.on r.marks.items };
 }
 
 /// Leaves out all of this many lanes.
@@ -58,42 +59,41 @@ fn leave_all_out<A: Allocator>(bare: &mut Vec<bool, A>, lanes: usize) -> Result<
 }
 
 /// Leaves out all lanes but these: for each lane whether it is bare or isn't one of them.
-fn leave_others_out<A: Allocator>(
-    core: &Core<A>,
+fn leave_others_out<A: Allocator + Copy>(
+    wires: &Wires<'_, '_, A>,
     lanes: &[u32],
     bare: &mut Vec<bool, A>,
 ) -> Result<(), AllocError>
-    ensures { OnOk result ((q : ℕ) → q < core.now.wiring.lanes →
-        (HasRescuer (with_bare core.now.wiring bare.new.items) q
-        ↔ (HasRescuer core.now.wiring q × Contains lanes.now q))) }
+    ensures { OnOk result ((q : ℕ) → q < wires.now.lanes →
+        (HasRescuer (with_bare wires.now bare.new.items) q ↔ (HasRescuer wires.now q × Contains lanes.now q))) }
 {
-    let count = core.lanes();
+    let count = wires.lanes();
     leave_all_out(bare, count)?;
     for q in lanes {
         let at = *q as usize;
         if at < count {
-            bare[at] = !core.has_rescuer(LaneId::new(at as u16));
+            bare[at] = !wires.has_rescuer(LaneId::new(at as u16));
         }
     }
     Ok(())
 }
 
-impl<A: Allocator + Copy> Rounds<A> {
+impl<'t, 'a, A: Allocator + Copy> Rounds<'t, 'a, A> {
     /// Those of the workqueues of declared groups.
     ///
     /// The only error is out of memory (20).
-    pub fn new(alloc: A, assigned: &Assigned<'_, '_, A>) -> Result<Self, AllocError>
+    pub fn new(alloc: A, assigned: &Assigned<'t, 'a, A>) -> Result<Self, AllocError>
         ensures { IfOk result (λ r. r ≡ wiring_of (declared_waits assigned.now.declared) assigned.now.workqueues) }
     {
         let workqueues = assigned.workqueues();
         let numbers = lane_numbers(alloc, assigned)?;
-        let core = Core::on_workqueues(alloc, assigned.table(), assigned.groups(), workqueues)?;
-        let waits = Waits::new(&core, workqueues.bare());
+        let wires = Wires::new(alloc, assigned)?;
+        let waits = Waits::new(&wires, workqueues.bare());
         let on = items_on_lanes(alloc, &waits)?;
         let marks = marked_lanes(alloc, &waits, &numbers)?;
         let order = by_falling_numbers(alloc, &numbers)?;
         Ok(Rounds {
-            core,
+            wires,
             on,
             marks,
             order,
@@ -114,10 +114,10 @@ impl<A: Allocator + Copy> Rounds<A> {
         ensures begins { IfOk result (λ found. IfSome found (λ hops. BeginsUnsure hops.items)) }
         ensures wiring { self.new ≡ self.old }
     {
-        let _lanes = self.core.lanes();
-        leave_others_out(&self.core, lanes, &mut self.bare)?;
+        let _lanes = self.wires.lanes();
+        leave_others_out(&self.wires, lanes, &mut self.bare)?;
         marked_items_of(&self.on, &self.marks, lanes, &mut self.passed)?;
-        let waits = Waits::new(&self.core, self.bare.as_slice());
+        let waits = Waits::new(&self.wires, self.bare.as_slice());
         least_round_settled(
             alloc,
             &waits,

@@ -53,7 +53,7 @@ fn push_once<A: Allocator>(
 
 /// Whether the target of a hop is queued and doesn't wait: it is on a bare lane, or neither is the whole lane flushed
 /// nor is it the next one that waits.
-fn is_pending<A: Allocator>(waits: &Waits<'_, A>, hop: &Hop) -> bool
+fn is_pending<A: Allocator + Copy>(waits: &Waits<'_, A>, hop: &Hop) -> bool
     requires { hop.now.flush.item < items waits.now }
     ensures { pending_beside waits.now hop.now ≡ (if result then hop.now.flush.item ∷ [] else []) }
 {

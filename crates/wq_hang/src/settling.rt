@@ -25,7 +25,7 @@ fn are_alike(flush: &Target, other: &Target) -> bool
 }
 
 /// Of the flushes of the hop's item with the words of its flush the one that is declared first.
-fn first_alike<A: Allocator>(waits: &Waits<'_, A>, hop: &Hop) -> Target
+fn first_alike<A: Allocator + Copy>(waits: &Waits<'_, A>, hop: &Hop) -> Target
     requires item { hop.now.item < items waits.now }
     requires declared { Contains (declared_by waits.now hop.now.item) hop.now.flush }
     ensures alike { AreAlike result hop.now.flush }
@@ -43,7 +43,7 @@ fn first_alike<A: Allocator>(waits: &Waits<'_, A>, hop: &Hop) -> Target
 }
 
 /// Each hop waits by the first flush with its words.
-fn put_first_alike<A: Allocator>(waits: &Waits<'_, A>, hops: &mut [Hop])
+fn put_first_alike<A: Allocator + Copy>(waits: &Waits<'_, A>, hops: &mut [Hop])
     requires { IsRound waits.now hops.old }
     ensures round { IsRound waits.now hops.new }
     ensures cost { hops_cost hops.new ≡ hops_cost hops.old }
@@ -58,7 +58,11 @@ fn put_first_alike<A: Allocator>(waits: &Waits<'_, A>, hops: &mut [Hop])
 }
 
 /// Each hop of a walk that holds up an item waits by the first flush with its words.
-pub(crate) fn settle_held<A: Allocator>(waits: &Waits<'_, A>, named: ItemId, hops: &mut [Hop])
+pub(crate) fn settle_held<A: Allocator + Copy>(
+    waits: &Waits<'_, A>,
+    named: ItemId,
+    hops: &mut [Hop],
+)
     requires { HoldsUp waits.now named hops.old }
     ensures walk { HoldsUp waits.now named hops.new }
     ensures cost { cost_for waits.now named hops.new ≡ cost_for waits.now named hops.old }
@@ -81,7 +85,7 @@ fn first_unsure(hops: &[Hop]) -> Option<usize>
 
 /// The same round: it begins with an unsure flush if it has one, and of the flushes of an item with the same words it
 /// has the one that is declared first.
-pub(crate) fn settle<A: Allocator>(waits: &Waits<'_, A>, hops: &mut [Hop])
+pub(crate) fn settle<A: Allocator + Copy>(waits: &Waits<'_, A>, hops: &mut [Hop])
     requires { IsRound waits.now hops.old }
     ensures round { IsRound waits.now hops.new }
     ensures cost { hops_cost hops.new ≡ hops_cost hops.old }

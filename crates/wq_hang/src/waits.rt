@@ -6,16 +6,16 @@ ghost use Rattle.std.specs.Prelude.{◌≡◌, ◌<◌, ◌≤◌, ◌↔◌, le
 ghost use Rattle.wq_core.specs.Wiring.{IsWiring, HasRescuer, items, lane_of, declared_by};
 ghost use Rattle.wq_core.specs.Workqueues.{with_bare};
 
+use crate::wires::Wires;
 use std::alloc::Allocator;
 use std::marker::Model;
-use wq_core::Core;
 use wq_groups::LaneId;
 use wq_items::{ItemId, Target};
 
-/// The items of a machine and the lanes on which rounds may be. Contracts see the wiring in which the others are bare.
+/// Items and the lanes on which rounds may be. Contracts see the wiring in which the others are bare.
 #[derive(Drop)]
 pub(crate) struct Waits<'a, A: Allocator> {
-    core: &'a Core<A>,
+    wires: &'a Wires<'a, 'a, A>,
     bare: &'a [bool],
 }
 
@@ -25,15 +25,15 @@ impl<'a, A: Allocator> Model for Waits<'a, A> {
 
     ghost Value = { Wiring };
 
-    ghost view = { λ w. with_bare w.core.now.wiring w.bare.now };
+    ghost view = { λ w. with_bare w.wires.now w.bare.now };
 }
 
-impl<'a, A: Allocator> Waits<'a, A> {
-    /// The items and flushes of a machine, and for each lane whether it is bare.
-    pub(crate) fn new(core: &'a Core<A>, bare: &'a [bool]) -> Self
-        ensures { result ≡ with_bare core.now.wiring bare.now }
+impl<'a, A: Allocator + Copy> Waits<'a, A> {
+    /// These items and flushes, and for each lane whether it is bare.
+    pub(crate) fn new(wires: &'a Wires<'a, 'a, A>, bare: &'a [bool]) -> Self
+        ensures { result ≡ with_bare wires.now bare.now }
     {
-        Waits { core, bare }
+        Waits { wires, bare }
     }
 
     /// How many items there are, at most 4,096.
@@ -43,7 +43,7 @@ impl<'a, A: Allocator> Waits<'a, A> {
         ensures few { result ≤ 4096 }
         ensures few_lanes { self.now.lanes ≤ 4096 }
     {
-        self.core.items()
+        self.wires.items()
     }
 
     /// How many lanes there are, at most 4,096.
@@ -51,7 +51,7 @@ impl<'a, A: Allocator> Waits<'a, A> {
         ensures lanes { result ≡ self.now.lanes }
         ensures few { result ≤ 4096 }
     {
-        self.core.lanes()
+        self.wires.lanes()
     }
 
     /// The lane of an item.
@@ -60,7 +60,7 @@ impl<'a, A: Allocator> Waits<'a, A> {
         ensures lane { result ≡ lane_of self.now item }
         ensures within { result < self.now.lanes }
     {
-        self.core.lane_of(item)
+        self.wires.lane_of(item)
     }
 
     /// Whether a lane has a rescuer and isn't left out.
@@ -78,6 +78,6 @@ impl<'a, A: Allocator> Waits<'a, A> {
         requires { item < items self.now }
         ensures { result.now ≡ declared_by self.now item }
     {
-        self.core.waits(item)
+        self.wires.flushes(item)
     }
 }

@@ -211,6 +211,7 @@ impl<'a, A: Allocator + Copy> Parts<'a, A> {
     }
 
     /// Adds a flush of this kind.
+    #[inline(always)]
     fn take_one(&mut self, kind: Kind, name: Word<'a>, target: Word<'a>) -> Option<()>
         requires { IsTable self.old }
         ensures table { IfSome result (λ _. (n : ℕ)

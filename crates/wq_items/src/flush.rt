@@ -41,6 +41,42 @@ impl<A: Allocator> Model for Flushes<A> {
         × (length f.flushes.items ≡ flush_count (waits_of f.flushes.items f.items)) };
 }
 
+/// If there is no room for another flush, makes room for four times as many, so that they are rarely moved. If this
+/// allocation fails, the next push asks for less.
+fn make_room<A: Allocator>(flushes: &mut Vec<Flush, A>)
+    ensures { flushes.new.items ≡ flushes.old.items }
+{
+    let len = flushes.len();
+    if len == flushes.capacity() {
+        flushes.reserve(len.saturating_mul(3)).ok();
+    }
+}
+
+/// Appends a flush, and makes room for others.
+#[cold]
+#[inline(never)]
+fn push_last<A: Allocator>(flushes: &mut Vec<Flush, A>, flush: Flush) -> Result<(), AllocError>
+    ensures ok { OnOk result (flushes.new.items ≡ flushes.old.items ++ (flush ∷ [])) }
+    ensures err { OnErr result (flushes.new.items ≡ flushes.old.items) }
+{
+    flushes.push(flush)?;
+    make_room(flushes);
+    Ok(())
+}
+
+/// Appends a flush. There is mostly room for it and for another one, so that is all that is compiled into the caller.
+#[inline(always)]
+fn push<A: Allocator>(flushes: &mut Vec<Flush, A>, flush: Flush) -> Result<(), AllocError>
+    ensures ok { OnOk result (flushes.new.items ≡ flushes.old.items ++ (flush ∷ [])) }
+    ensures err { OnErr result (flushes.new.items ≡ flushes.old.items) }
+{
+    if flushes.capacity() - flushes.len() > 1 {
+        flushes.push_reserved(flush);
+        return Ok(());
+    }
+    push_last(flushes, flush)
+}
+
 impl<A: Allocator + Copy> Flushes<A> {
     /// No items.
     pub(crate) fn new(alloc: A) -> Self
@@ -68,29 +104,19 @@ impl<A: Allocator + Copy> Flushes<A> {
     }
 
     /// Adds a target to an item.
+    #[inline(always)]
     pub(crate) fn push_target(&mut self, i: usize, target: Target) -> Result<(), AllocError>
         requires { i < length self.old }
         ensures ok { OnOk result (self.new ≡ slice_set self.old i (targets_of self.old i ++ (target ∷ []))) }
         ensures err { OnErr result (self.new ≡ self.old) }
     {
         let flushes = &mut self.flushes;
-        flushes.push(Flush {
+        let flush = Flush {
             item: ItemId::new(i as u16),
             target,
-        })?;
-        self.make_room();
+        };
+        push(flushes, flush)?;
         Ok(())
-    }
-
-    /// If there is no room for another flush, makes room for four times as many, so that they are rarely moved. If this
-    /// allocation fails, the next push asks for less.
-    fn make_room(&mut self)
-        ensures { self.new ≡ self.old }
-    {
-        let len = self.flushes.len();
-        if len == self.flushes.capacity() {
-            self.flushes.reserve(len.saturating_mul(3)).ok();
-        }
     }
 
     /// The targets of each item. The only error is out of memory, which can't occur if there is no item.

@@ -26,8 +26,8 @@ pub(crate) struct Name<'a> {
     pub(crate) hash: u64,
 }
 
-/// Whether two longer names are equal. Kept out of line, so that looking up a short name is small.
-#[inline(never)]
+/// Whether two longer names are equal.
+#[inline(always)]
 fn are_same_long(a: &[u8], b: &[u8]) -> bool
     ensures { result ≡ bytes_eq a.now b.now }
 {
@@ -65,8 +65,8 @@ impl<'a> Eq for Name<'a> {
     ghost laws = { Prim.search (comparing, rules) };
 }
 
-/// Hashes a longer name. Kept out of line, so that looking up a short name is small.
-#[inline(never)]
+/// Hashes a longer name.
+#[inline(always)]
 fn write_long(hasher: &mut FoldHasher, bytes: &[u8])
     ensures { hasher.new ≡ folding.write hasher.old bytes.now }
 {

@@ -15,6 +15,7 @@ ghost use Rattle.wq_items.specs.Hashing.{AreFound, AreLinked, hash_of, names_of,
 ghost use Rattle.wq_items.specs.Table.{item_named};
 
 use crate::hashing::{Name, Seeded};
+use crate::short::is_short;
 use std::alloc::{AllocError, Allocator};
 use std::marker::Model;
 
@@ -194,8 +195,21 @@ impl<'a, A: Allocator + Copy> Names<'a, A> {
         self.names[i].bytes
     }
 
-    /// The number of a name.
+    /// The number of a name. A short name, as most are, is found here, without a call; so this is compiled into the
+    /// caller.
+    #[inline(always)]
     pub(crate) fn find(&self, name: &[u8]) -> Option<usize>
+        ensures { result ≡ item_named self.now name.now }
+    {
+        if is_short(name) {
+            return look_up(self.names.as_slice(), &self.places, &self.hasher, name).1;
+        }
+        self.find_other(name)
+    }
+
+    /// The number of a name that needn't be short.
+    #[inline(never)]
+    fn find_other(&self, name: &[u8]) -> Option<usize>
         ensures { result ≡ item_named self.now name.now }
     {
         look_up(self.names.as_slice(), &self.places, &self.hasher, name).1
@@ -217,7 +231,7 @@ impl<'a, A: Allocator + Copy> Names<'a, A> {
         let key = key_of(name.hash, self.places.lasts.len() - 1);
         let before = self.places.lasts[key];
         self.names.push(name)?;
-        self.places.befores.push(before)?;
+        self.places.befores.push_reserved(before);
         self.places.lasts[key] = self.names.len() as u16;
         Ok(true)
     }

@@ -137,6 +137,7 @@ pub(crate) fn push_targets<'a, A: Allocator + Copy>(
 
 /// Adds a flush of this kind at this place: the item called `name` flushes the item called `target`, or its workqueue.
 /// `None` if a name is unknown, if there are too many flushes, or if memory ran out; `refusal_of_one` says which it is.
+#[inline(always)]
 pub(crate) fn push_one<'a, A: Allocator + Copy>(
     names: &Names<'a, A>,
     waits: &mut Flushes<A>,
@@ -523,6 +524,7 @@ impl<'a, A: Allocator + Copy> ItemTable<'a, A> {
     }
 
     /// Whether an item has this name.
+    #[inline(always)]
     fn is_named(&self, i: ItemId, name: &[u8]) -> bool
         ensures { IsTrue result → item_named self.now.names name.now ≡ Some i }
     {
@@ -530,6 +532,7 @@ impl<'a, A: Allocator + Copy> ItemTable<'a, A> {
     }
 
     /// The item with this name, if there is one. A right guess saves the look-up; a wrong one does no harm.
+    #[inline(always)]
     pub fn find_guessed(&self, guess: Option<ItemId>, name: &[u8]) -> Option<ItemId>
         ensures { result ≡ item_named self.now.names name.now }
     {

@@ -40,7 +40,7 @@ fn items_flushing<A: Allocator + Copy>(
 {
     let mut items = Vec::with_capacity(alloc, flushes.len())?;
     for flush in flushes {
-        items.push(flush.item.get())?;
+        items.push_reserved(flush.item.get());
     }
     Ok(items)
 }

@@ -28,12 +28,13 @@ fn heads<A: Allocator + Copy>(alloc: A, arcs: &[WaitArc]) -> Result<Vec<u16, A>,
 {
     let mut heads = Vec::with_capacity(alloc, arcs.len())?;
     for arc in arcs {
-        heads.push(arc.head)?;
+        heads.push_reserved(arc.head);
     }
     Ok(heads)
 }
 
 /// Appends a vertex this many times.
+#[inline(always)]
 fn add_times<A: Allocator + Copy>(
     list: &mut Vec<u16, A>,
     vertex: u16,
@@ -41,8 +42,9 @@ fn add_times<A: Allocator + Copy>(
 ) -> Result<(), AllocError>
     ensures { IfOk result (λ _. list.new.items ≡ list.old.items ++ replicate times vertex) }
 {
+    list.reserve(times)?;
     for _ in 0..times {
-        list.push(vertex)?;
+        list.push_reserved(vertex);
     }
     Ok(())
 }

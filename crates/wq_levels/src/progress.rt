@@ -37,7 +37,7 @@ fn arc_counts<A: Allocator + Copy>(
     let vertices = graph.vertices();
     let mut counts = Vec::with_capacity(alloc, usize::from(vertices))?;
     for v in 0..vertices {
-        counts.push(graph.arcs(v).len())?;
+        counts.push_reserved(graph.arcs(v).len());
     }
     Ok(counts)
 }
@@ -86,6 +86,7 @@ impl<A: Allocator + Copy> Progress<A> {
     }
 
     /// Removes an arc of `vertex`, to a vertex of rank `rank`.
+    #[inline(always)]
     fn lose_arc(&mut self, vertex: u16, rank: u16) -> Result<(), AllocError>
         requires one_each { length self.old.ranks ≡ length self.old.remaining }
         requires some { 0 < slice_index self.old.remaining vertex }

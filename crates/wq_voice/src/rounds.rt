@@ -65,7 +65,7 @@ pub fn put_round<A: Allocator + Copy>(
     alloc: A,
     out: &mut Vec<u8, A>,
     subject: &Subject<'_, '_, '_, A>,
-    rounds: &mut Rounds<A>,
+    rounds: &mut Rounds<'_, '_, A>,
     arcs: &[WaitArc],
 ) -> Result<(), AllocError>
     requires between { AreBetween (length subject.now.assigned.now.declared.partition.group_of) arcs.now }
@@ -92,7 +92,7 @@ pub(crate) fn put_rounds<A: Allocator + Copy>(
     alloc: A,
     out: &mut Vec<u8, A>,
     subject: &Subject<'_, '_, '_, A>,
-    rounds: &mut Rounds<A>,
+    rounds: &mut Rounds<'_, '_, A>,
     components: &[Vec<WaitArc, A>],
 ) -> Result<(), AllocError>
     requires between { All (AreBetween (length subject.now.assigned.now.declared.partition.group_of))

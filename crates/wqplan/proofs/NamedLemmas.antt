@@ -6,11 +6,11 @@ use Rattle.clap.specs.Words.{Text}
 use Rattle.wq_commands.specs.declared.end.End.{End}
 use Rattle.wq_meter.specs.Shell.{Given}
 use Rattle.wq_circles.specs.Circling.{AnswersCircles}
-use Rattle.wqplan.specs.CommandLine.{Asked, Behind, named_asked, names_asked}
+use Rattle.wqplan.specs.CommandLine.{Behind, check_asked, named_asked, names_asked, plan_asked}
 use Rattle.wqplan.specs.Ended.{EndsCircles, names_behind}
 use Rattle.wqplan.specs.Told.{IsToldAsAsked, Names, SaysAllCircles, SaysCirclesNamed}
 use Rattle.wqplan.specs.declared.command_line.Files.{Files}
-use Rattle.wqplan.specs.declared.commands.Verb.TheVariants.{Circles, Hang, Replay}
+use Rattle.wqplan.specs.declared.commands.Verb.TheVariants.{Check, Circles, Hang, Plan, Replay}
 
 -- what holds without names
 pub of_none : (xs : List (Bor Text)) → (length xs == 0) ≡ true → (P : List Text → Type 0) → P []
@@ -82,6 +82,29 @@ module _ {A : Type 0} {Holds : Text → List ℕ → Type 0} {Input : List ℕ �
   pub circles_told : IsToldAsAsked A Holds Input (named_asked Circles files (names_asked behind)) end IsWritten IsTold
       → IsToldAsAsked A Holds Input (record { verb = Circles; files = files; behind = behind }) end IsWritten IsTold
   circles_told h = record {
+    texts = h.texts;
+    have = h.have;
+    out = h.out;
+    answer = h.answer;
+    written = h.written;
+    told = h.told;
+  }
+
+  -- nothing stands behind the files of `plan` and `check`
+  pub plan_told : IsToldAsAsked A Holds Input (plan_asked files) end IsWritten IsTold
+      → IsToldAsAsked A Holds Input (record { verb = Plan; files = files; behind = behind }) end IsWritten IsTold
+  plan_told h = record {
+    texts = h.texts;
+    have = h.have;
+    out = h.out;
+    answer = h.answer;
+    written = h.written;
+    told = h.told;
+  }
+
+  pub check_told : IsToldAsAsked A Holds Input (check_asked files) end IsWritten IsTold
+      → IsToldAsAsked A Holds Input (record { verb = Check; files = files; behind = behind }) end IsWritten IsTold
+  check_told h = record {
     texts = h.texts;
     have = h.have;
     out = h.out;

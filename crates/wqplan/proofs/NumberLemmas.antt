@@ -9,8 +9,9 @@ use Rattle.wq_groups.specs.declared.fault.GroupError.TheVariants as groups
 use Rattle.wq_cert.specs.declared.fault.CertError.TheVariants as certificates
 use Rattle.wq_checker.specs.declared.answer.No.TheVariants.{NotFalling, LengthDiffers, ChainBroken, CircleBroken}
 use Rattle.wq_checker.specs.declared.answer.No.TheVariants.{RunBroken}
+use Rattle.wq_checker.specs.declared.around.NoAround.TheVariants.{HasRescuer, Plain}
 use Rattle.wq_commands.specs.Numbers.{IsPrinted, of_limit, of_line, of_item, of_group, of_certificate, of_no}
-use Rattle.wqplan.specs.Numbers.{IsPrintedByProgram, of_text, of_plan}
+use Rattle.wqplan.specs.Numbers.{IsPrintedByProgram, of_around, of_text, of_plan}
 use Rattle.wq_explain.specs.declared.explain.Explained.TheVariants.{Known}
 use Rattle.wq_explain.specs.Explaining.{Row, explanations, known_or_not, number_end, numbered, numbers, with_number}
 
@@ -44,6 +45,8 @@ Known-text code (of_no RunBroken) = refl
 -- so has each printed number
 pub Known-printed : (code : ℕ) → IsPrintedByProgram code → number_end code ≡ Known
 Known-printed code (of_text printed) = Known-text code printed
+Known-printed code (of_around (Plain reason)) = Known-text code (of_no reason)
+Known-printed code (of_around HasRescuer) = refl
 Known-printed code of_plan = refl
 
 -- each of these numbers is printed
@@ -120,8 +123,11 @@ all_printed = (
                                         (
                                           of_text (of_no RunBroken),
                                           (
-                                            of_plan,
-                                            tt,
+                                            of_around HasRescuer,
+                                            (
+                                              of_plan,
+                                              tt,
+                                            ),
                                           ),
                                         ),
                                       ),

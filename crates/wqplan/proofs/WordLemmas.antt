@@ -206,6 +206,13 @@ module _ (name : Text) where
   reads_input a p =
       rw (bytes_eq-no_option a p, long_of-no_option a p, short_of-no_option a p) (refl, refl, refl, tt)
 
+  reads_fixed : (a b : Text) → is_no_option a ≡ true → is_no_option b ≡ true
+      → Reads name file_forms.Input tail_forms.Nothing (Two a b) nothing (a ∷ b ∷ [])
+  unfolding clap_on_literals
+  reads_fixed a b p q =
+      rw (bytes_eq-no_option a p, long_of-no_option a p, short_of-no_option a p)
+      (rw (bytes_eq-no_option b q, long_of-no_option b q, short_of-no_option b q) (refl, refl, refl, tt))
+
   reads_no_input : Reads name file_forms.Input tail_forms.Nothing Unnamed nothing []
   unfolding clap_on_literals
   reads_no_input = (refl, refl, refl, tt)
@@ -219,6 +226,29 @@ module _ (name : Text) where
   reads_two Assignment a b p q =
       rw (bytes_eq-no_option a p, long_of-no_option a p, short_of-no_option a p)
       (rw (bytes_eq-no_option b q, long_of-no_option b q, short_of-no_option b q) (refl, refl, refl, tt))
+
+  reads_no_fixed : (kind : Second) (a b : Text) → is_no_option a ≡ true → is_no_option b ≡ true
+      → Reads name (file_forms.TwoOrThree kind) tail_forms.Nothing (Two a b) nothing (a ∷ b ∷ [])
+  unfolding clap_on_literals
+  reads_no_fixed Certificate a b p q =
+      rw (bytes_eq-no_option a p, long_of-no_option a p, short_of-no_option a p)
+      (rw (bytes_eq-no_option b q, long_of-no_option b q, short_of-no_option b q) (refl, refl, refl, tt))
+  reads_no_fixed Assignment a b p q =
+      rw (bytes_eq-no_option a p, long_of-no_option a p, short_of-no_option a p)
+      (rw (bytes_eq-no_option b q, long_of-no_option b q, short_of-no_option b q) (refl, refl, refl, tt))
+
+  reads_two_fixed : (kind : Second) (a b d : Text) → is_no_option a ≡ true → is_no_option b ≡ true
+      → is_no_option d ≡ true
+      → Reads name (file_forms.TwoOrThree kind) tail_forms.Nothing (Three a b d) nothing (a ∷ b ∷ d ∷ [])
+  unfolding clap_on_literals
+  reads_two_fixed Certificate a b d p q r =
+      rw (bytes_eq-no_option a p, long_of-no_option a p, short_of-no_option a p)
+      (rw (bytes_eq-no_option b q, long_of-no_option b q, short_of-no_option b q)
+      (rw (bytes_eq-no_option d r, long_of-no_option d r, short_of-no_option d r) (refl, refl, refl, tt)))
+  reads_two_fixed Assignment a b d p q r =
+      rw (bytes_eq-no_option a p, long_of-no_option a p, short_of-no_option a p)
+      (rw (bytes_eq-no_option b q, long_of-no_option b q, short_of-no_option b q)
+      (rw (bytes_eq-no_option d r, long_of-no_option d r, short_of-no_option d r) (refl, refl, refl, tt)))
 
   reads_no_name : (kind : Second) (a b : Text) → is_no_option a ≡ true → is_no_option b ≡ true
       → Reads name (file_forms.Two kind) tail_forms.Names (Two a b) (names []) (a ∷ b ∷ [])
@@ -437,6 +467,7 @@ is_form file_forms.One tail_forms.Helpers = true
 is_form (file_forms.Two kind) tail_forms.Nothing = true
 is_form (file_forms.Two kind) tail_forms.Names = true
 is_form file_forms.OneOrTwo tail_forms.Nothing = true
+is_form (file_forms.TwoOrThree kind) tail_forms.Nothing = true
 is_form file_forms.OneOrTwo tail_forms.Names = true
 is_form file_forms.Three tail_forms.Names = true
 is_form _ _ = false
@@ -459,6 +490,10 @@ read name file_forms.Input tail_forms.Nothing Unnamed behind rest form fit follo
 read name file_forms.Input tail_forms.Nothing (One a) behind rest form fit follow spell =
     with_nothing (ReadsBehind name file_forms.Input tail_forms.Nothing (One a)) behind rest spell
     (λ plain. reads_input name a (first_plain a [] plain).0)
+read name file_forms.Input tail_forms.Nothing (Two a b) behind rest form fit follow spell =
+    with_nothing (ReadsBehind name file_forms.Input tail_forms.Nothing (Two a b)) behind rest spell
+    (λ plain. let more = first_plain a (b ∷ []) plain in
+    reads_fixed name a b more.0 (first_plain b [] more.1).0)
 read name file_forms.Input tail_forms.Nothing _ behind rest form fit follow spell = absurd fit
 read name file_forms.One tail_forms.Helpers (One a) behind rest form fit follow spell =
     with_helpers (ReadsBehind name file_forms.One tail_forms.Helpers (One a)) behind rest spell
@@ -499,6 +534,15 @@ read name file_forms.OneOrTwo tail_forms.Names (Two a b) behind rest form fit fo
     (λ n plain. let more = first_plain a (b ∷ n ∷ []) plain in let last = first_plain b (n ∷ []) more.1 in
     reads_both_named name a b n more.0 last.0 (first_plain n [] last.1).0)
 read name file_forms.OneOrTwo tail_forms.Names _ behind rest form fit follow spell = absurd fit
+read name (file_forms.TwoOrThree kind) tail_forms.Nothing (Two a b) behind rest form fit follow spell =
+    with_nothing (ReadsBehind name (file_forms.TwoOrThree kind) tail_forms.Nothing (Two a b)) behind rest spell
+    (λ plain. let more = first_plain a (b ∷ []) plain in
+    reads_no_fixed name kind a b more.0 (first_plain b [] more.1).0)
+read name (file_forms.TwoOrThree kind) tail_forms.Nothing (Three a b d) behind rest form fit follow spell =
+    with_nothing (ReadsBehind name (file_forms.TwoOrThree kind) tail_forms.Nothing (Three a b d)) behind rest spell
+    (λ plain. let more = first_plain a (b ∷ d ∷ []) plain in let last = first_plain b (d ∷ []) more.1 in
+    reads_two_fixed name kind a b d more.0 last.0 (first_plain d [] last.1).0)
+read name (file_forms.TwoOrThree kind) tail_forms.Nothing _ behind rest form fit follow spell = absurd fit
 read name file_forms.Three tail_forms.Names (Three a b d) behind rest form fit follow spell =
     with_names (ReadsBehind name file_forms.Three tail_forms.Names (Three a b d)) behind rest spell
     (λ plain. let more = first_plain a (b ∷ d ∷ []) plain in let last = first_plain b (d ∷ []) more.1 in

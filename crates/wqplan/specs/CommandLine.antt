@@ -21,7 +21,7 @@ use Rattle.wqplan.specs.declared.command_line.Tail.TheVariants as tails
 use Rattle.wqplan.specs.declared.command_line.TailForm.{TailForm}
 use Rattle.wqplan.specs.declared.command_line.TailForm.TheVariants as tail_forms
 use Rattle.wqplan.specs.declared.commands.Verb.{Verb}
-use Rattle.wqplan.specs.declared.commands.Verb.TheVariants.{Explain, Run}
+use Rattle.wqplan.specs.declared.commands.Verb.TheVariants.{Check, Explain, Plan, Run}
 use Rattle.wqplan.specs.Commands.{command_name, file_form, tail_form, verbs}
 
 -- ---- the arguments of a command
@@ -43,13 +43,15 @@ abbrev pub second_name : Second → Text
 second_name Certificate = codes "CERT"
 second_name Assignment = codes "ASSIGN"
 
--- none; `[FILE]`; `DECL`; `DECL CERT` or `DECL ASSIGN`; `DECL [ASSIGN]`; `DECL ASSIGN RUN`
+-- none; `[FILE] [FIXED]`; `DECL`; `DECL ASSIGN`; `DECL [ASSIGN]`; `DECL CERT [FIXED]`; `DECL ASSIGN RUN`
 abbrev pub file_rules : FileForm → List Rule
 file_rules file_forms.Nothing = []
-file_rules file_forms.Input = new_rule (codes "FILE") ∷ []
+file_rules file_forms.Input = new_rule (codes "FILE") ∷ new_rule (codes "FIXED") ∷ []
 file_rules file_forms.One = needed (codes "DECL") ∷ []
 file_rules (file_forms.Two second) = needed (codes "DECL") ∷ needed (second_name second) ∷ []
 file_rules file_forms.OneOrTwo = needed (codes "DECL") ∷ new_rule (codes "ASSIGN") ∷ []
+file_rules (file_forms.TwoOrThree second) =
+    needed (codes "DECL") ∷ needed (second_name second) ∷ new_rule (codes "FIXED") ∷ []
 file_rules file_forms.Three = needed (codes "DECL") ∷ needed (codes "ASSIGN") ∷ needed (codes "RUN") ∷ []
 
 -- none; `[NAME]..`; `[HELPERS]`; `[CODE]`
@@ -142,6 +144,14 @@ run_asked files count = record { verb = Run; files = files; behind = helpers cou
 abbrev pub named_asked : Verb → Files Text → List Text → Asked
 named_asked verb files given = record { verb = verb; files = files; behind = names given }
 
+-- `plan`, on these files
+abbrev pub plan_asked : Files Text → Asked
+plan_asked files = record { verb = Plan; files = files; behind = nothing }
+
+-- `check`, on these files
+abbrev pub check_asked : Files Text → Asked
+check_asked files = record { verb = Check; files = files; behind = nothing }
+
 -- the files, in the order in which they are opened
 abbrev pub listed : Files Text → List Text
 listed Unnamed = []
@@ -169,25 +179,34 @@ HasFewHelpers asked = HasFew asked.behind
 
 -- ---- what is asked for by matches
 
--- a file, if there is one
-abbrev pub one_if : Option Text → Files Text
-one_if None = Unnamed
-one_if (Some first) = One first
+-- no file, a file, or a file and another one behind it, if there is one
+abbrev pub one_if : Option Text → Option Text → Files Text
+one_if None second = Unnamed
+one_if (Some first) None = One first
+one_if (Some first) (Some second) = Two first second
 
 -- a file, and another one, if there is one
 abbrev pub two_if : Text → Option Text → Files Text
 two_if first None = One first
 two_if first (Some second) = Two first second
 
+-- two files, and another one, if there is one
+abbrev pub three_if : Text → Text → Option Text → Files Text
+three_if first second None = Two first second
+three_if first second (Some third) = Three first second third
+
 -- the files that the matches of a command give
 abbrev pub files_in : FileForm → List Row → Option (Files Text)
 files_in file_forms.Nothing rows = Some Unnamed
-files_in file_forms.Input rows = Some (one_if (first_of (codes "FILE") rows))
+files_in file_forms.Input rows = Some (one_if (first_of (codes "FILE") rows) (first_of (codes "FIXED") rows))
 files_in file_forms.One rows = option_map (λ d. One d) (first_of (codes "DECL") rows)
 files_in (file_forms.Two second) rows =
     option_and_then (λ d. option_map (λ s. Two d s) (first_of (second_name second) rows)) (first_of (codes "DECL") rows)
 files_in file_forms.OneOrTwo rows =
     option_map (λ d. two_if d (first_of (codes "ASSIGN") rows)) (first_of (codes "DECL") rows)
+files_in (file_forms.TwoOrThree second) rows =
+    option_and_then (λ d. option_map (λ s. three_if d s (first_of (codes "FIXED") rows))
+    (first_of (second_name second) rows)) (first_of (codes "DECL") rows)
 files_in file_forms.Three rows =
     option_and_then (λ d. option_and_then (λ a. option_map (λ r. Three d a r) (first_of (codes "RUN") rows))
     (first_of (codes "ASSIGN") rows)) (first_of (codes "DECL") rows)
@@ -253,10 +272,13 @@ abbrev pub Fits : FileForm → Files Text → Type 0
 Fits file_forms.Nothing Unnamed = Unit {0}
 Fits file_forms.Input Unnamed = Unit {0}
 Fits file_forms.Input (One first) = Unit {0}
+Fits file_forms.Input (Two first second) = Unit {0}
 Fits file_forms.One (One first) = Unit {0}
 Fits (file_forms.Two kind) (Two first second) = Unit {0}
 Fits file_forms.OneOrTwo (One first) = Unit {0}
 Fits file_forms.OneOrTwo (Two first second) = Unit {0}
+Fits (file_forms.TwoOrThree kind) (Two first second) = Unit {0}
+Fits (file_forms.TwoOrThree kind) (Three first second third) = Unit {0}
 Fits file_forms.Three (Three first second third) = Unit {0}
 Fits _ _ = ⊥
 

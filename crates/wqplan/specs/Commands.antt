@@ -36,7 +36,7 @@ verb_named name = find (λ verb. bytes_eq (command_name verb) name) verbs
 -- which files it has
 abbrev pub file_form : Verb → FileForm
 file_form Plan = files.Input
-file_form Check = files.Two Certificate
+file_form Check = files.TwoOrThree Certificate
 file_form Deadlock = files.Two Assignment
 file_form Hang = files.Two Assignment
 file_form Repair = files.Two Assignment

@@ -11,6 +11,8 @@ use Rattle.wq_commands.specs.declared.end.End.{End}
 use Rattle.wq_commands.specs.Answer.{Answers}
 use Rattle.wq_commands.specs.Checking.{Checks}
 use Rattle.wq_commands.specs.Deadlocking.{Judges}
+use Rattle.wq_around_command.specs.Checking.{ChecksAround}
+use Rattle.wq_around_command.specs.Planning.{Plans}
 use Rattle.wq_hang_command.specs.Hanging.{Hangs}
 use Rattle.wq_hang_command.specs.Holding.{Holds}
 use Rattle.wq_repair_command.specs.Repairing.{Repairs}
@@ -25,7 +27,7 @@ use Rattle.wq_run.specs.Running.{RunsPlan}
 use Rattle.wq_explain.specs.Explaining.{explained_end, explained_text}
 use Rattle.clap.specs.Words.{Text}
 use Rattle.wqplan.specs.declared.command_line.Files.{Files}
-use Rattle.wqplan.specs.declared.command_line.Files.TheVariants.{One, Unnamed}
+use Rattle.wqplan.specs.declared.command_line.Files.TheVariants.{One, Three, Unnamed}
 use Rattle.wqplan.specs.declared.commands.Verb.{Verb}
 use Rattle.wqplan.specs.declared.commands.Verb.TheVariants.{Plan, Check, Deadlock, Hang, Repair, Replay}
 use Rattle.wqplan.specs.declared.commands.Verb.TheVariants.{Circles as CirclesVerb}
@@ -49,10 +51,20 @@ has_second Unnamed = false
 has_second (One first) = false
 has_second _ = true
 
+-- a third file is named
+abbrev pub has_third : Files Text → Bool
+has_third (Three first second third) = true
+has_third _ = false
+
+-- two texts, or three
+abbrev pub two_or_three_texts : Bool → Limits
+two_or_three_texts true = three_texts
+two_or_three_texts false = two_texts
+
 -- how many texts a command reads, and how long they may be
 abbrev pub limits_of : Verb → Files Text → Limits
-limits_of Plan files = one_text
-limits_of Check files = two_texts
+limits_of Plan files = one_or_two_texts (has_second files)
+limits_of Check files = two_or_three_texts (has_third files)
 limits_of Deadlock files = two_texts
 limits_of Hang files = two_texts
 limits_of Repair files = two_texts
@@ -87,10 +99,20 @@ EndsCircles false names texts end out = AnswersCircles false texts end out
 EndsCircles true [] texts end out = AnswersCircles true texts end out
 EndsCircles true (name ∷ names) texts end out = CirclesNamed (name ∷ names) texts.first texts.second end out
 
+-- `plan`, around fixed workqueues or without any
+abbrev pub EndsPlan : Bool → Given → End → List ℕ → Type 0
+EndsPlan false texts end out = Answers texts.first end out
+EndsPlan true texts end out = Plans texts.first texts.second end out
+
+-- `check`, around fixed workqueues or without any
+abbrev pub EndsCheck : Bool → Given → End → List ℕ → Type 0
+EndsCheck false texts end out = Checks texts.first texts.second end out
+EndsCheck true texts end out = ChecksAround texts.first texts.second texts.third end out
+
 -- a command ends like this with this answer to its texts
 abbrev pub EndsOn : Verb → Files Text → Behind → Given → End → List ℕ → Type 0
-EndsOn Plan files behind texts end out = Answers texts.first end out
-EndsOn Check files behind texts end out = Checks texts.first texts.second end out
+EndsOn Plan files behind texts end out = EndsPlan (has_second files) texts end out
+EndsOn Check files behind texts end out = EndsCheck (has_third files) texts end out
 EndsOn Deadlock files behind texts end out = Judges texts.first texts.second end out
 EndsOn Hang files behind texts end out = EndsHang (names_asked behind) texts end out
 EndsOn Repair files behind texts end out = Repairs (names_asked behind) texts.first texts.second end out

@@ -12,6 +12,9 @@ use Rattle.wq_groups.specs.DeclaredGroups.{Declared}
 use Rattle.wq_commands.specs.Shell.{AnswersTexts, SaysOfTexts}
 use Rattle.wq_circles.specs.Circling.{CirclesTexts}
 use Rattle.wq_circles.specs.HeldText.{CirclesTextFor}
+use Rattle.wq_around_command.specs.Checking.{ChecksTexts}
+use Rattle.wq_around_command.specs.Planning.{PlansText}
+use Rattle.wq_around_command.specs.Saying.{SaysCheckAround, SaysPlanAround}
 use Rattle.wq_dot.specs.Dotting.{DrawsTexts}
 use Rattle.wq_dot.specs.Saying.{SaysDot}
 use Rattle.wq_hang_command.specs.Hanging.{HangsText}
@@ -31,7 +34,7 @@ use Rattle.wqplan.specs.declared.commands.Verb.{Verb}
 use Rattle.wqplan.specs.declared.commands.Verb.TheVariants.{Plan, Check, Deadlock, Hang, Repair, Replay, Circles, Dot}
 use Rattle.wqplan.specs.declared.commands.Verb.TheVariants.{Run, Explain}
 use Rattle.wqplan.specs.CommandLine.{Asked, Behind, helpers_asked, names_asked}
-use Rattle.wqplan.specs.Ended.{EndsOn, HasTexts, has_second, limits_of}
+use Rattle.wqplan.specs.Ended.{EndsOn, HasTexts, has_second, has_third, limits_of}
 
 -- ---- the names of files
 
@@ -100,13 +103,26 @@ SaysCirclesNamed A n true (name ∷ names) = IsSaidOf n.declaration
     (λ s t found end out. CirclesTextFor {A = A} s (name ∷ names) t.second found end out)
     (λ s t found said. SaysCirclesOfFor n.declaration n.second n.run (name ∷ names) s t found said)
 
+-- what is said of `plan`, around fixed workqueues or without any
+abbrev pub SaysAnyPlan : Type 0 → Names → Bool → Given → End → List ℕ → Option (List ℕ) → Type 0
+SaysAnyPlan A n false = IsSaidOf n.declaration (λ s _ found end out. FindsPlan s found end out)
+    (λ s _ end said. SaysPlan n.declaration s end said)
+SaysAnyPlan A n true = IsSaidOf n.declaration
+    (λ s t found end out. PlansText {A = A} s t.second found end out)
+    (λ s t found said. SaysPlanAround n.declaration n.second n.run s t found said)
+
+-- what is said of `check`, around fixed workqueues or without any
+abbrev pub SaysAnyCheck : Names → Bool → Given → End → List ℕ → Option (List ℕ) → Type 0
+SaysAnyCheck n false = IsSaidOf n.declaration (λ s t found end out. ChecksText s t.second found end out)
+    (λ s t found said. SaysCheck n.declaration n.second n.run s t found said)
+SaysAnyCheck n true = IsSaidOf n.declaration (λ s t found end out. ChecksTexts s t.second t.third found end out)
+    (λ s t found said. SaysCheckAround n.declaration n.second n.run s t found said)
+
 -- what is said of the answer of a command to these texts; `A` is the allocator of the vectors in what the command
 -- found. Nothing is said beside `explain`
 abbrev pub SaysOn : Type 0 → Names → Verb → Files Text → Behind → Given → End → List ℕ → Option (List ℕ) → Type 0
-SaysOn A n Plan files behind = IsSaidOf n.declaration (λ s _ found end out. FindsPlan s found end out)
-    (λ s _ end said. SaysPlan n.declaration s end said)
-SaysOn A n Check files behind = IsSaidOf n.declaration (λ s t found end out. ChecksText s t.second found end out)
-    (λ s t found said. SaysCheck n.declaration n.second n.run s t found said)
+SaysOn A n Plan files behind = SaysAnyPlan A n (has_second files)
+SaysOn A n Check files behind = SaysAnyCheck n (has_third files)
 SaysOn A n Deadlock files behind = IsSaidOf n.declaration
     (λ s t found end out. JudgesText {A = A} s t.second found end out)
     (λ s t found said. SaysVerdictOf n.declaration n.second n.run s t found said)

@@ -52,7 +52,7 @@ impl Second {
 pub(crate) enum FileForm {
     /// None.
     Nothing,
-    /// A declaration; if no file is named, it is standard input.
+    /// A declaration, and fixed workqueues or none; if no file is named, the declaration is standard input.
     Input,
     /// A declaration.
     One,
@@ -60,6 +60,8 @@ pub(crate) enum FileForm {
     Two(Second),
     /// A declaration, and an assignment or none.
     OneOrTwo,
+    /// A declaration, this, and fixed workqueues or none.
+    TwoOrThree(Second),
     /// A declaration, an assignment and a run.
     Three,
 }
@@ -84,9 +86,9 @@ pub(crate) enum Files<T> {
     Unnamed,
     /// That of a declaration.
     One(T),
-    /// The files of a declaration and of a certificate or an assignment.
+    /// The files of a declaration, and of a certificate, an assignment or fixed workqueues.
     Two(T, T),
-    /// The files of a declaration, an assignment and a run.
+    /// The files of a declaration, an assignment and a run; or of a declaration, a certificate and fixed workqueues.
     Three(T, T, T),
 }
 
@@ -227,7 +229,9 @@ fn with_files<'a>(
 {
     match form {
         FileForm::Nothing => Ok(command),
-        FileForm::Input => command.arg(optional(alloc, "FILE", help::FILE)),
+        FileForm::Input => command
+            .arg(optional(alloc, "FILE", help::FILE))?
+            .arg(optional(alloc, "FIXED", help::FIXED)),
         FileForm::One => command.arg(declaration(alloc)),
         FileForm::Two(kind) => command
             .arg(declaration(alloc))?
@@ -235,6 +239,10 @@ fn with_files<'a>(
         FileForm::OneOrTwo => command
             .arg(declaration(alloc))?
             .arg(optional(alloc, "ASSIGN", assignment)),
+        FileForm::TwoOrThree(kind) => command
+            .arg(declaration(alloc))?
+            .arg(second_file(alloc, kind))?
+            .arg(optional(alloc, "FIXED", help::FIXED)),
         FileForm::Three => command
             .arg(declaration(alloc))?
             .arg(second_file(alloc, Second::Assignment))?
@@ -306,7 +314,10 @@ fn files_given<'a>(form: FileForm, given: &ArgMatches<'a>) -> Option<Files<&'a s
     match form {
         FileForm::Nothing => Some(Files::Unnamed),
         FileForm::Input => match text_given(given, "FILE") {
-            Some(file) => Some(Files::One(file)),
+            Some(file) => match text_given(given, "FIXED") {
+                Some(fixed) => Some(Files::Two(file, fixed)),
+                None => Some(Files::One(file)),
+            },
             None => Some(Files::Unnamed),
         },
         FileForm::One => Some(Files::One(text_given(given, "DECL")?)),
@@ -320,6 +331,14 @@ fn files_given<'a>(form: FileForm, given: &ArgMatches<'a>) -> Option<Files<&'a s
             match text_given(given, "ASSIGN") {
                 Some(assignment) => Some(Files::Two(declaration, assignment)),
                 None => Some(Files::One(declaration)),
+            }
+        }
+        FileForm::TwoOrThree(kind) => {
+            let declaration = text_given(given, "DECL")?;
+            let second = text_given(given, kind.name())?;
+            match text_given(given, "FIXED") {
+                Some(fixed) => Some(Files::Three(declaration, second, fixed)),
+                None => Some(Files::Two(declaration, second)),
             }
         }
         FileForm::Three => {

@@ -74,7 +74,7 @@ impl Verb {
     {
         match self {
             Verb::Plan => FileForm::Input,
-            Verb::Check => FileForm::Two(Second::Certificate),
+            Verb::Check => FileForm::TwoOrThree(Second::Certificate),
             Verb::Deadlock | Verb::Hang | Verb::Repair => FileForm::Two(Second::Assignment),
             Verb::Replay => FileForm::Three,
             Verb::Circles | Verb::Dot => FileForm::OneOrTwo,

@@ -19,6 +19,9 @@ pub(crate) const CERT: &str = "A plan or a circle, in the form in which `plan` p
 pub(crate) const ASSIGN: &str =
     "Which item is on which workqueue: `wq`, `norescuer` lines or a plan";
 
+/// What FIXED is.
+pub(crate) const FIXED: &str = "Which workqueues stay as they are, with which items: as ASSIGN";
+
 /// What NAME is.
 pub(crate) const NAME: &str = "An item that may move, with its group. Without NAME all may";
 

@@ -14,12 +14,14 @@ ghost use Rattle.wq_meter.specs.Meter.{count_after, LosesPrefix, WritesPrefix, W
 ghost use Rattle.wq_meter.specs.Shell.{AreFrom, Tells};
 ghost use Rattle.wq_commands.specs.Declaration.{max_declaration};
 ghost use Rattle.wq_commands.specs.Shell.{AnswersTexts, IsAnswered, SaysOfTexts};
-ghost use Rattle.wqplan.specs.CommandLine.{HasFewHelpers, listed, named_asked, paths, run_asked, spelled};
+ghost use Rattle.wqplan.specs.CommandLine.{HasFewHelpers, check_asked, listed, named_asked, paths, plan_asked};
+ghost use Rattle.wqplan.specs.CommandLine.{run_asked, spelled};
 ghost use Rattle.wqplan.specs.Cause.{EndsAlone, EndsReady, IsCaused, MayFail, ReadsInput, TakesInput};
 ghost use Rattle.wqplan.specs.Files.{AreOpened, EndsIn, HaveTexts, first_if};
 ghost use Rattle.wqplan.specs.Promised.{PromisesAsAsked};
 ghost use Rattle.wqplan.specs.Status.{end_or_common, explained_or_common, unheld};
-ghost use Rattle.wqplan.specs.Ended.{EndedBy, EndsAsAsked, EndsExplain, Has, IsInputIf, has_second, names_behind};
+ghost use Rattle.wqplan.specs.Ended.{EndedBy, EndsAsAsked, EndsExplain, Has, IsInputIf, has_second, has_third};
+ghost use Rattle.wqplan.specs.Ended.{names_behind};
 ghost use Rattle.wqplan.specs.Told.{IsToldAsAsked, names_given, names_of_files};
 ghost use Rattle.wqplan.specs.declared.command_line.Files.TheVariants.{Unnamed};
 ghost use Rattle.wqplan.specs.declared.commands.Verb.TheVariants.{Circles, Hang, Replay};
@@ -31,6 +33,7 @@ use std::alloc::Global;
 use std::io::{self, Read, Write};
 use std::sync::Wait;
 use std::thread::Threads;
+use wq_around_command::{CheckAroundCommand, PlanAroundCommand};
 use wq_changes::RepairVoice;
 use wq_circles::{CirclesCommand, CirclesForCommand};
 use wq_commands::{
@@ -454,6 +457,116 @@ fn circles<'a, O: World<'a>, I: Read, W: Write, E: Write>(
     )
 }
 
+/// Whether a third file is named.
+fn has_third(files: &Files<&str>) -> bool
+    ensures { result ≡ has_third (paths files.now) }
+{
+    match files {
+        Files::Unnamed | Files::One(_) | Files::Two(..) => false,
+        Files::Three(..) => true,
+    }
+}
+
+/// Carries out `plan`, around the workqueues of a second file, if there is one.
+fn plan<'a, O: World<'a>, I: Read, W: Write, E: Write>(
+    world: &O,
+    alloc: Global,
+    seed: u64,
+    names: &FileNames<'_>,
+    files: &Files<&'a str>,
+    input: &mut Metered<I>,
+    writer: &mut Metered<W>,
+    teller: &mut Metered<E>,
+) -> Result<End, CommandFault>
+    requires drawn { O.seeds world.now (Some seed) }
+    requires names { names_given names.now ≡ names_of_files (paths files.now) }
+    ensures ended { EndedBy W.contents writer.old writer.new
+        (EndsAsAsked (Has (O.opens world.now) O.File.Read.remaining) (IsInput (I.remaining input.old.device))
+        (plan_asked (paths files.now))) result }
+    ensures told { IfOk result (λ end. IsToldAsAsked Global (Has (O.opens world.now) O.File.Read.remaining)
+        (IsInput (I.remaining input.old.device)) (plan_asked (paths files.now)) end
+        (WritesWhole W.contents writer.old writer.new) (Tells E.contents teller.old teller.new)) }
+    ensures caused { IsCaused (O.seeds world.now) (O.opens world.now) (HasFailed input.old input.new)
+        (plan_asked (paths files.now)) result }
+    ensures input { TakesInput I.remaining input.old input.new max_declaration (paths files.now) }
+    ensures unsaid { OnErr result (teller.new ≡ teller.old) }
+{
+    if has_second(files) {
+        return carry_out_files(
+            world,
+            alloc,
+            seed,
+            &PlanAroundCommand,
+            names,
+            files,
+            input,
+            writer,
+            teller,
+        );
+    }
+    carry_out_files(
+        world,
+        alloc,
+        seed,
+        &PlanCommand,
+        names,
+        files,
+        input,
+        writer,
+        teller,
+    )
+}
+
+/// Carries out `check`, around the workqueues of a third file, if there is one.
+fn check<'a, O: World<'a>, I: Read, W: Write, E: Write>(
+    world: &O,
+    alloc: Global,
+    seed: u64,
+    names: &FileNames<'_>,
+    files: &Files<&'a str>,
+    input: &mut Metered<I>,
+    writer: &mut Metered<W>,
+    teller: &mut Metered<E>,
+) -> Result<End, CommandFault>
+    requires drawn { O.seeds world.now (Some seed) }
+    requires names { names_given names.now ≡ names_of_files (paths files.now) }
+    ensures ended { EndedBy W.contents writer.old writer.new
+        (EndsAsAsked (Has (O.opens world.now) O.File.Read.remaining) (IsInput (I.remaining input.old.device))
+        (check_asked (paths files.now))) result }
+    ensures told { IfOk result (λ end. IsToldAsAsked Global (Has (O.opens world.now) O.File.Read.remaining)
+        (IsInput (I.remaining input.old.device)) (check_asked (paths files.now)) end
+        (WritesWhole W.contents writer.old writer.new) (Tells E.contents teller.old teller.new)) }
+    ensures caused { IsCaused (O.seeds world.now) (O.opens world.now) (HasFailed input.old input.new)
+        (check_asked (paths files.now)) result }
+    ensures input { TakesInput I.remaining input.old input.new max_declaration (paths files.now) }
+    ensures unsaid { OnErr result (teller.new ≡ teller.old) }
+{
+    if has_third(files) {
+        return carry_out_files(
+            world,
+            alloc,
+            seed,
+            &CheckAroundCommand,
+            names,
+            files,
+            input,
+            writer,
+            teller,
+        );
+    }
+    carry_out_files(
+        world,
+        alloc,
+        seed,
+        &CheckCommand,
+        names,
+        files,
+        input,
+        writer,
+        teller,
+    )
+}
+
 /// Carries out the command that is asked for, with a seed that was drawn. `explain` doesn't use it.
 fn carry_out_seeded<'a, O: World<'a>, R: Threads + Wait + Sync, I: Read, W: Write, E: Write>(
     world: &O,
@@ -483,28 +596,8 @@ fn carry_out_seeded<'a, O: World<'a>, R: Threads + Wait + Sync, I: Read, W: Writ
     let names = names_of(files);
     let named = request.tail.names();
     match verb {
-        Verb::Plan => carry_out_files(
-            world,
-            alloc,
-            seed,
-            &PlanCommand,
-            &names,
-            files,
-            input,
-            writer,
-            teller,
-        ),
-        Verb::Check => carry_out_files(
-            world,
-            alloc,
-            seed,
-            &CheckCommand,
-            &names,
-            files,
-            input,
-            writer,
-            teller,
-        ),
+        Verb::Plan => plan(world, alloc, seed, &names, files, input, writer, teller),
+        Verb::Check => check(world, alloc, seed, &names, files, input, writer, teller),
         Verb::Deadlock => carry_out_files(
             world,
             alloc,

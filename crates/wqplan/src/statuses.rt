@@ -7,8 +7,9 @@ pub(crate) const PROGRAM: &str = "\
   0    the answer is a plan, `yes ..`, `safe`, an assignment, `open`, a drawing,
        `workqueues ..`, an explanation or the titles of all; or help or the
        version was printed
-  1    the answer is a circle, `no ..`, a run that deadlocks, a run that ends
-       stuck, `deadlock`, `stuck`, `not lawful N` or `components ..`
+  1    the answer is a circle, a norescuer text, `no ..`, a run that deadlocks,
+       a run that ends stuck, `deadlock`, `stuck`, `not lawful N` or
+       `components ..`
   2    the answer is `refused CODE line N`: a text isn't of its form, or a plan
        has too many workqueues to run; or the word to explain is none that has
        an explanation; or the command line is wrong, and standard error says how
@@ -23,7 +24,7 @@ number and word.";
 pub(crate) const PLAN: &str = "\
 Exit status:
   0    the answer is a plan
-  1    the answer is a circle
+  1    the answer is a circle or a norescuer text
   2    the answer is `refused CODE line N`: a text isn't of its form; or the
        command line is wrong, and standard error says how
   3    a fault: the last line of standard error is `fault memory`, `fault read`

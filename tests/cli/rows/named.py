@@ -103,6 +103,25 @@ HELD = [
         ("n", ["run 13 / queue a / queue b / queue c / queue n / queue y / queue x / queue z / start 0 a / wait 0 y / start 1 b"
                " / wait 1 x / start 2 c / wait 2 z"]),
     ]),
+    # Of two that wait alike the NAMEd one has nobody in front of it, whichever is declared first.
+    ("item y / item x / item a / flush y a / flush x a / flush a a", "wq 0 y x / wq 1 a", [
+        ("x", ["run 6 / queue x / queue a / start 0 x / wait 0 a / start 1 a / wait 1 a"]),
+        ("y", ["run 6 / queue y / queue a / start 0 y / wait 0 a / start 1 a / wait 1 a"]),
+    ]),
+    # A workqueue on which two wait is waited for: nothing more is queued there. By way of `c` it would take 7 steps.
+    ("item n / item a / item b / item c / item x / flushwq n b / flush a a / flush n c / flush c x",
+     "wq 0 n / wq 1 a b / wq 2 c / norescuer 3 x", [
+         ("n", ["run 6 / queue n / queue a / start 0 n / waitwq 0 b / start 1 a / wait 1 a"]),
+     ]),
+    # Two wait for `b`, which is queued once. By way of `d`, which is in front of `c`, it would take 8 steps.
+    ("item n / item a / item b / item c / item d / item x / flush n b / flush a b / flush n c / flush d x",
+     "wq 0 n / wq 1 a b / wq 2 c d / norescuer 3 x", [
+         ("n", ["run 7 / queue n / queue a / queue b / start 0 n / wait 0 b / start 1 a / wait 1 b"]),
+     ]),
+    # What is waited for on a workqueue without a rescuer is queued, by `flushwq` too: so that takes 4 steps.
+    ("item n / item x / flushwq n x / flush n n", "wq 0 n / norescuer 1 x", [("n", ["run 3 / queue n / start 0 n / wait 0 n"])]),
+    # Who is on a workqueue without a rescuer may wait for another one that has none: that holds up nobody else.
+    ("item n / item x / item y / flush x y / flush y n", "wq 0 n / norescuer 1 x / norescuer 2 y", [("n", ["safe"])]),
     ("item n", "wq 0 n", [("n", ["safe"]), ("m", ["refused 8 line 0"]), ("n m", ["refused 8 line 0"]), ("m n", ["refused 8 line 0"])]),
     # The texts are judged first. A NAME may be what no item can be called.
     ("item n / flush n m", "wq 0 n", [("m", ["refused 8 line 2"])]),
@@ -122,6 +141,23 @@ HELD = [
     ("item n / item a / flush? n a / flush a a", "wq 0 n / wq 1 a", [
         ("n", ["unsure 1 / flush? n a / run 6 / queue n / queue a / start 0 n / wait 0 a / start 1 a / wait 1 a"]),
         ("a", ["unsure 0 / run 3 / queue a / start 1 a / wait 1 a"]),
+    ]),
+    # By `flushwq?`; and of two flushes the sure one.
+    ("item n / item a / item b / flushwq? n b / flush a a", "wq 0 n / wq 1 a b", [
+        ("n", ["unsure 1 / flushwq? n b / run 6 / queue n / queue a / start 0 n / waitwq 0 b / start 1 a / wait 1 a"]),
+        ("b", ["unsure 0 / run 4 / queue a / queue b / start 1 a / wait 1 a"]),
+    ]),
+    ("item n / item a / flush? n a / flush n a / flush a a", "wq 0 n / wq 1 a", [
+        ("n", ["unsure 0 / run 6 / queue n / queue a / start 0 n / wait 0 a / start 1 a / wait 1 a"]),
+    ]),
+    ("item n / item a / flushwq? n n / flush n a / flush a a", "wq 0 n / wq 1 a", [
+        ("n", ["unsure 0 / run 6 / queue n / queue a / start 0 n / wait 0 a / start 1 a / wait 1 a"]),
+    ]),
+    # Only what it takes is printed.
+    ("item n / item a / flush? n a / flush? a n / flush? n n", "wq 0 n / wq 1 a", [
+        ("n", ["unsure 1 / flush? n n / run 3 / queue n / start 0 n / wait 0 n"]),
+        ("a", ["unsure 2 / flush? n a / flush? a n / run 6 / queue a / queue n / start 1 a / wait 1 n / start 0 n / wait 0 a",
+               "unsure 2 / flush? a n / flush? n n / run 6 / queue a / queue n / start 1 a / wait 1 n / start 0 n / wait 0 n"]),
     ]),
     ("item n / item x / flush? n x", "norescuer 0 n / norescuer 1 x", [("n", ["unsure 0 / run 1 / queue n"])]),
     ("item n / item x / flush? n x", "wq 0 n / norescuer 1 x", [
@@ -189,9 +225,14 @@ CIRCLES = [
         ("n", "components 0 / norescuer 1 / arc n x"),
         ("x", "components 0"),
     ]),
+    ("item n / item x / item y / flush x y / flush y n", "wq 0 n / norescuer 1 x / norescuer 2 y", [
+        ("n", "safe"),
+        ("x n", "components 0"),
+    ]),
     # What is on the workqueue of a NAMEd item counts, whichever item flushes.
     (SELF, "wq 0 a n", [("n", "components 1 / component 1 / arc a a")]),
     (SELF, "wq 0 a / wq 1 n", [("n", "safe")]),
+    ("item n / item x / flush? n x", "wq 0 n / norescuer 1 x", [("n", "components 0 / norescuer 1 / arc? n x"), ("x", "components 0")]),
     ("item n / item a / flush? n a / flush a a", "wq 0 n / wq 1 a", [
         ("n", "components 1 / component 1 / arc a a / ways 1 / arc? n a"),
     ]),

@@ -4,4 +4,4 @@
 from records import records  # in tests/lib
 
 STATUS = {row["word"].split()[0]: int(row["status"]) for row in records("words.txt") if "status" in row}
-STATUS |= {"digraph": 0, "wq": 0, "norescuer": 0}
+STATUS |= {"digraph": 0, "wq": 0}

@@ -3,7 +3,6 @@ use Rattle.std.specs.List.{All}
 use Rattle.wq_groups.specs.DeclaredGroups.{declared_waits}
 use Rattle.wq_core.specs.Wiring.{Wiring, IsWiring, items}
 use Rattle.wq_core.specs.Workqueues.{wiring_of}
-use Rattle.wq_core.specs.Held.{Machine}
 use Rattle.wq_core.specs.Deadlock.{IsSafe}
 use Rattle.wq_core.proofs.Results.{OnErr-holds}
 use Rattle.wq_hang.specs.declared.hop.Hop.{Hop}
@@ -47,12 +46,10 @@ returns-in-Some-clause-answer g c =
     let v : Wiring = wiring_of d ws in
     let hops = c.in-Some.hops.items in
     let beside = c.in-Some.beside.items in
-    let machine = rw (c.table.ensures.is, c.groups.ensures.is, c.workqueues-workqueues.ensures.is) at
-    c.in_ok-core.ensures.machine in
-    let of : c.in_ok-core.core.wiring ≡ v = ap (λ (m : Machine). m.wiring) machine in
+    let of : c.in_ok-wires.wires ≡ v = c.in_ok-wires.ensures in
     let bare = rw c.workqueues-workqueues.ensures.is at c.bare.ensures in
     let same : c.new-waits.result ≡ v =
-    c.new-waits.ensures ∙ same_bare c.in_ok-core.core.wiring d ws c.bare.result.now of bare ∙ of in
+    c.new-waits.ensures ∙ same_bare c.in_ok-wires.wires d ws c.bare.result.now of bare ∙ of in
     let found : IsLeastWalk c.new-waits.result hops beside = rw c.in-Some.is at c.in_ok-hops.ensures.some in
     let chosen : IsRoundOrFirst c.new-waits.result hops beside = rw c.in-Some.is at c.in_ok-hops.ensures.first in
     let least : IsLeastWalk v hops beside = subst (λ (x : Wiring). IsLeastWalk x hops beside) same found in
@@ -83,11 +80,9 @@ returns-clause-answer g c =
     let a = c.args.assigned.now in
     let d = declared_waits a.declared in
     let ws = a.workqueues in
-    let machine = rw (c.table.ensures.is, c.groups.ensures.is, c.workqueues-workqueues.ensures.is) at
-    c.in_ok-core.ensures.machine in
-    let of : c.in_ok-core.core.wiring ≡ wiring_of d ws = ap (λ (m : Machine). m.wiring) machine in
+    let of : c.in_ok-wires.wires ≡ wiring_of d ws = c.in_ok-wires.ensures in
     let bare = rw c.workqueues-workqueues.ensures.is at c.bare.ensures in
     let same : c.new-waits.result ≡ wiring_of d ws =
-    c.new-waits.ensures ∙ same_bare c.in_ok-core.core.wiring d ws c.bare.result.now of bare ∙ of in
+    c.new-waits.ensures ∙ same_bare c.in_ok-wires.wires d ws c.bare.result.now of bare ∙ of in
     let safe : IsSafe c.new-waits.result = rw c.in-None.is at c.in_ok-hops.ensures.none in
     (c.workqueues-workqueues.ensures.assigned.assignment.assignment, subst IsSafe same safe)

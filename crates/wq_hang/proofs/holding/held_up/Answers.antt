@@ -3,7 +3,6 @@ use Rattle.std.specs.List.{All}
 use Rattle.wq_groups.specs.DeclaredGroups.{declared_waits}
 use Rattle.wq_core.specs.Wiring.{Wiring, IsWiring, items}
 use Rattle.wq_core.specs.Workqueues.{wiring_of}
-use Rattle.wq_core.specs.Held.{Machine}
 use Rattle.wq_hang.specs.declared.hop.Hop.{Hop}
 use Rattle.wq_hang.specs.ShortestFor.{IsFewestFor}
 use Rattle.wq_hang.specs.Walk.{AreFirstAlike, ArePlacesApart, needs, run_of_walk}
@@ -23,11 +22,9 @@ pending_for-requires-clause-targets g c =
     let w : Wiring = c.new-waits.result in
     let x : ℕ = c.in-Some.walk.named in
     let hops = c.in-Some.walk.hops.items in
-    let machine = rw (c.table.ensures.is, c.groups.ensures.is, c.workqueues-workqueues.ensures.is) at
-    c.in_ok-core.ensures.machine in
-    let of : c.in_ok-core.core.wiring ≡ v = ap (λ (m : Machine). m.wiring) machine in
+    let of : c.in_ok-wires.wires ≡ v = c.in_ok-wires.ensures in
     let bare = rw c.workqueues-workqueues.ensures.is at c.bare.ensures in
-    let same : w ≡ v = c.new-waits.ensures ∙ same_bare c.in_ok-core.core.wiring d ws c.bare.result.now of bare ∙ of in
+    let same : w ≡ v = c.new-waits.ensures ∙ same_bare c.in_ok-wires.wires d ws c.bare.result.now of bare ∙ of in
     let wiring : IsWiring w = subst IsWiring (sym same) (IsWiring-assigned a is) in
     let least : IsLeastWalkFor w c.args.named.now x hops = rw c.in-Some.is at c.in_ok-walk.ensures.some in
     subst (λ (l : List Hop). All (λ (h : Hop). h.flush.item < items w) l) (sym c.as_slice.ensures.value)
@@ -51,12 +48,10 @@ returns-in-Some g c =
     let named : List ℕ = c.args.named.now in
     let x : ℕ = c.in-Some.walk.named in
     let hops = c.in-Some.walk.hops.items in
-    let machine = rw (c.table.ensures.is, c.groups.ensures.is, c.workqueues-workqueues.ensures.is) at
-    c.in_ok-core.ensures.machine in
-    let of : c.in_ok-core.core.wiring ≡ v = ap (λ (m : Machine). m.wiring) machine in
+    let of : c.in_ok-wires.wires ≡ v = c.in_ok-wires.ensures in
     let bare = rw c.workqueues-workqueues.ensures.is at c.bare.ensures in
     let same : c.new-waits.result ≡ v =
-    c.new-waits.ensures ∙ same_bare c.in_ok-core.core.wiring d ws c.bare.result.now of bare ∙ of in
+    c.new-waits.ensures ∙ same_bare c.in_ok-wires.wires d ws c.bare.result.now of bare ∙ of in
     let found : IsLeastWalkFor c.new-waits.result named x hops = rw c.in-Some.is at c.in_ok-walk.ensures.some in
     let least : IsLeastWalkFor v named x hops = subst (λ (k : Wiring). IsLeastWalkFor k named x hops) same found in
     let beside : c.in_ok-beside-in-Some.beside.items ≡ pending_for v x hops =
@@ -89,12 +84,10 @@ returns g c =
     let ws = a.workqueues in
     let v : Wiring = wiring_of d ws in
     let named : List ℕ = c.args.named.now in
-    let machine = rw (c.table.ensures.is, c.groups.ensures.is, c.workqueues-workqueues.ensures.is) at
-    c.in_ok-core.ensures.machine in
-    let of : c.in_ok-core.core.wiring ≡ v = ap (λ (m : Machine). m.wiring) machine in
+    let of : c.in_ok-wires.wires ≡ v = c.in_ok-wires.ensures in
     let bare = rw c.workqueues-workqueues.ensures.is at c.bare.ensures in
     let same : c.new-waits.result ≡ v =
-    c.new-waits.ensures ∙ same_bare c.in_ok-core.core.wiring d ws c.bare.result.now of bare ∙ of in
+    c.new-waits.ensures ∙ same_bare c.in_ok-wires.wires d ws c.bare.result.now of bare ∙ of in
     let none : (x : ℕ) (hops : List Hop) → ¬ IsWalkFor c.new-waits.result named x hops =
     rw c.in-None.is at c.in_ok-walk.ensures.none in (
       is.assignment.assignment,

@@ -1,11 +1,12 @@
-use Rattle.std.proofs.Common.{◌≡◌, ◌<◌, ◌≤◌, ℕ, List, Some, None, sym, ap, subst, ◌∙◌, arith}
-use Rattle.std.specs.Prelude.{IfOk, IfSome, IfNone, MatchOption}
-use Rattle.std.specs.List.{All}
+use Rattle.std.proofs.Common.{◌≡◌, ◌<◌, ℕ, Bool, true, false, List, Some, sym, subst}
+use Rattle.std.specs.Prelude.{slice_index_or, IfSome, IfNone, MatchOption}
 use Rattle.std.proofs.lemmas.List.Elements.{All-weaker}
 use Rattle.wq_core.specs.Wiring.{HasRescuer, items, lane_of}
 use Rattle.wq_hang.specs.declared.hop.Hop.{Hop}
 use Rattle.wq_hang.specs.WalkFor.{IsWalkFor, IsLeastWalkFor}
 use Rattle.wq_hang.specs.EndsFor.{Field, IsField, IsBestEnd, IsWalkAt}
+use Rattle.wq_hang.specs.Search.{ArePassed}
+use Rattle.wq_hang.proofs.LeastFound.{ArePassed-marked}
 use Rattle.wq_hang.proofs.Taken.{IfOk-weaker, IfSome-match, IfNone-match}
 use Rattle.wq_hang.proofs.EndsFound.{field_of}
 use Rattle.wq_hang.proofs.BestFound.{IsLeastWalkFor-best, no_walk-none}
@@ -27,6 +28,17 @@ invariant_of-field g c = record {
   ways = c.in_ok-search_ways.ensures;
   pending = c.in_ok-pending.ensures;
 }
+
+pub best_end-requires-clause-passed : goal.best_end-requires-clause-passed
+best_end-requires-clause-passed g c =
+    let w = c.args.waits.now in
+    let marks = c.in_ok-marks.marks.items in
+    let passed = c.in_ok-passed.passed.items in
+    let are : ArePassed w passed = ArePassed-marked w c.args.numbers.now marks passed c.in_ok-marks.ensures.marked
+    (λ i below rescuer marked.
+    c.in_ok-passed.ensures.all i below (subst (λ (l : List Bool). slice_index_or l (lane_of w i) false ≡ true)
+    (sym c.as_slice-2.ensures.value) marked)) in
+    subst (ArePassed w) (sym c.as_slice-3.ensures.value) are
 
 pub walk_to-requires : goal.walk_to-requires
 walk_to-requires g c =

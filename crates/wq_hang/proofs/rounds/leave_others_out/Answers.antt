@@ -7,11 +7,13 @@ use Rattle.wq_hang.proofs.rounds.leave_others_out.Goals as goal
 use Rattle.wq_hang.proofs.rounds.leave_others_out.Goals.{then-at-count, else-at-count}
 
 pub loop-q-init : goal.loop-q-init
-loop-q-init g c = AreKept-none c.args.core.now.wiring c.leave_all_out.new.bare.items (c.in_ok-leave_all_out.ensures ∙ ap (λ (n : ℕ). replicate n true) c.lanes-count.ensures.lanes)
+loop-q-init g c =
+    AreKept-none c.args.wires.now c.leave_all_out.new.bare.items
+    (c.in_ok-leave_all_out.ensures ∙ ap (λ (n : ℕ). replicate n true) c.lanes-count.ensures.lanes)
 
 pub loop-q-preserved : goal.loop-q-preserved
 loop-q-preserved g c =
-    let w = c.args.core.now.wiring in
+    let w = c.args.wires.now in
     let lanes = c.args.lanes.now in
     let k : ℕ = c.loop-q.q-index in
     let q : ℕ = get_or lanes k 0 in
@@ -29,7 +31,7 @@ loop-q-preserved g c =
 
 pub returns : goal.returns
 returns g c q below =
-    let w = c.args.core.now.wiring in
+    let w = c.args.wires.now in
     let lanes = c.args.lanes.now in
     let k : ℕ = c.loop-q.q-index in
     let all : (p : ℕ) → Contains lanes p → Contains (take k lanes) p = λ p there. contains_all lanes k p c.loop-q-test.false there in

@@ -7,11 +7,11 @@ use Rattle.std.specs.declared.alloc.Global.{Global}
 use Rattle.wq_meter.specs.Input.{HasFailed, IsInput}
 use Rattle.wq_meter.specs.Meter.{WritesWhole}
 use Rattle.wq_meter.specs.Shell.{Tells, kept}
-use Rattle.wq_commands.specs.Commands.{ChecksText, FindsPlan, JudgesText, one_or_two_texts, one_text}
+use Rattle.wq_commands.specs.Commands.{JudgesText, one_or_two_texts}
 use Rattle.wq_commands.specs.Commands.{two_texts}
 use Rattle.wq_commands.specs.declared.deadlocking.Verdict.{Verdict}
 use Rattle.wq_commands.specs.declared.found.Found.{Found}
-use Rattle.wq_commands.proofs.FoundLemmas.{check-kept, deadlock-kept, plan-kept}
+use Rattle.wq_commands.proofs.FoundLemmas.{deadlock-kept}
 use Rattle.wq_dot.specs.Dotting.{AnswersDot, DrawsTexts}
 use Rattle.wq_dot.specs.Saying.{SaysDot}
 use Rattle.wq_dot.proofs.Found.{dot-kept}
@@ -19,16 +19,15 @@ use Rattle.wq_repair_command.specs.Repairing.{Repairs, RepairsText}
 use Rattle.wq_repair_command.specs.declared.repairing.Repairing.{Repairing}
 use Rattle.wq_repair_command.proofs.Taking.{Repairs-kept}
 use Rattle.wq_changes.specs.Voice.{SaysRepair}
-use Rattle.wq_voice.specs.Voice.{SaysCheck, SaysPlan, SaysVerdictOf}
+use Rattle.wq_voice.specs.Voice.{SaysVerdictOf}
 use Rattle.wqplan.specs.Cause.{EndsReady, IsCaused, MayFail, ReadsBy, TakesInput}
 use Rattle.wqplan.specs.CommandLine.{listed, named_asked, paths, tail_spelled}
 use Rattle.wqplan.specs.Ended.{EndedBy, EndsAsAsked, EndsExplain, Has, has_second}
 use Rattle.wqplan.specs.Files.{HaveTexts}
 use Rattle.wqplan.specs.Told.{IsSaidOf, IsToldAsAsked, names_given, names_of_files}
-use Rattle.wqplan.specs.declared.commands.Verb.TheVariants.{Check, Circles, Deadlock, Dot, Hang, Plan, Repair}
-use Rattle.wqplan.specs.declared.commands.Verb.TheVariants.{Replay}
+use Rattle.wqplan.specs.declared.commands.Verb.TheVariants.{Circles, Deadlock, Dot, Hang, Repair, Replay}
 use Rattle.wqplan.proofs.AskedLemmas.{ended_as, explain_ended, explain_told, few_helpers, first_limit, told_as}
-use Rattle.wqplan.proofs.NamedLemmas.{circles_told, hang_told, replay_told}
+use Rattle.wqplan.proofs.NamedLemmas.{check_told, circles_told, hang_told, plan_told, replay_told}
 use Rattle.wqplan.proofs.RunLemmas.{asked_ended, asked_told}
 use Rattle.wqplan.proofs.performing.carry_out_seeded.Goals as goal
 
@@ -55,11 +54,11 @@ returns-in-Plan-clause-ended g c =
     let I = IsInput (g.I.Read.remaining c.args.input.now.device) in
     let files = paths c.args.request.files in
     let behind = tail_spelled c.args.request.tail in
-    let on = c.carry_out_files in
-    ended_as H I Plan files behind one_text (λ s _ f e o. FindsPlan s f e o)
-    (λ t h. h)
-    (λ t found end out h. plan-kept t end out found h)
-    g.W.Write.contents c.args.writer.now on.new.writer c.args.request.verb c.in-Plan.is on.result on.ensures.ended
+    let on = c.plan in
+    subst
+    (λ v. EndedBy g.W.Write.contents c.args.writer.now on.new.writer
+    (EndsAsAsked H I (record { verb = v; files = files; behind = behind })) on.result) (sym c.in-Plan.is)
+    on.ensures.ended
 
 pub returns-in-Plan-clause-told : goal.returns-in-Plan-clause-told
 returns-in-Plan-clause-told g c =
@@ -67,21 +66,18 @@ returns-in-Plan-clause-told g c =
     let I = IsInput (g.I.Read.remaining c.args.input.now.device) in
     let files = paths c.args.request.files in
     let behind = tail_spelled c.args.request.tail in
-    let on = c.carry_out_files in
-    told_as H I Plan files behind one_text (λ s _ f e o. FindsPlan s f e o)
-    (λ t h. h)
-    (λ t found end out h. plan-kept t end out found h)
-    g.W.Write.contents c.args.writer.now on.new.writer c.args.request.verb c.in-Plan.is on.result Global
-    (λ n s _ f said. SaysPlan n.declaration s f said)
-    (λ t end out said h. h)
-    (names_given c.names_of-names.result) c.names_of-names.ensures g.E.Write.contents c.args.teller.now
-    on.new.teller on.ensures.told
+    let on = c.plan in
+    subst
+    (λ v. IfOk on.result (λ end. IsToldAsAsked Global H I (record { verb = v; files = files; behind = behind }) end
+    (WritesWhole g.W.Write.contents c.args.writer.now on.new.writer)
+    (Tells g.E.Write.contents c.args.teller.now on.new.teller))) (sym c.in-Plan.is)
+    (IfOk-weaker on.result _ _ (λ end. plan_told files behind) on.ensures.told)
 
 pub returns-in-Plan-clause-caused : goal.returns-in-Plan-clause-caused
 returns-in-Plan-clause-caused g c =
     let files = paths c.args.request.files in
     let behind = tail_spelled c.args.request.tail in
-    let on = c.carry_out_files in
+    let on = c.plan in
     let Failed = HasFailed c.args.input.now on.new.input in
     subst
     (λ v. IsCaused (g.O.World.seeds c.args.world.now) (g.O.World.opens c.args.world.now) Failed
@@ -91,7 +87,7 @@ returns-in-Plan-clause-caused g c =
 pub returns-in-Plan-clause-input : goal.returns-in-Plan-clause-input
 returns-in-Plan-clause-input g c =
     let files = paths c.args.request.files in
-    let on = c.carry_out_files in
+    let on = c.plan in
     subst (λ v. ReadsBy g.I.Read.remaining c.args.input.now on.new.input v files) (sym c.in-Plan.is)
     on.ensures.input
 
@@ -101,11 +97,11 @@ returns-in-Check-clause-ended g c =
     let I = IsInput (g.I.Read.remaining c.args.input.now.device) in
     let files = paths c.args.request.files in
     let behind = tail_spelled c.args.request.tail in
-    let on = c.carry_out_files-in-Check in
-    ended_as H I Check files behind two_texts (λ s t f e o. ChecksText s t.second f e o)
-    (λ t h. h)
-    (λ t found end out h. check-kept t end out found h)
-    g.W.Write.contents c.args.writer.now on.new.writer c.args.request.verb c.in-Check.is on.result on.ensures.ended
+    let on = c.check in
+    subst
+    (λ v. EndedBy g.W.Write.contents c.args.writer.now on.new.writer
+    (EndsAsAsked H I (record { verb = v; files = files; behind = behind })) on.result) (sym c.in-Check.is)
+    on.ensures.ended
 
 pub returns-in-Check-clause-told : goal.returns-in-Check-clause-told
 returns-in-Check-clause-told g c =
@@ -113,21 +109,18 @@ returns-in-Check-clause-told g c =
     let I = IsInput (g.I.Read.remaining c.args.input.now.device) in
     let files = paths c.args.request.files in
     let behind = tail_spelled c.args.request.tail in
-    let on = c.carry_out_files-in-Check in
-    told_as H I Check files behind two_texts (λ s t f e o. ChecksText s t.second f e o)
-    (λ t h. h)
-    (λ t found end out h. check-kept t end out found h)
-    g.W.Write.contents c.args.writer.now on.new.writer c.args.request.verb c.in-Check.is on.result Global
-    (λ n s t f said. SaysCheck n.declaration n.second n.run s t f said)
-    (λ t end out said h. h)
-    (names_given c.names_of-names.result) c.names_of-names.ensures g.E.Write.contents c.args.teller.now
-    on.new.teller on.ensures.told
+    let on = c.check in
+    subst
+    (λ v. IfOk on.result (λ end. IsToldAsAsked Global H I (record { verb = v; files = files; behind = behind }) end
+    (WritesWhole g.W.Write.contents c.args.writer.now on.new.writer)
+    (Tells g.E.Write.contents c.args.teller.now on.new.teller))) (sym c.in-Check.is)
+    (IfOk-weaker on.result _ _ (λ end. check_told files behind) on.ensures.told)
 
 pub returns-in-Check-clause-caused : goal.returns-in-Check-clause-caused
 returns-in-Check-clause-caused g c =
     let files = paths c.args.request.files in
     let behind = tail_spelled c.args.request.tail in
-    let on = c.carry_out_files-in-Check in
+    let on = c.check in
     let Failed = HasFailed c.args.input.now on.new.input in
     subst
     (λ v. IsCaused (g.O.World.seeds c.args.world.now) (g.O.World.opens c.args.world.now) Failed
@@ -137,7 +130,7 @@ returns-in-Check-clause-caused g c =
 pub returns-in-Check-clause-input : goal.returns-in-Check-clause-input
 returns-in-Check-clause-input g c =
     let files = paths c.args.request.files in
-    let on = c.carry_out_files-in-Check in
+    let on = c.check in
     subst (λ v. ReadsBy g.I.Read.remaining c.args.input.now on.new.input v files) (sym c.in-Check.is)
     on.ensures.input
 
@@ -147,7 +140,7 @@ returns-in-Deadlock-clause-ended g c =
     let I = IsInput (g.I.Read.remaining c.args.input.now.device) in
     let files = paths c.args.request.files in
     let behind = tail_spelled c.args.request.tail in
-    let on = c.carry_out_files-in-Deadlock in
+    let on = c.carry_out_files in
     ended_as H I Deadlock files behind two_texts (λ s t (f : Found (Verdict Global)) e o. JudgesText s t.second f e o)
     (λ t h. h)
     (λ t found end out h. deadlock-kept t end out found h)
@@ -159,7 +152,7 @@ returns-in-Deadlock-clause-told g c =
     let I = IsInput (g.I.Read.remaining c.args.input.now.device) in
     let files = paths c.args.request.files in
     let behind = tail_spelled c.args.request.tail in
-    let on = c.carry_out_files-in-Deadlock in
+    let on = c.carry_out_files in
     told_as H I Deadlock files behind two_texts (λ s t (f : Found (Verdict Global)) e o. JudgesText s t.second f e o)
     (λ t h. h)
     (λ t found end out h. deadlock-kept t end out found h)
@@ -173,7 +166,7 @@ pub returns-in-Deadlock-clause-caused : goal.returns-in-Deadlock-clause-caused
 returns-in-Deadlock-clause-caused g c =
     let files = paths c.args.request.files in
     let behind = tail_spelled c.args.request.tail in
-    let on = c.carry_out_files-in-Deadlock in
+    let on = c.carry_out_files in
     let Failed = HasFailed c.args.input.now on.new.input in
     subst
     (λ v. IsCaused (g.O.World.seeds c.args.world.now) (g.O.World.opens c.args.world.now) Failed
@@ -183,7 +176,7 @@ returns-in-Deadlock-clause-caused g c =
 pub returns-in-Deadlock-clause-input : goal.returns-in-Deadlock-clause-input
 returns-in-Deadlock-clause-input g c =
     let files = paths c.args.request.files in
-    let on = c.carry_out_files-in-Deadlock in
+    let on = c.carry_out_files in
     subst (λ v. ReadsBy g.I.Read.remaining c.args.input.now on.new.input v files) (sym c.in-Deadlock.is)
     on.ensures.input
 

@@ -1,8 +1,7 @@
 -- Without names, and with some: the command ended on its files, and this was told of it, as of what is asked for.
-use Rattle.std.proofs.Common.{◌≡◌, List, [], ◌∷◌, Option, map, refl, subst, sym, ℕ, ◌∙◌}
+use Rattle.std.proofs.Common.{[], Option, map, refl, sym, ◌∙◌}
 use Rattle.std.specs.Prelude.{IfOk}
 use Rattle.std.specs.declared.alloc.Global.{Global}
-use Rattle.clap.specs.Words.{Text}
 use Rattle.wq_meter.specs.Input.{IsInput}
 use Rattle.wq_meter.specs.Meter.{WritesWhole}
 use Rattle.wq_meter.specs.Shell.{Tells, kept}

@@ -56,7 +56,7 @@ loop-i-preserved g c =
       | else-may_begin_alone v ↦ (
           let none : NoneAlone f best c.new-item.result = NoneAlone-left c.self.inside.on.now f field wiring best
           c.requires.most c.requires.round c.new-item.result c.args.latest.now c.requires.latest
-          (c.may_begin_alone.ensures v.if-may_begin_alone.false) in
+          c.args.least c.requires.least.0 (c.may_begin_alone.ensures v.if-may_begin_alone.false) in
           subst (λ x. All (λ j. j < items f.wiring) (map (λ key. key.1) x.items)
           × ((t : ℕ) → t < i + 1 → Contains (map (λ key. key.1) x.items) t ⊎ NoneAlone f best t)) (sym v.keys-is) (
             so_far.0,

@@ -1,7 +1,6 @@
-use Rattle.std.proofs.Common.{◌≡◌, ℕ, List, length, ap, sym, subst, ◌∙◌}
+use Rattle.std.proofs.Common.{ℕ, List, length, ap, sym, subst, ◌∙◌}
 use Rattle.std.specs.Prelude.{Contains}
-use Rattle.wq_core.specs.Wiring.{Wiring, items}
-use Rattle.wq_hang.specs.Search.{Reach}
+use Rattle.wq_core.specs.Wiring.{items}
 use Rattle.wq_hang.specs.WaysFor.{AreNear, AreLatest}
 use Rattle.wq_hang.specs.EndsFor.{Field}
 use Rattle.wq_hang.specs.Walk.{max_walk_cost}
@@ -11,8 +10,8 @@ use Rattle.wq_hang.proofs.least_for.Field.best_end.Goals as goal
 pub by_cost-requires : goal.by_cost-requires
 by_cost-requires g c = c.self.invariant.ways.reach.one_each
 
-pub look_from_items-requires-clause-near : goal.look_from_items-requires-clause-near
-look_from_items-requires-clause-near g c =
+pub look_from_near-requires-clause-near : goal.look_from_near-requires-clause-near
+look_from_near-requires-clause-near g c =
     let limit = c.to_bare-best.result.cost in
     subst (λ (f : Field). AreNear limit f.ways.costs c.as_slice.result.now) c.self.view_is
     (subst (λ (l : List ℕ). AreNear limit c.self.inside.ways.now.costs l) (sym c.as_slice.ensures.value)
@@ -36,11 +35,11 @@ begin_alone-requires-clause-latest g c =
 pub returns : goal.returns
 returns g c =
     let f = c.args.self.now in
-    let found = c.in_ok-look_from_items.ensures in
+    let found = c.in_ok-least.ensures in
     let alone = c.in_ok-alone.ensures in
     let ends = c.in_ok-look_from_pending.ensures in
     let few = c.in_ok-alone.alone.items in
-    IsBestEnd-all f c.look_from_pending.new.best.end c.to_bare-best.result.cost c.look_from_items.new.best.cost
+    IsBestEnd-all f c.look_from_pending.new.best.end c.to_bare-best.result.cost c.look_from_near.new.best.cost
     c.look_from_pending.new.best.cost few ends.best ends.less found.less c.to_bare-best.ensures.bare found.none
     (λ t there. ends.none t (subst (λ (l : List ℕ). Contains l t) (sym c.as_slice-3.ensures.value) there))
     alone.others

@@ -1,21 +1,21 @@
-use Rattle.std.proofs.Common.{◌≡◌, ◌+◌, ◌-◌, ◌<◌, ◌≤◌, ◌⊎◌, inl, inr, ℕ, List, Some, length, take, get_or, refl, sym}
+use Rattle.std.proofs.Common.{◌≡◌, ◌+◌, ◌-◌, ◌<◌, ◌⊎◌, inl, inr, ℕ, List, Some, length, take, refl, sym}
 use Rattle.std.proofs.Common.{ap, subst, ◌∙◌}
 use Rattle.std.proofs.Common.{arith}
 use Rattle.std.specs.Prelude.{Contains, slice_index}
 use Rattle.std.proofs.lemmas.List.Elements.{Contains-get_or}
-use Rattle.wq_core.specs.Wiring.{HasRescuer, items, lane_of}
+use Rattle.wq_core.specs.Wiring.{items}
 use Rattle.wq_hang.specs.declared.least_for.End.TheVariants as end
 use Rattle.wq_hang.specs.Search.{AreBounds, IsBetter, IsNoBetter}
-use Rattle.wq_hang.specs.EndsFor.{Field, IsBest, NoneFrom}
+use Rattle.wq_hang.specs.EndsFor.{Field, IsBelowRounds, IsBest, NoneFrom}
 use Rattle.wq_hang.proofs.Taken.{contains_more, contains_all}
-use Rattle.wq_hang.proofs.EndsFound.{field_of, EndsRound-better, NoneFrom-better, NoneFrom-no_better, NoneFrom-near}
+use Rattle.wq_hang.proofs.EndsFound.{field_of, EndsRound-better, NoneFrom-better, NoneFrom-no_better, NoneFrom-below}
 use Rattle.wq_hang.proofs.EndsFound.{NoneFrom-next, IsBest-is}
 use Rattle.wq_hang.specs.declared.hop.Hop.{Hop}
 use Rattle.wq_hang.proofs.least_for.Field.look_from.Goals as goal
 use Rattle.wq_hang.proofs.least_for.Field.look_from.Goals.{
-  then-cost-best+in_ok-more+in-Some,
-  then-cost-best+in_ok-more+in_default,
-  else-cost-best,
+  then-cost-least+in_ok-more+in-Some,
+  then-cost-least+in_ok-more+in_default,
+  else-cost-least,
 }
 
 pub loop-i-init : goal.loop-i-init
@@ -85,8 +85,8 @@ loop-i-preserved g c =
       | inl before ↦ inl before
       | inr same ↦ inr (c.new-item.ensures ∙ same)
     ] in
-    elim c.if-cost-best.branch [
-      | then-cost-best+in_ok-more+in-Some v ↦ (
+    elim c.if-cost-least.branch [
+      | then-cost-least+in_ok-more+in-Some v ↦ (
           let hops : List Hop = v.in-Some.hops.items in
           let more : ℕ = v.in-Some.more in
           let better : IsBetter w i limit more hops = rw v.in-Some.is at v.in_ok-more.ensures.some in
@@ -94,7 +94,7 @@ loop-i-preserved g c =
           let now : ℕ = v.becomes.new.self.cost in
           let is_now : now ≡ c.cost-cost.result + more = v.becomes.ensures.cost in
           let at : now ≡ slice_index f.ways.costs i + more = omega (arith, is_now, cost) in
-          let less : now < old.cost = omega (arith, is_now, better.less, v.if-cost-best.true) in
+          let less : now < old.cost = omega (arith, is_now, better.less, v.if-cost-least.true) in
           rw v.best-is (
             IsBest-is f now now (Some (end.Round i v.in-Some.hops)) v.becomes.new.self.end refl v.becomes.ensures.end
                 (record {
@@ -106,7 +106,7 @@ loop-i-preserved g c =
                 (subst (λ (n : ℕ). NoneFrom f n i) (sym at) (NoneFrom-better f i limit more hops better)) either,
           )
           )
-      | then-cost-best+in_ok-more+in_default v ↦ (
+      | then-cost-least+in_ok-more+in_default v ↦ (
           let none : IsNoBetter w i limit = rw v.in_default.is at v.in_ok-more.ensures.none in
           rw v.best-is (
             so_far.0,
@@ -115,12 +115,16 @@ loop-i-preserved g c =
                 (NoneFrom-no_better f old.cost i limit (omega (arith, cost)) none) either,
           )
           )
-      | else-cost-best v ↦ rw v.best-is (
-        so_far.0,
-        so_far.1,
-        NoneFrom-next f (take k few) (take (k + 1) few) old.cost old.cost i (omega arith) so_far.2
-            (NoneFrom-near f old.cost i (omega (arith, cost, v.if-cost-best.false))) either,
-      )
+      | else-cost-least v ↦ (
+          let below : IsBelowRounds w c.args.least =
+          subst (λ (k : Field). IsBelowRounds k.wiring c.args.least) (sym c.self.view_is) c.requires.least.0 in
+          rw v.best-is (
+            so_far.0,
+            so_far.1,
+            NoneFrom-next f (take k few) (take (k + 1) few) old.cost old.cost i (omega arith) so_far.2
+                (NoneFrom-below f old.cost i c.args.least below (omega (arith, cost, v.if-cost-least.false))) either,
+          )
+          )
     ]
 
 pub returns : goal.returns

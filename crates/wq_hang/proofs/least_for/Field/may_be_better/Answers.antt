@@ -1,5 +1,5 @@
-use Rattle.std.proofs.Common.{◌≡◌, ◌+◌, ◌≤◌, inl, inr, ℕ, length, take, sym, ap, ◌∙◌, arith}
-use Rattle.std.specs.Prelude.{Contains, slice_index}
+use Rattle.std.proofs.Common.{inl, inr, length, ap, ◌∙◌, arith}
+use Rattle.std.specs.Prelude.{slice_index}
 use Rattle.wq_hang.specs.EndsFor.{Field}
 use Rattle.wq_hang.proofs.Taken.{contains_more, contains_all}
 use Rattle.wq_hang.proofs.least_for.Field.may_be_better.Goals as goal
@@ -19,7 +19,7 @@ loop-item-preserved g c = λ i there.
       | inl before ↦ c.loop-item.invariant i before
       | inr same ↦ omega (
         arith,
-        c.if-cost-best.false,
+        c.if-cost-least.false,
         c.cost.ensures,
         ap (slice_index c.self.inside.ways.now.costs) (c.new.ensures ∙ same),
       )

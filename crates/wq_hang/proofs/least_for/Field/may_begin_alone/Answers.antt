@@ -1,10 +1,10 @@
-use Rattle.std.proofs.Common.{◌≡◌, ◌+◌, ◌<◌, ◌≤◌, inl, inr, ℕ, List, sym, ap, ◌∙◌, arith}
+use Rattle.std.proofs.Common.{◌≡◌, ◌+◌, ◌≤◌, inl, inr, ℕ, List, sym, ap, ◌∙◌, arith}
 use Rattle.std.specs.Prelude.{slice_index}
 use Rattle.std.proofs.lemmas.Bool.{ltb-false}
 use Rattle.wq_core.specs.Wiring.{items}
 use Rattle.wq_hang.specs.EndsFor.{Field}
 use Rattle.wq_hang.proofs.least_for.Field.may_begin_alone.Goals as goal
-use Rattle.wq_hang.proofs.least_for.Field.may_begin_alone.Goals.{then-cost-best, else-cost-best}
+use Rattle.wq_hang.proofs.least_for.Field.may_begin_alone.Goals.{then-cost-least, else-cost-least}
 
 pub cost-cost-requires : goal.cost-cost-requires
 cost-cost-requires g c =
@@ -29,14 +29,14 @@ returns-else-latest-from g c = λ is.
     let latest : List ℕ = c.args.latest.now in
     let cost : c.cost-cost.result ≡ slice_index f.pending.costs c.args.item =
     c.cost-cost.ensures ∙ ap (λ (k : Field). slice_index k.pending.costs c.args.item) c.self.view_is in
-    elim c.if-cost-best.branch [
-      | then-cost-best v ↦ (
+    elim c.if-cost-least.branch [
+      | then-cost-least v ↦ (
           let few : slice_index latest v.from.result ≤ c.cost-cost.result + 1 =
           ltb-false (c.cost-cost.result + 1) (slice_index latest v.from.result)
           (sym v.value-is ∙ c.if-latest-from.false) in
           inr (inl (omega (arith, few, cost, ap (slice_index latest) (v.from.ensures ∙ v.get.ensures))))
           )
-      | else-cost-best v ↦ inl (omega (arith, v.if-cost-best.false, cost))
+      | else-cost-least v ↦ inl (omega (arith, v.if-cost-least.false, cost))
     ]
 
 pub has_one_before-requires : goal.has_one_before-requires

@@ -1,21 +1,18 @@
-use Rattle.std.proofs.Common.{◌≡◌, Bool, true, false, List, sym, ap, subst, ◌∙◌}
-use Rattle.std.specs.Prelude.{slice_index_or}
-use Rattle.wq_groups.specs.Declaration.{declaration_of}
-use Rattle.wq_core.specs.Wiring.{Wiring, lane_of}
-use Rattle.wq_core.specs.Held.{Machine}
+use Rattle.std.proofs.Common.{◌≡◌, subst, ◌∙◌}
+use Rattle.wq_groups.specs.DeclaredGroups.{declared_waits}
+use Rattle.wq_core.specs.Wiring.{Wiring}
 use Rattle.wq_hang.specs.Search.{AreMade}
 use Rattle.wq_hang.proofs.SomeLanes.{same_bare}
 use Rattle.wq_hang.proofs.rounds.Rounds.new.Goals as goal
 
 pub invariant_of-result : goal.invariant_of-result
 invariant_of-result g c =
-    let core = c.in_ok-core.core.wiring in
-    let of = ap (λ (m : Machine). m.wiring) c.in_ok-core.ensures.machine in
-    let same : c.new-waits.result ≡ core =
-    c.new-waits.ensures
-    ∙ same_bare core (declaration_of c.table.result.now c.groups.result.now) c.workqueues-workqueues.result.now
-    c.bare.result.now
-    of c.bare.ensures in
+    let d = declared_waits c.args.assigned.now.declared in
+    let ws = c.args.assigned.now.workqueues in
+    let wires = c.in_ok-wires.wires in
+    let bare = rw c.workqueues-workqueues.ensures.is at c.bare.ensures in
+    let same : c.new-waits.result ≡ wires =
+    c.new-waits.ensures ∙ same_bare wires d ws c.bare.result.now c.in_ok-wires.ensures bare in
     subst (λ (v : Wiring). AreMade v c.in_ok-on.on c.in_ok-marks.marks.items) same (record {
       items_on = c.in_ok-on.ensures;
       one_each = c.in_ok-marks.ensures.len;

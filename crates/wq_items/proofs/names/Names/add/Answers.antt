@@ -97,11 +97,13 @@ invariant_of-self-2 g c =
     ∙ ap (λ (l : List Name). length l) now_names ∙ length_push names name in
     let before : c.index-before.result.now ≡ slice_index lasts key = c.index-before.ensures
     ∙ get_or_default lasts key c.index-before.result.now 0 inside in
-    let now_befores : c.push-2.new.self.items ≡ befores ++ (slice_index lasts key ∷ []) = c.in_ok-push-2.ensures.items
+    let now_befores : c.push_reserved.new.self.items ≡ befores ++ (slice_index lasts key ∷ []) =
+    c.push_reserved.ensures.items
     ∙ ap (λ (x : ℕ). befores ++ (x ∷ [])) before in
-    subst (λ (l : List Name). AreFound s.hasher l (set lasts key c.len-2.result) c.push-2.new.self.items)
+    subst (λ (l : List Name). AreFound s.hasher l (set lasts key c.len-2.result) c.push_reserved.new.self.items)
     (sym now_names)
-    (subst (λ (n : ℕ). AreFound s.hasher (names ++ (name ∷ [])) (set lasts key n) c.push-2.new.self.items) (sym end)
+    (subst (λ (n : ℕ). AreFound s.hasher (names ++ (name ∷ [])) (set lasts key n) c.push_reserved.new.self.items)
+    (sym end)
     (subst (λ (l : List ℕ). AreFound s.hasher (names ++ (name ∷ [])) (set lasts key (length names + 1)) l)
     (sym now_befores)
     (AreFound-more s.hasher names lasts befores name key room own none its_key inside are)))

@@ -10,8 +10,8 @@ look_up-requires g c =
     subst (λ (l : List Name). AreFound s.hasher l s.places.lasts.items s.places.befores.items)
     (sym c.as_slice.ensures.value) c.self.invariant
 
-pub returns : goal.returns
-returns g c =
+pub returns-then-is_short : goal.returns-then-is_short
+returns-then-is_short g c =
     c.look_up.ensures.place
     ∙ ap (λ (l : List Name). item_named (names_of l) c.args.name.now) c.as_slice.ensures.value
     ∙ ap (λ (ns : List (List ℕ)). item_named ns c.args.name.now) c.self.view_is

@@ -1,0 +1,15 @@
+pub mod SoFar
+pub mod HeightLemmas
+pub mod Descents
+pub mod DoubtLemmas
+pub mod FirstDown
+pub mod BestChain
+pub mod RescuedGraphs
+pub mod PlannedLanes
+pub mod PlanLemmas
+pub mod TopLemmas
+pub mod OrderLemmas
+pub mod StartHangs
+pub mod Outcomes
+pub mod HeightsSoFar
+pub mod MostNeeded

@@ -1,0 +1,11 @@
+pub use Rattle.wq_groups.specs.Declaration
+pub use Rattle.wq_graph.specs.Graph
+pub use Rattle.wq_levels.specs.Walks
+pub use Rattle.wq_deadlock.specs.Judging
+pub use Rattle.wq_fixed.specs.Fixed
+pub mod Heights
+pub mod Down
+pub mod LongestChain
+pub mod Order
+pub mod Planned
+pub mod Around

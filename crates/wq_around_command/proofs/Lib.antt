@@ -1,0 +1,5 @@
+pub mod KeptWorkqueues
+pub mod AskedLemmas
+pub mod PlannedLemmas
+pub mod Taking
+pub mod Promised

@@ -1,0 +1,5 @@
+pub use Rattle.wq_fixed.specs.Fixed
+pub mod Planning
+pub mod Checking
+pub mod Promise
+pub mod Saying
