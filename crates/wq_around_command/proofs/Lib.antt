@@ -3,3 +3,5 @@ pub mod AskedLemmas
 pub mod PlannedLemmas
 pub mod Taking
 pub mod Promised
+pub mod AroundLines
+pub mod PrintedAround
