@@ -5,3 +5,6 @@ pub mod Taking
 pub mod Promised
 pub mod AroundLines
 pub mod PrintedAround
+pub mod FixedTexts
+pub mod GoodPrinted
+pub mod PrintedChecked

@@ -153,7 +153,8 @@ module _ (s : Declared) (sound : IsSound s) (f : Fixed) (fixed : IsFixed s.parti
       joins-down q (arc ∷ arcs) (there, falls, some, down) =
           (joins-start q arc there, joins-down arc.head arcs down)
 
-      few-down : (q : ℕ) (arcs : List WaitArc) → LeadsDown graph (fixed_lanes f) heights q arcs → length arcs ≤ 4096
+      pub few-down : (q : ℕ) (arcs : List WaitArc) → LeadsDown graph (fixed_lanes f) heights q arcs
+          → length arcs ≤ 4095
       few-down q [] down = omega arith
       few-down q (arc ∷ arcs) down =
           let n = length graph in
@@ -189,7 +190,7 @@ module _ (s : Declared) (sound : IsSound s) (f : Fixed) (fixed : IsFixed s.parti
         (λ k e within. absurd (omega (arith, within)))) is
     printable_chain chain ends (inr (heights, are, best)) is =
         let down = best.down.down in
-        printable s chain ends (few-down heights best.down.first chain down)
+        printable s chain ends (omega (arith, few-down heights best.down.first chain down))
         (All-from_recursion (λ (a : WaitArc). JoinsItems s.table (ends_of a)) chain
         (joins-down heights best.down.first chain down)) is
 
