@@ -70,6 +70,10 @@ not_true : (b : Bool) → not b ≡ true → b ≡ false
 not_true true e = absurd cc
 not_true false e = refl
 
+-- in place of an arc that isn't there
+abbrev nothing : WaitArc
+nothing = record { src = 0; dst = 0; head = 0; place = 0 }
+
 -- what comes before an arc that isn't the first
 before_later : (first : Option (ℕ × ℕ)) (arcs : List (ℕ × ℕ)) (k : ℕ)
     → before_from first arcs (suc k) ≡ slice_get arcs k
@@ -161,13 +165,13 @@ module _ (s : Declared) (sound : IsSound s) (f : Fixed) (fixed : IsFixed s.parti
     round_arcs = map ends_of circle
 
     abbrev at : ℕ → WaitArc
-    at k = get_or circle k (record { src = 0; dst = 0; head = 0; place = 0 })
+    at k = get_or circle k nothing
 
     ends_at : (k : ℕ) → k < length circle → slice_get round_arcs k ≡ Some (ends_of (at k))
     ends_at k within =
         slice_get-map ends_of circle k
         ∙ ap (λ (o : Option WaitArc). option_map ends_of o)
-        (slice_get-get_or circle k (record { src = 0; dst = 0; head = 0; place = 0 }) within)
+        (slice_get-get_or circle k nothing within)
 
     joined_round : AllJoinAround d f (before_in_circle round_arcs) round_arcs
     joined_round k arc stands =
@@ -179,11 +183,8 @@ module _ (s : Declared) (sound : IsSound s) (f : Fixed) (fixed : IsFixed s.parti
         round : LeadsRound graph circle
         round = LeadsRound-walked graph circle circled.walked
 
-        none : WaitArc
-        none = record { src = 0; dst = 0; head = 0; place = 0 }
-
         leaves : (k : ℕ) → k < length circle → IsStartArc (slice_index round.left k) (at k)
-        leaves k within = start_arc (slice_index round.left k) (at k) (round.leaves k none within)
+        leaves k within = start_arc (slice_index round.left k) (at k) (round.leaves k nothing within)
 
         -- where the arc at k leads to
         leads_on : (k : ℕ) → k < length circle → (b : ℕ × ℕ) → slice_get round_arcs k ≡ Some b
@@ -199,7 +200,7 @@ module _ (s : Declared) (sound : IsSound s) (f : Fixed) (fixed : IsFixed s.parti
             joins_arc (slice_index round.left 0) (at 0) (leaves 0 within)
             (slice_get round_arcs (length round_arcs - 1))
             (λ b e. leads_on (length circle - 1) inside b (ap (slice_get round_arcs) (sym last) ∙ e)
-            ∙ round.closes none)
+            ∙ round.closes nothing)
         joins (suc k) within =
             let inside : k < length circle = omega (arith, within) in
             let next : k + 1 ≡ suc k = omega arith in
@@ -207,7 +208,7 @@ module _ (s : Declared) (sound : IsSound s) (f : Fixed) (fixed : IsFixed s.parti
             (before_in_circle round_arcs (suc k))
             (λ b e. leads_on k inside b
             (sym (before_later (slice_get round_arcs (length round_arcs - 1)) round_arcs k) ∙ e)
-            ∙ round.joined k none (omega (arith, within)) ∙ ap (slice_index round.left) next)
+            ∙ round.joined k nothing (omega (arith, within)) ∙ ap (slice_index round.left) next)
 
     pub AllJoinAround-circled : AllJoinAround d f (before_in_circle (map ends_of circle)) (map ends_of circle)
     AllJoinAround-circled = joined_round
@@ -435,7 +436,8 @@ module _ (s : Declared) (sound : IsSound s) (f : Fixed) (fixed : IsFixed s.parti
     -- ---- the order
 
     pub below : All (λ q. q < ws.assignment.lanes) order
-    below k e within = (is.order.all (get_or order k e)).0 (Contains-get_or order k e within).0
+    below k e within =
+        let lane = (is.order.all (get_or order k e)).0 (Contains-get_or order k e within) in lane.0
 
     pub short_order : length order ≤ 4096
     short_order =

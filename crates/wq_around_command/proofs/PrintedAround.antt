@@ -306,10 +306,12 @@ module _ (t : Table) (p : Partition) (f : Fixed) (ws : Workqueues) (order : List
     AllByRecursion-append IsPrintableLine wq_lines behind
         (IsPrintableLine-wqs lane t table length-lane (fixed_lanes f) many (omega (arith, few, keeps.lanes))) (
         IsPrintableLine-order order small short_order,
+        (
         IsPrintableLine-count (codes "chain") (chain_length many chain)
             (IsPrintable-keyword (codes "chain") refl (omega arith) (omega arith))
             (omega (arith, chain_length-most many 4095 chain short)),
         IsPrintableLine-arcs t table chain arcs,
+        ),
         ),
   )
 
@@ -400,9 +402,11 @@ module _ (t : Table) (p : Partition) (f : Fixed) (table : IsTable t) where
     printable_flush = (
       IsPrintableLine-count (codes "norescuer") 1
           (IsPrintable-keyword (codes "norescuer") refl (omega arith) (omega arith)) (omega arith),
+      (
       (IsPrintableLine-arcs t table (arc ∷ [])
           (All-from_recursion (IsArcOf (length t.names)) (arc ∷ []) (known, tt))).0,
       IsPrintableLine-run t table steps each few_steps,
+      ),
     )
 
     pub around_of_text-norescuer : around_of_text t.names p f (norescuer_text t.names arc steps)

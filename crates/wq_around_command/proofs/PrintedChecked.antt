@@ -22,11 +22,13 @@ use Rattle.wq_cert.specs.Ranges.{IsStepOf}
 use Rattle.wq_cert.specs.RunText.{run_lines}
 use Rattle.wq_cert.specs.Texts.{cert_refusal, max_certificate}
 use Rattle.wq_cert.proofs.TextLength.{length-circle_text}
+use Rattle.wq_checker.specs.declared.answer.Yes.TheVariants as yes
 use Rattle.wq_checker.specs.Around.{AnswersAround, IsAroundAsked, IsGoodAround}
 use Rattle.wq_checker.proofs.GoodAround.{CircleIsOfAll-answer, NoneIsOfAll-answer, YesIsLeastAround-answer}
 use Rattle.wq_commands.specs.declared.end.End.{End}
 use Rattle.wq_commands.specs.declared.end.End.TheVariants.{Good, Bad, Refused}
 use Rattle.wq_commands.specs.Answer.{AnswersDeclared, PrintsRefusal, ends_of}
+use Rattle.wq_commands.specs.Checking.{yes_words}
 use Rattle.wq_commands.specs.Declaration.{declaration}
 use Rattle.wq_commands.specs.PrintedChecked.{ChecksYesDeclared, ChecksYesOf}
 use Rattle.wq_commands.proofs.AnswerLemmas.{IsDeclaration-sound, IsSound-declaration}
@@ -198,13 +200,13 @@ module _ (declared fixed out : List ℕ) (s : Declared) (f : Fixed) (declares : 
     certificate = OfPlan h.plan;
     read = h.read;
     ended = refl;
-    checked = checks Good _ (inl (none, h.checked));
+    checked = checks Good (line_text (yes_words (yes.Plan h.plan.assignment.lanes))) (inl (none, h.checked));
   }
   plain_checked none Bad h = record {
     certificate = OfCircle h.circle;
     read = h.read;
     ended = refl;
-    checked = checks Good _ (inl (none, h.checked));
+    checked = checks Good (line_text (yes_words (yes.Circle (length h.circle.arcs)))) (inl (none, h.checked));
   }
   plain_checked none Refused h = absurd h
 
