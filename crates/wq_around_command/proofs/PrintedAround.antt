@@ -305,13 +305,13 @@ module _ (t : Table) (p : Partition) (f : Fixed) (ws : Workqueues) (order : List
         (omega (arith, few)),
     AllByRecursion-append IsPrintableLine wq_lines behind
         (IsPrintableLine-wqs lane t table length-lane (fixed_lanes f) many (omega (arith, few, keeps.lanes))) (
-        IsPrintableLine-order order small short_order,
-        (
-        IsPrintableLine-count (codes "chain") (chain_length many chain)
-            (IsPrintable-keyword (codes "chain") refl (omega arith) (omega arith))
-            (omega (arith, chain_length-most many 4095 chain short)),
-        IsPrintableLine-arcs t table chain arcs,
-        ),
+          IsPrintableLine-order order small short_order,
+          (
+            IsPrintableLine-count (codes "chain") (chain_length many chain)
+                (IsPrintable-keyword (codes "chain") refl (omega arith) (omega arith))
+                (omega (arith, chain_length-most many 4095 chain short)),
+            IsPrintableLine-arcs t table chain arcs,
+          ),
         ),
   )
 
@@ -403,9 +403,9 @@ module _ (t : Table) (p : Partition) (f : Fixed) (table : IsTable t) where
       IsPrintableLine-count (codes "norescuer") 1
           (IsPrintable-keyword (codes "norescuer") refl (omega arith) (omega arith)) (omega arith),
       (
-      (IsPrintableLine-arcs t table (arc ∷ [])
-          (All-from_recursion (IsArcOf (length t.names)) (arc ∷ []) (known, tt))).0,
-      IsPrintableLine-run t table steps each few_steps,
+        (IsPrintableLine-arcs t table (arc ∷ [])
+            (All-from_recursion (IsArcOf (length t.names)) (arc ∷ []) (known, tt))).0,
+        IsPrintableLine-run t table steps each few_steps,
       ),
     )
 

@@ -46,10 +46,10 @@ pub fn a_text_around_is_read_back()
         around_of_text t.names p f (around_text t.names (fixed_lanes f) ws.assignment.lanes
         (item_lanes ws.assignment p.group_of) order chain)
         ≡ Ok (OfPlanAround (record {
-            assignment = ws.assignment;
-            order = order;
-            length = if ws.assignment.lanes - fixed_lanes f == 0 then 0 else length chain + 1;
-            arcs = chain;
+          assignment = ws.assignment;
+          order = order;
+          length = if ws.assignment.lanes - fixed_lanes f == 0 then 0 else length chain + 1;
+          arcs = chain;
         })) }
     ensures circle { (t : Table) (p : Partition) (f : Fixed) (arcs : List (ℕ × ℕ)) (steps : Option (List Step)) →
         IsTable t → 0 < length arcs → length arcs ≤ 4096 → All (IsArcOf (length t.names)) arcs →
