@@ -1,6 +1,6 @@
 -- Lines of answers around fixed workqueues, which are read as what they say.
-use Rattle.std.proofs.Common.{◌≡◌, ◌≢◌, ℕ, ◌+◌, ◌-◌, ◌<◌, ◌≤◌, ◌^◌, Bool, false, cond, eqb, leb, ltb, List, [], ◌∷◌, ◌++◌}
-use Rattle.std.proofs.Common.{length, map, Option, Some, Result, Ok, Err, refl, sym, ap, ap₂, ◌∙◌, arith}
+use Rattle.std.proofs.Common.{◌≡◌, ◌≢◌, ℕ, ◌+◌, ◌-◌, ◌<◌, ◌≤◌, ◌^◌, Bool, false, cond, eqb, leb, ltb, List, [], ◌∷◌}
+use Rattle.std.proofs.Common.{◌++◌, length, map, Option, Some, Result, Ok, Err, refl, sym, ap, ap₂, ◌∙◌, arith}
 use Rattle.std.proofs.Common.{append-nil, length-append}
 use Rattle.std.specs.Prelude.{AllPairs, codes, decimal, ok_or, option_map}
 use Rattle.std.specs.List.{All, AllByRecursion, list_any}
@@ -201,37 +201,37 @@ module _ (names : List (List ℕ)) (p : Partition) (f : Fixed) where
   abbrev assigned : List (List ℕ) → List CertLine → Read Assignment
   assigned workqueues rest = and_then (with_rest rest) (whole_assignment p workqueues)
 
-  module _ (one_group_each : length names ≡ length p.group_of) (differ : AllPairs (λ (a b : List ℕ). a ≢ b) names)
-    where
-      pub around_plan_reading-lines : (lines : List CertLine) (c : AroundPlan)
-          → SpellsAround names p f (words_of_lines lines) c → around_plan_reading names p f lines ≡ Ok c
-      around_plan_reading-lines lines c spells =
-          let fixed : List (List ℕ) = fixed_workqueues p f in
-          let all : List (List ℕ) = fixed ++ spells.new in
-          let n : ℕ = length spells.new in
-          let a : Assignment = assignment_of p all in
-          let chain = count_line c.length ∷ map (arc_line names) c.arcs in
-          let many : length all ≡ fixed_lanes f + n =
-          omega (arith, length-append fixed spells.new, length-map-range_with_len (fixed_items p f) 0 (fixed_lanes f)) in
-          let room : n ≤ 4096 - fixed_lanes f = omega (arith, many, spells.are.few) in
-          let count = begun_line (new_count_reading f) (count_words (codes "plan")) (IsNewCount f) (IsReadBy-new f) lines
-          n (lines_from names p.group_of (length fixed) spells.new ++ (order_line c.order ∷ chain)) spells.words room in
-          let workqueues = GrowsTo-lines names p.group_of differ spells.new fixed count.rest (order_line c.order ∷ chain)
-          (AreGrown-workqueues (length names) p.group_of all spells.are) count.behind in
-          let whole : new_assignment names p f n count.rest ≡ Ok (a, workqueues.rest) =
-          and_read-Ok assigned (next_workqueues names p.group_of n fixed count.rest) all workqueues.rest
-          workqueues.is_read
-          ∙ ap (and_then (with_rest workqueues.rest))
-          (whole_assignment-workqueues names p one_group_each all spells.are) in
-          let order = begun_line (order_reading a.lanes) order_line (IsOrderBelow a.lanes)
-          (IsReadBy-order a.lanes spells.are.few) workqueues.rest c.order chain workqueues.behind spells.below in
-          and_read-Ok behind_plan (next_line (new_count_reading f) lines) n count.rest count.is_read
-          ∙ and_read-Ok behind_workqueues (new_assignment names p f n count.rest) a workqueues.rest whole
-          ∙ and_read-Ok (behind_order a) (next_line (order_reading a.lanes) workqueues.rest) c.order order.rest
-          order.is_read
-          ∙ ap (and_then (made a c.order))
-          (chain_reading-lines names differ c.length c.arcs order.rest order.behind spells.few spells.count spells.known)
-          ∙ ap (λ (b : Assignment). made b c.order (c.length, c.arcs)) (sym spells.assignment)
+  module _ (one_group_each : length names ≡ length p.group_of)
+      (differ : AllPairs (λ (a b : List ℕ). a ≢ b) names) where
+    pub around_plan_reading-lines : (lines : List CertLine) (c : AroundPlan)
+        → SpellsAround names p f (words_of_lines lines) c → around_plan_reading names p f lines ≡ Ok c
+    around_plan_reading-lines lines c spells =
+        let fixed : List (List ℕ) = fixed_workqueues p f in
+        let all : List (List ℕ) = fixed ++ spells.new in
+        let n : ℕ = length spells.new in
+        let a : Assignment = assignment_of p all in
+        let chain = count_line c.length ∷ map (arc_line names) c.arcs in
+        let many : length all ≡ fixed_lanes f + n =
+        omega (arith, length-append fixed spells.new, length-map-range_with_len (fixed_items p f) 0 (fixed_lanes f)) in
+        let room : n ≤ 4096 - fixed_lanes f = omega (arith, many, spells.are.few) in
+        let count = begun_line (new_count_reading f) (count_words (codes "plan")) (IsNewCount f) (IsReadBy-new f) lines
+        n (lines_from names p.group_of (length fixed) spells.new ++ (order_line c.order ∷ chain)) spells.words room in
+        let workqueues = GrowsTo-lines names p.group_of differ spells.new fixed count.rest (order_line c.order ∷ chain)
+        (AreGrown-workqueues (length names) p.group_of all spells.are) count.behind in
+        let whole : new_assignment names p f n count.rest ≡ Ok (a, workqueues.rest) =
+        and_read-Ok assigned (next_workqueues names p.group_of n fixed count.rest) all workqueues.rest
+        workqueues.is_read
+        ∙ ap (and_then (with_rest workqueues.rest))
+        (whole_assignment-workqueues names p one_group_each all spells.are) in
+        let order = begun_line (order_reading a.lanes) order_line (IsOrderBelow a.lanes)
+        (IsReadBy-order a.lanes spells.are.few) workqueues.rest c.order chain workqueues.behind spells.below in
+        and_read-Ok behind_plan (next_line (new_count_reading f) lines) n count.rest count.is_read
+        ∙ and_read-Ok behind_workqueues (new_assignment names p f n count.rest) a workqueues.rest whole
+        ∙ and_read-Ok (behind_order a) (next_line (order_reading a.lanes) workqueues.rest) c.order order.rest
+        order.is_read
+        ∙ ap (and_then (made a c.order))
+        (chain_reading-lines names differ c.length c.arcs order.rest order.behind spells.few spells.count spells.known)
+        ∙ ap (λ (b : Assignment). made b c.order (c.length, c.arcs)) (sym spells.assignment)
 
   -- ---- the first word
 

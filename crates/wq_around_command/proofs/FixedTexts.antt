@@ -8,7 +8,8 @@ use Rattle.wq_items.specs.Building.{and_then}
 use Rattle.wq_groups.specs.Partition.{Partition}
 use Rattle.wq_fixed.specs.Fixed.{Fixed, IsFixed}
 use Rattle.wq_cert.specs.declared.fault.CertError.{CertError}
-use Rattle.wq_cert.specs.FixedReading.{part_lanes, fixed_lines_reading, fixed_of_text, fixed_plan_reading, fixed_reading}
+use Rattle.wq_cert.specs.FixedReading.{fixed_lines_reading, fixed_of_text, fixed_plan_reading, fixed_reading}
+use Rattle.wq_cert.specs.FixedReading.{part_lanes}
 use Rattle.wq_cert.specs.Lines.{CertLine, cert_lines}
 use Rattle.wq_cert.specs.Reading.{and_read, next_line, at_end, count_reading, next_workqueues, all_workqueues}
 use Rattle.wq_cert.specs.Reading.{as_wq, begins_plan, chain_reading, is_bare_line}

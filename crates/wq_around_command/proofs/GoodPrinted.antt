@@ -304,7 +304,8 @@ module _ (s : Declared) (sound : IsSound s) (f : Fixed) (fixed : IsFixed s.parti
         joined_chain : (chain : List WaitArc) → IsChainOf d f many chain
             → AllJoinAround d f (before_in_chain (map ends_of chain)) (map ends_of chain)
         joined_chain chain (inl (none, empty)) =
-            subst (λ (l : List WaitArc). AllJoinAround d f (before_in_chain (map ends_of l)) (map ends_of l)) (sym empty)
+            subst (λ (l : List WaitArc). AllJoinAround d f (before_in_chain (map ends_of l)) (map ends_of l))
+            (sym empty)
             (λ k arc stands. absurd (omega (arith, slice_get_within [] k arc stands)))
         joined_chain chain (inr (heights, are, best)) =
             joined_down heights best.down.first chain best.down.down None (λ b e. absurd (not_none b e))

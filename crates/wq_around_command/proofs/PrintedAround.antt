@@ -1,7 +1,7 @@
 -- Texts of answers around fixed workqueues as they are printed, read back.
-use Rattle.std.proofs.Common.{◌≡◌, ◌≢◌, ℕ, zero, suc, ◌+◌, ◌-◌, ◌*◌, ◌<◌, ◌≤◌, ◌^◌, ◌==◌, inl, inr, Bool, true, false, cond}
-use Rattle.std.proofs.Common.{eqb, List, [], ◌∷◌, ◌++◌, length, map, get_or, Option, Some, None, IfSome, Ok, refl, sym, ap}
-use Rattle.std.proofs.Common.{ap₂, subst, ◌∙◌, arith, length-append}
+use Rattle.std.proofs.Common.{◌≡◌, ◌≢◌, ℕ, zero, suc, ◌+◌, ◌-◌, ◌*◌, ◌<◌, ◌≤◌, ◌^◌, ◌==◌, inl, inr, Bool, true}
+use Rattle.std.proofs.Common.{false, cond, eqb, List, [], ◌∷◌, ◌++◌, length, map, get_or, Option, Some, None, IfSome}
+use Rattle.std.proofs.Common.{Ok, refl, sym, ap, ap₂, subst, ◌∙◌, arith, length-append}
 use Rattle.std.specs.Prelude.{AllPairs, codes, decimal, filter, flat_map, slice_get, slice_index}
 use Rattle.std.specs.List.{All, AllByRecursion, concat, enumerate_from, range_with_len}
 use Rattle.std.proofs.lemmas.Bool.{cases_lt, eqb-true, ne_eqb}
@@ -121,7 +121,8 @@ length-lines : (lines : List (List (List ℕ))) → AllByRecursion IsPrintableLi
     → length (flat_map line_text lines) ≤ 64 * words_in lines + length lines
 length-lines [] printable = omega arith
 length-lines (words ∷ lines) printable =
-    let rest : length (flat_map line_text lines) ≤ 64 * words_in lines + length lines = length-lines lines printable.1 in
+    let rest : length (flat_map line_text lines) ≤ 64 * words_in lines + length lines =
+    length-lines lines printable.1 in
     let first : length (line_text words) ≤ 64 * length words + 1 = length-words words printable.0.each in
     omega (arith, rest, first, length-append (line_text words) (flat_map line_text lines))
 

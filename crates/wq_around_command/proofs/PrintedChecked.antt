@@ -1,6 +1,6 @@
 -- What `plan` prints around fixed workqueues is answered with yes.
-use Rattle.std.proofs.Common.{◌≡◌, ℕ, ◌<◌, ◌≤◌, ◌⊎◌, inl, inr, List, [], ◌∷◌, ◌++◌, length, map, Some, Result, Ok, Err, refl}
-use Rattle.std.proofs.Common.{ap, subst, ◌∙◌, arith, length-append}
+use Rattle.std.proofs.Common.{◌≡◌, ℕ, ◌<◌, ◌≤◌, ◌⊎◌, inl, inr, List, [], ◌∷◌, ◌++◌, length, map, Some, Result, Ok}
+use Rattle.std.proofs.Common.{Err, refl, ap, subst, ◌∙◌, arith, length-append}
 use Rattle.std.specs.Prelude.{MatchResult, flat_map}
 use Rattle.std.specs.List.{All}
 use Rattle.std.proofs.lemmas.Fmt.{length-decimal-le}
@@ -44,8 +44,8 @@ use Rattle.wq_around_command.specs.PrintedChecked.{ChecksYesAround, ChecksYesFix
 use Rattle.wq_around_command.specs.PrintedChecked.{yes_to_around}
 use Rattle.wq_around_command.proofs.AskedLemmas.{IsAroundAsked-read}
 use Rattle.wq_around_command.proofs.FixedTexts.{IsFixed-read}
-use Rattle.wq_around_command.proofs.GoodPrinted.{AllJoinAround-circled, IsGoodPlanAround-planned, LeadsToNone-held, below}
-use Rattle.wq_around_command.proofs.GoodPrinted.{few_lanes, known_arcs, none_new, plan, short_chain, short_order}
+use Rattle.wq_around_command.proofs.GoodPrinted.{AllJoinAround-circled, IsGoodPlanAround-planned, LeadsToNone-held}
+use Rattle.wq_around_command.proofs.GoodPrinted.{below, few_lanes, known_arcs, none_new, plan, short_chain, short_order}
 use Rattle.wq_around_command.proofs.GoodPrinted.{some_arcs}
 use Rattle.wq_around_command.proofs.PlannedLemmas.{ArePrintable-circled, assigned-start, joins-held}
 use Rattle.wq_around_command.proofs.PrintedAround.{around_of_text-circle, around_of_text-norescuer, around_of_text-plan}
@@ -182,8 +182,8 @@ module _ (declared fixed out : List ℕ) (s : Declared) (f : Fixed) (declares : 
         ) in
         let read : around_of_text s.table.names s.partition f out ≡ Ok certificate =
         ap (around_of_text s.table.names s.partition f) h.text
-        ∙ around_of_text-norescuer s.table s.partition f sound.table arc h.steps (joins-held s sound f kept h.arc h.held)
-        known short in
+        ∙ around_of_text-norescuer s.table s.partition f sound.table arc h.steps
+        (joins-held s sound f kept h.arc h.held) known short in
         checks_yes Bad certificate read refl (LeadsToNone-held s sound f kept h.arc h.held, h.hang.deadlocks)
 
     fixed_checked : (end : End) → PrintsFixed s f end out → ChecksYesFixed declared fixed s f end out

@@ -61,8 +61,8 @@ pub record ChecksYesPlain (declared fixed : List ℕ) (s : Declared) (end : End)
 
 -- ---- any texts
 
--- `check` answers yes to what is printed for these texts of a declaration and of fixed workqueues, unless one of them is
--- refused
+-- `check` answers yes to what is printed for these texts of a declaration and of fixed workqueues, unless one of them
+-- is refused
 abbrev pub ChecksYesAround : List ℕ → List ℕ → List ℕ → End → Type 0
 ChecksYesAround declared fixed out end =
     MatchResult (declaration declared)
