@@ -22,7 +22,7 @@ use Rattle.wq_cert.specs.AroundReading.{norescuer_reading, numbers_of, order_for
 use Rattle.wq_cert.specs.AroundText.{norescuer_line, order_line}
 use Rattle.wq_cert.specs.Certificate.{CircleCertificate}
 use Rattle.wq_cert.specs.CircleText.{circle_line}
-use Rattle.wq_cert.specs.Forms.{begins_with, number_of}
+use Rattle.wq_cert.specs.Forms.{begins_with}
 use Rattle.wq_cert.specs.LineRows.{count_words}
 use Rattle.wq_cert.specs.Lines.{CertLine}
 use Rattle.wq_cert.specs.PlanText.{arc_line, plan_line}

@@ -6,7 +6,7 @@ use Rattle.std.specs.Prelude.{Contains, nat_le, option_map, slice_get, slice_ind
 use Rattle.std.specs.List.{All, position_or_len}
 use Rattle.std.proofs.lemmas.Bool.{and_parts, both_ways, cases_Bool, cases_eq, cases_lt, eq-eqb, eqb-true, false≢true}
 use Rattle.std.proofs.lemmas.Bool.{le-leb, lt-ltb, ne_eqb}
-use Rattle.std.proofs.lemmas.List.{get_or_default, length-map}
+use Rattle.std.proofs.lemmas.List.{length-map}
 use Rattle.std.proofs.lemmas.List.Elements.{All-contains, Contains-get_or}
 use Rattle.std.proofs.lemmas.List.FromFn.{length-map-range_with_len}
 use Rattle.std.proofs.lemmas.List.Sums.{fails_before_first, passes_at_first, sum_by-cons}
@@ -51,7 +51,7 @@ use Rattle.wq_checker.proofs.LaneChains.{IsChain-joined, lanes-within}
 use Rattle.wq_around.specs.Around.{IsChainOf, IsCircledAround, IsHeldByNone, IsPlannedAround, new_lanes}
 use Rattle.wq_around.specs.Down.{LeadsDown}
 use Rattle.wq_around.specs.Heights.{start_graph}
-use Rattle.wq_around.specs.Order.{ComesBefore, IsOrder}
+use Rattle.wq_around.specs.Order.{ComesBefore}
 use Rattle.wq_around.proofs.Descents.{down-above}
 use Rattle.wq_commands.specs.Answer.{ends_of}
 use Rattle.wq_commands.proofs.AnswerLemmas.{IsDeclaration-sound}
