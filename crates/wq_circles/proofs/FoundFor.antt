@@ -42,9 +42,11 @@ pub CirclesTextFor-declared : {A : Type 0} (s : Declared) (names : List (List �
     → CirclesTextFor s names text found end out → CirclesDeclaredFor s names text end out
 CirclesTextFor-declared {A} s names text found end out =
     AnswersIn-match SecondText (workqueues_of_text s.table.names s.partition text)
-    (λ ws (f : Found (Option (CirclingFor A))). FindsNamed (items_with_names s.table.names names) (FindsCirclesFor s ws) f)
+    (λ ws (f : Found (Option (CirclingFor A))). FindsNamed (items_with_names s.table.names names) (FindsCirclesFor s ws)
+    f)
     (λ ws. IfNamed (items_with_names s.table.names names) (CirclesFor s ws)) found end out
-    (λ ws. FindsNamed-answer (items_with_names s.table.names names) (FindsCirclesFor s ws) (CirclesFor s ws) found end out
+    (λ ws. FindsNamed-answer (items_with_names s.table.names names) (FindsCirclesFor s ws) (CirclesFor s ws) found end
+    out
     (λ items. FindsCirclesFor-answer s ws items found end out))
 
 -- what is past a limit changes no answer
@@ -54,7 +56,8 @@ pub circles_for-kept : {A : Type 0} (names : List (List ℕ)) (texts : Given)
     (kept two_texts texts) found end out
     → CirclesNamed names texts.first texts.second end out
 circles_for-kept {A} names texts found end out h =
-    assigned-kept end out (λ _ _ s ws. IfNamed (items_with_names s.table.names names) (CirclesFor s ws) end out) texts.first
+    assigned-kept end out (λ _ _ s ws. IfNamed (items_with_names s.table.names names) (CirclesFor s ws) end out)
+    texts.first
     texts.second
     (AnswersTexts-match (λ s t (f : Found (Option (CirclingFor A))) e o. CirclesTextFor s names t.second f e o)
     (λ s. CirclesDeclaredFor s names (kept two_texts texts).second) (kept two_texts texts) found end out

@@ -109,7 +109,8 @@ pub record KeepsHeldFlushes (s : Declared) (ws : Workqueues) (named : List ℕ) 
 abbrev pub KeepsHeldDeclared : Declared → List (List ℕ) → List ℕ → End → List ℕ → Type 0
 KeepsHeldDeclared s names text end out =
     MatchResult (workqueues_of_text s.table.names s.partition text)
-    (λ ws. MatchOption (items_with_names s.table.names names) (end ≡ Refused) (λ named. KeepsHeldFlushes s ws named end out))
+    (λ ws. MatchOption (items_with_names s.table.names names) (end ≡ Refused)
+    (λ named. KeepsHeldFlushes s ws named end out))
     (λ fault. end ≡ Refused)
 
 -- the same for the texts of a declaration and an assignment

@@ -1,5 +1,42 @@
 -- The items with some names, each once.
-use Rattle.std.proofs.Common.{◌≡◌, ℕ, zero, suc, ◌+◌, ◌<◌, ◌≤◌, ◌==◌, inl, inr, Bool, true, false, ◌||◌, cond, List, [], ◌∷◌, ◌++◌, length, get_or, set, take, map, Option, Some, None, refl, sym, ap, ap₂, subst, subst₂, ◌∙◌, arith, append-nil}
+use Rattle.std.proofs.Common.{
+  ◌≡◌,
+  ℕ,
+  zero,
+  suc,
+  ◌+◌,
+  ◌<◌,
+  ◌≤◌,
+  ◌==◌,
+  inl,
+  inr,
+  Bool,
+  true,
+  false,
+  ◌||◌,
+  cond,
+  List,
+  [],
+  ◌∷◌,
+  ◌++◌,
+  length,
+  get_or,
+  set,
+  take,
+  map,
+  Option,
+  Some,
+  None,
+  refl,
+  sym,
+  ap,
+  ap₂,
+  subst,
+  subst₂,
+  ◌∙◌,
+  arith,
+  append-nil,
+}
 use Rattle.std.specs.Prelude.{Contains, option_map, replicate, filter}
 use Rattle.std.specs.List.{All, list_any, range_with_len}
 use Rattle.std.proofs.Math.Bool.{or-false}
@@ -31,10 +68,12 @@ marks-set n items x within =
       | inl same ↦
           ap (λ i. get_or (set (marks n items) x true) i true) same
           ∙ get_or-set_same (marks n items) x true true (omega (arith, within, length-marks n items))
-          ∙ sym (any_push (λ j. k == j) items x ∙ ap (λ b. stands_in items k || b) (eq-eqb k x same) ∙ or_true (stands_in items k))
+          ∙ sym (any_push (λ j. k == j) items x ∙ ap (λ b. stands_in items k || b) (eq-eqb k x same)
+          ∙ or_true (stands_in items k))
       | inr other ↦
           get_or-set_other (marks n items) x k true true other ∙ get_or-marks n items k true lt
-          ∙ sym (any_push (λ j. k == j) items x ∙ ap (λ b. stands_in items k || b) (ne_eqb k x other) ∙ or-false (stands_in items k))
+          ∙ sym (any_push (λ j. k == j) items x ∙ ap (λ b. stands_in items k || b) (ne_eqb k x other)
+          ∙ or-false (stands_in items k))
     ]
 
 -- one more of these items is marked
@@ -48,7 +87,8 @@ pub marks-all : (n : ℕ) (items : List ℕ) (k : ℕ) (stood : List Bool) → s
     → stood ≡ marks n items
 marks-all n items k stood is all = is ∙ ap (marks n) (take_all k items all)
 
-pub item_within : (items : List ℕ) (k x n : ℕ) → All (λ i. i < n) items → k < length items → x ≡ get_or items k x → x < n
+pub item_within : (items : List ℕ) (k x n : ℕ) → All (λ i. i < n) items → k < length items → x ≡ get_or items k x
+    → x < n
 item_within items k x n all within at = omega (arith, at, all k x within)
 
 marks-from : (n a : ℕ) → map (stands_in []) (range_with_len a n) ≡ replicate n false
@@ -63,10 +103,12 @@ marks-none n stood is = is ∙ sym (marks-from n 0)
 grown : (items : List ℕ) (i : ℕ) → filter (stands_in items) (range_with_len 0 (i + 1))
     ≡ filter (stands_in items) (range_with_len 0 i) ++ cond (stands_in items i) (i ∷ []) []
 grown items i =
-    ap (filter (stands_in items)) (range_with_len-push i) ∙ filter-append (stands_in items) (range_with_len 0 i) (i ∷ [])
+    ap (filter (stands_in items)) (range_with_len-push i)
+    ∙ filter-append (stands_in items) (range_with_len 0 i) (i ∷ [])
 
 pub each_once-push : (items list new : List ℕ) (i x : ℕ) → list ≡ filter (stands_in items) (range_with_len 0 i)
-    → stands_in items i ≡ true → new ≡ list ++ (x ∷ []) → x ≡ i → new ≡ filter (stands_in items) (range_with_len 0 (i + 1))
+    → stands_in items i ≡ true → new ≡ list ++ (x ∷ []) → x ≡ i
+    → new ≡ filter (stands_in items) (range_with_len 0 (i + 1))
 each_once-push items list new i x is stands pushed same =
     pushed ∙ ap₂ (λ (front : List ℕ) (y : ℕ). front ++ (y ∷ [])) is same
     ∙ sym (grown items i ∙ ap (λ b. filter (stands_in items) (range_with_len 0 i) ++ cond b (i ∷ []) []) stands)
@@ -99,7 +141,8 @@ below_found : (names words : List (List ℕ)) (named : List ℕ) (found : Option
 below_found names words named None e = absurd cc
 below_found names words named (Some items) e =
     subst (All (λ i. i < length names)) (some_is (filter (stands_in items) (range_with_len 0 (length names))) named e)
-    (All-filter (stands_in items) (λ i. i < length names) (range_with_len 0 (length names)) (range_with_len-below (length names)))
+    (All-filter (stands_in items) (λ i. i < length names) (range_with_len 0 (length names))
+    (range_with_len-below (length names)))
 
 pub items_with_names-below : (names words : List (List ℕ)) (named : List ℕ) → items_with_names names words ≡ Some named
     → All (λ i. i < length names) named
@@ -136,15 +179,19 @@ AreWith-both : (names : List (List ℕ)) (word : List ℕ) (words : List (List �
 AreWith-both names word words items rest None q own others e = absurd cc
 AreWith-both names word words items rest (Some i) None own others e = absurd cc
 AreWith-both names word words items rest (Some i) (Some is) own others e =
-    subst (AreWith names (word ∷ words)) (some_is (i ∷ is) items e) (AreWith-more names word words i is own (rest is others))
+    subst (AreWith names (word ∷ words)) (some_is (i ∷ is) items e)
+    (AreWith-more names word words i is own (rest is others))
 
-AreWith-items_of : (names words : List (List ℕ)) (items : List ℕ) → items_of names words ≡ Some items → AreWith names words items
+AreWith-items_of : (names words : List (List ℕ)) (items : List ℕ) → items_of names words ≡ Some items
+    → AreWith names words items
 AreWith-items_of names [] items is = record {
   each = λ word there. absurd (Contains-nil word there);
-  no_other = λ i there. absurd (Contains-nil i (subst (λ (l : List ℕ). Contains l i) (sym (some_is [] items is)) there));
+  no_other = λ i there. absurd (Contains-nil i (subst (λ (l : List ℕ). Contains l i) (sym (some_is [] items is))
+      there));
 }
 AreWith-items_of names (word ∷ words) items is =
-    AreWith-both names word words items (AreWith-items_of names words) (item_named names word) (items_of names words) refl refl is
+    AreWith-both names word words items (AreWith-items_of names words) (item_named names word) (items_of names words)
+    refl refl is
 
 -- one of these names is that of no item
 abbrev pub HasUnknown : List (List ℕ) → List (List ℕ) → Type 0
@@ -163,7 +210,8 @@ HasUnknown-both names word words rest (Some i) (Some is) own others e = absurd c
 HasUnknown-items_of : (names words : List (List ℕ)) → items_of names words ≡ None → HasUnknown names words
 HasUnknown-items_of names [] is = absurd cc
 HasUnknown-items_of names (word ∷ words) is =
-    HasUnknown-both names word words (HasUnknown-items_of names words) (item_named names word) (items_of names words) refl refl is
+    HasUnknown-both names word words (HasUnknown-items_of names words) (item_named names word) (items_of names words)
+    refl refl is
 
 some_item : (i j : ℕ) → Some i ≡ Some j → i ≡ j
 some_item i j e = cc
@@ -223,6 +271,7 @@ items_with_names-same names words others to from =
   where
     once_each : List ℕ → List ℕ
     once_each is = filter (stands_in is) (range_with_len 0 (length names))
+
     by_both : (own other : Option (List ℕ)) → items_of names words ≡ own → items_of names others ≡ other
         → items_with_names names words ≡ items_with_names names others
     by_both None None own other = ap (option_map once_each) (own ∙ sym other)
@@ -241,6 +290,7 @@ items_with_names-same names words others to from =
         λ i. both_true (stands_in is i) (stands_in js i) (stands_alike names words others is js to these those i)
         (stands_alike names others words js is from those these i) in
         ap (option_map once_each) own
-        ∙ ap (λ (l : List ℕ). Some l) (filter-alike (stands_in is) (stands_in js) (range_with_len 0 (length names)) alike)
+        ∙ ap (λ (l : List ℕ). Some l) (filter-alike (stands_in is) (stands_in js) (range_with_len 0 (length names))
+        alike)
         ∙ sym (ap (option_map once_each) other)
         )

@@ -61,7 +61,8 @@ pub hold-kept : {A : Type 0} (names : List (List ℕ)) (texts : Given)
     → Holds names texts.first texts.second end out
 hold-kept {A} names texts found end out h =
     let text = take (max_certificate + 1) texts.second in
-    assigned-kept end out (λ _ _ s ws. IfNamed (items_with_names s.table.names names) (HoldsAssigned s ws) end out) texts.first
+    assigned-kept end out (λ _ _ s ws. IfNamed (items_with_names s.table.names names) (HoldsAssigned s ws) end out)
+    texts.first
     texts.second
     (AnswersTexts-match (λ s t (f : Found (Option (Holding A))) e o. HoldsText s names t.second f e o)
     (λ s. HoldsDeclared s names text) (kept two_texts texts) found end out
@@ -80,13 +81,15 @@ pub HoldsText-read : {A : Type 0} (s : Declared) (names : List (List ℕ)) (text
 HoldsText-read {A} s names text h end out found =
     let (ws, read, of_names) = AnswersIn-read SecondText (workqueues_of_text s.table.names s.partition text)
     (λ ws. FindsNamed (items_with_names s.table.names names) (FindsHold s ws)) (Some h) end out found in
-    let (named, are, finds) = FindsNamed-some (items_with_names s.table.names names) (FindsHold s ws) h end out of_names in
+    let (named, are, finds) = FindsNamed-some (items_with_names s.table.names names) (FindsHold s ws) h end out
+    of_names in
     let same : finds.holding ≡ h = (let is = finds.is in cc) in
     let workqueues : h.workqueues ≡ ws = ap (λ (x : Holding A). x.workqueues) (sym same) ∙ finds.workqueues in
     let items : h.named.items ≡ named = ap (λ (x : Holding A). x.named.items) (sym same) ∙ finds.named_items in
     record {
       read = read ∙ ap (λ (w : Workqueues). Ok w) (sym workqueues);
-      within = subst (All (λ i. i < length s.table.names)) (sym items) (items_with_names-below s.table.names names named are);
+      within = subst (All (λ i. i < length s.table.names)) (sym items)
+          (items_with_names-below s.table.names names named are);
       answer = subst (λ (w : Workqueues). IsAnswerFor (declared_waits s) w h.named.items h.answer) (sym workqueues)
           (subst (λ (l : List ℕ). IsAnswerFor (declared_waits s) ws l h.answer) (sym items)
           (subst (λ (x : Holding A). IsAnswerFor (declared_waits s) ws named x.answer) same finds.answer));

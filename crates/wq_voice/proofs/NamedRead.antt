@@ -46,7 +46,8 @@ ReplaysTextsFor-read {A} s names lanes text r end out replayed =
     (λ ws. ReplaysOnFor s ws names text) (Some r) end out replayed in
     let (run, made_from, of_names) = AnswersIn-read Run (made_of s.table.names s.table.waits text)
     (λ run. FindsNamed (items_with_names s.table.names names) (FindsEndFor s ws run.0 run.1)) (Some r) end out on in
-    let (named, are, finds) = FindsNamed-some (items_with_names s.table.names names) (FindsEndFor s ws run.0 run.1) r end out
+    let (named, are, finds) = FindsNamed-some (items_with_names s.table.names names) (FindsEndFor s ws run.0 run.1) r
+    end out
     of_names in
     let same : finds.replayed ≡ r = (let is = finds.is in cc) in
     let workqueues : r.replayed.workqueues ≡ ws =
@@ -58,7 +59,8 @@ ReplaysTextsFor-read {A} s names lanes text r end out replayed =
     ap (λ (x : ReplayedFor A). x.replayed.steps.items) (sym same) ∙ finds.made in
     record {
       read = read ∙ ap (λ (w : Workqueues). Ok w) (sym workqueues);
-      within = subst (All (λ i. i < length s.table.names)) (sym items) (items_with_names-below s.table.names names named are);
+      within = subst (All (λ i. i < length s.table.names)) (sym items)
+          (items_with_names-below s.table.names names named are);
       made = ok_pair (made_of s.table.names s.table.waits text) run
           (option_map (λ places. places.items) r.replayed.kept) r.replayed.steps.items made_from kept made;
     }
@@ -81,5 +83,6 @@ CirclesTextFor-read {A} s names text c end out found =
     let items : c.named.items ≡ named = ap (λ (x : CirclingFor A). x.named.items) (sym same) ∙ finds.named_items in
     record {
       read = read ∙ ap (λ (w : Workqueues). Ok w) (sym workqueues);
-      within = subst (All (λ i. i < length s.table.names)) (sym items) (items_with_names-below s.table.names names named are);
+      within = subst (All (λ i. i < length s.table.names)) (sym items)
+          (items_with_names-below s.table.names names named are);
     }
