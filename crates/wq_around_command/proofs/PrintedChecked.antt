@@ -1,10 +1,10 @@
 -- What `plan` prints around fixed workqueues is answered with yes.
-use Rattle.std.proofs.Common.{◌≡◌, ℕ, ◌<◌, ◌≤◌, ◌⊎◌, inl, inr, List, [], ◌∷◌, ◌++◌, length, map, Some, Result, Ok}
+use Rattle.std.proofs.Common.{◌≡◌, ℕ, ◌+◌, ◌<◌, ◌≤◌, ◌⊎◌, inl, inr, List, [], ◌∷◌, ◌++◌, length, map, Some, Result, Ok}
 use Rattle.std.proofs.Common.{Err, refl, ap, subst, ◌∙◌, arith, length-append}
-use Rattle.std.specs.Prelude.{MatchResult, flat_map}
+use Rattle.std.specs.Prelude.{MatchResult, codes, decimal, flat_map}
 use Rattle.std.specs.List.{All}
 use Rattle.std.proofs.lemmas.Fmt.{length-decimal-le}
-use Rattle.wq_text.specs.LineText.{line_text}
+use Rattle.wq_text.specs.LineText.{line_text, spaced}
 use Rattle.wq_text.specs.Refusal.{Refusal}
 use Rattle.wq_groups.specs.Declaration.{Declaration, IsDeclaration}
 use Rattle.wq_groups.specs.DeclaredGroups.{declared_waits, Declared, IsSound}
@@ -17,7 +17,7 @@ use Rattle.wq_cert.specs.AroundText.{norescuer_line, norescuer_text}
 use Rattle.wq_cert.specs.Certificate.{OfCircle, OfPlan}
 use Rattle.wq_cert.specs.CircleText.{circle_line, circle_text}
 use Rattle.wq_cert.specs.FixedReading.{fixed_of_text}
-use Rattle.wq_cert.specs.PlanText.{arc_line}
+use Rattle.wq_cert.specs.PlanText.{arc_line, name_of}
 use Rattle.wq_cert.specs.Ranges.{IsStepOf}
 use Rattle.wq_cert.specs.RunText.{run_lines}
 use Rattle.wq_cert.specs.Texts.{cert_refusal, max_certificate}
@@ -57,22 +57,59 @@ good_answered d f (OfPlanAround c) good = (good, refl)
 good_answered d f (OfCircleAround c) good = (good.0, good.1, refl)
 good_answered d f (OfNoRescuer c) good = good
 
--- the text of a circle of two such arcs is longer than that of a flush to no rescuer
+-- ---- how long the text of a flush to no rescuer is
+
+length-two_words : (word number : List ℕ) → length (line_text (word ∷ number ∷ [])) ≡ length word + length number + 2
+length-two_words word number =
+    omega (
+      arith,
+      length-append word (flat_map spaced (number ∷ []) ++ (10 ∷ [])),
+      length-append (flat_map spaced (number ∷ [])) (10 ∷ []),
+      length-append number [],
+    )
+
+length-first_word : (word : List ℕ) (words : List (List ℕ)) → length word + 1 ≤ length (line_text (word ∷ words))
+length-first_word word words =
+    omega (
+      arith,
+      length-append word (flat_map spaced words ++ (10 ∷ [])),
+      length-append (flat_map spaced words) (10 ∷ []),
+    )
+
+shorter_by : (first other flush run : List ℕ) → length first ≤ length other + length flush
+    → length (first ++ (flush ++ run)) ≤ length (other ++ (flush ++ (flush ++ run)))
+shorter_by first other flush run few =
+    omega (
+      arith,
+      few,
+      length-append first (flush ++ run),
+      length-append flush run,
+      length-append other (flush ++ (flush ++ run)),
+      length-append flush (flush ++ run),
+    )
+
+-- the text of a circle of two such arcs is longer
 shorter : (names : List (List ℕ)) (arc : ℕ × ℕ) (steps : List Step)
     → length (norescuer_text names arc steps) ≤ length (circle_text names (arc ∷ arc ∷ []) (Some steps))
 shorter names arc steps =
-    let behind : List (List (List ℕ)) = run_lines names steps in
-    let run : List ℕ = flat_map line_text behind in
-    let flush : List ℕ = line_text (arc_line names arc) in
-    let circle : List (List ℕ) = circle_line (arc ∷ arc ∷ []) in
-    omega (
-      arith,
-      length-append (line_text norescuer_line) (flush ++ run),
-      length-append flush run,
-      length-append (line_text circle) (flush ++ (flush ++ run)),
-      length-append flush (flush ++ run),
-      length-decimal-le 1 1 (omega arith) (omega arith) (omega arith),
-    )
+    let name : List ℕ = name_of names arc.0 in
+    let target : List ℕ = name_of names arc.1 in
+    let first : length (line_text norescuer_line) ≤ 12 = norescuer (decimal 1)
+    (length-decimal-le 1 1 (omega arith) (omega arith) (omega arith)) in
+    let other : 8 ≤ length (line_text (circle_line (arc ∷ arc ∷ []))) = circle (decimal 2) in
+    let flush : 4 ≤ length (line_text (arc_line names arc)) =
+    length-first_word (codes "arc") (name ∷ target ∷ []) in
+    shorter_by (line_text norescuer_line) (line_text (circle_line (arc ∷ arc ∷ []))) (line_text (arc_line names arc))
+    (flat_map line_text (run_lines names steps)) (fits first other flush)
+  where
+    norescuer : (number : List ℕ) → length number ≤ 1 → length (line_text (codes "norescuer" ∷ number ∷ [])) ≤ 12
+    norescuer number few = omega (arith, few, length-two_words (codes "norescuer") number)
+
+    circle : (number : List ℕ) → 8 ≤ length (line_text (codes "circle" ∷ number ∷ []))
+    circle number = omega (arith, length-two_words (codes "circle") number)
+
+    fits : {a b c : ℕ} → a ≤ 12 → 8 ≤ b → 4 ≤ c → a ≤ b + c
+    fits most least more = omega (arith, most, least, more)
 
 module _ (declared fixed out : List ℕ) (s : Declared) (f : Fixed) (declares : declaration declared ≡ Ok s)
     (fixes : fixed_of_text s.table.names s.partition fixed ≡ Ok f) where
