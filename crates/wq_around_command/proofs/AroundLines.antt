@@ -201,37 +201,79 @@ module _ (names : List (List ℕ)) (p : Partition) (f : Fixed) where
   abbrev assigned : List (List ℕ) → List CertLine → Read Assignment
   assigned workqueues rest = and_then (with_rest rest) (whole_assignment p workqueues)
 
-  module _ (one_group_each : length names ≡ length p.group_of)
-      (differ : AllPairs (λ (a b : List ℕ). a ≢ b) names) where
-    pub around_plan_reading-lines : (lines : List CertLine) (c : AroundPlan)
-        → SpellsAround names p f (words_of_lines lines) c → around_plan_reading names p f lines ≡ Ok c
-    around_plan_reading-lines lines c spells =
-        let fixed : List (List ℕ) = fixed_workqueues p f in
-        let all : List (List ℕ) = fixed ++ spells.new in
-        let n : ℕ = length spells.new in
-        let a : Assignment = assignment_of p all in
-        let chain = count_line c.length ∷ map (arc_line names) c.arcs in
-        let many : length all ≡ fixed_lanes f + n =
-        omega (arith, length-append fixed spells.new, length-map-range_with_len (fixed_items p f) 0 (fixed_lanes f)) in
-        let room : n ≤ 4096 - fixed_lanes f = omega (arith, many, spells.are.few) in
-        let count = begun_line (new_count_reading f) (count_words (codes "plan")) (IsNewCount f) (IsReadBy-new f) lines
-        n (lines_from names p.group_of (length fixed) spells.new ++ (order_line c.order ∷ chain)) spells.words room in
-        let workqueues = GrowsTo-lines names p.group_of differ spells.new fixed count.rest (order_line c.order ∷ chain)
-        (AreGrown-workqueues (length names) p.group_of all spells.are) count.behind in
-        let whole : new_assignment names p f n count.rest ≡ Ok (a, workqueues.rest) =
-        and_read-Ok assigned (next_workqueues names p.group_of n fixed count.rest) all workqueues.rest
-        workqueues.is_read
-        ∙ ap (and_then (with_rest workqueues.rest))
-        (whole_assignment-workqueues names p one_group_each all spells.are) in
-        let order = begun_line (order_reading a.lanes) order_line (IsOrderBelow a.lanes)
-        (IsReadBy-order a.lanes spells.are.few) workqueues.rest c.order chain workqueues.behind spells.below in
-        and_read-Ok behind_plan (next_line (new_count_reading f) lines) n count.rest count.is_read
-        ∙ and_read-Ok behind_workqueues (new_assignment names p f n count.rest) a workqueues.rest whole
-        ∙ and_read-Ok (behind_order a) (next_line (order_reading a.lanes) workqueues.rest) c.order order.rest
-        order.is_read
-        ∙ ap (and_then (made a c.order))
-        (chain_reading-lines names differ c.length c.arcs order.rest order.behind spells.few spells.count spells.known)
-        ∙ ap (λ (b : Assignment). made b c.order (c.length, c.arcs)) (sym spells.assignment)
+  -- the new workqueues are read behind the fixed ones, and these lines are left
+  record AreRead (new : List (List ℕ)) (lines : List CertLine) (others : List (List (List ℕ))) : Type 0 where
+    rest : List CertLine
+    is_read : new_assignment names p f (length new) lines ≡ Ok (assignment_of p (fixed_workqueues p f ++ new), rest)
+    behind : words_of_lines rest ≡ others
+
+  module _ (differ : AllPairs (λ (a b : List ℕ). a ≢ b) names) where
+    behind_workqueues-lines : (a : Assignment) (order : List ℕ) (n : ℕ) (arcs : List (ℕ × ℕ)) (lines : List CertLine)
+        → words_of_lines lines ≡ order_line order ∷ count_line n ∷ map (arc_line names) arcs → a.lanes ≤ 4096
+        → IsOrderBelow a.lanes order → n ≤ 4096 → length arcs ≡ n - 1 → All (IsArcOf (length names)) arcs
+        → behind_workqueues a lines ≡ made a order (n, arcs)
+    behind_workqueues-lines a order n arcs lines words room below few left known =
+        let said = begun_line (order_reading a.lanes) order_line (IsOrderBelow a.lanes) (IsReadBy-order a.lanes room)
+        lines order (count_line n ∷ map (arc_line names) arcs) words below in
+        and_read-Ok (behind_order a) (next_line (order_reading a.lanes) lines) order said.rest said.is_read
+        ∙ ap (and_then (made a order)) (chain_reading-lines names differ n arcs said.rest said.behind few left known)
+
+    module _ (one_group_each : length names ≡ length p.group_of) where
+      AreRead-lines : (new : List (List ℕ)) (lines : List CertLine) (others : List (List (List ℕ)))
+          → words_of_lines lines ≡ lines_from names p.group_of (length (fixed_workqueues p f)) new ++ others
+          → AreWorkqueues (length names) p.group_of (fixed_workqueues p f ++ new) → AreRead new lines others
+      AreRead-lines new lines others words are =
+          let workqueues = GrowsTo-lines names p.group_of differ new (fixed_workqueues p f) lines others
+          (AreGrown-workqueues (length names) p.group_of (fixed_workqueues p f ++ new) are) words in
+          record {
+            rest = workqueues.rest;
+            is_read = and_read-Ok assigned (next_workqueues names p.group_of (length new) (fixed_workqueues p f) lines)
+                (fixed_workqueues p f ++ new) workqueues.rest workqueues.is_read
+                ∙ ap (and_then (with_rest workqueues.rest))
+                (whole_assignment-workqueues names p one_group_each (fixed_workqueues p f ++ new) are);
+            behind = workqueues.behind;
+          }
+
+      -- there is room for them
+      room_behind : (new : List (List ℕ)) → length (fixed_workqueues p f ++ new) ≤ 4096
+          → length new ≤ 4096 - fixed_lanes f
+      room_behind new few =
+          omega (
+            arith,
+            few,
+            length-append (fixed_workqueues p f) new,
+            length-map-range_with_len (fixed_items p f) 0 (fixed_lanes f),
+          )
+
+      around_plan_reading-new : (new : List (List ℕ)) (order : List ℕ) (n : ℕ) (arcs : List (ℕ × ℕ))
+          (lines : List CertLine)
+          → words_of_lines lines
+          ≡ plan_line (length new)
+          ∷ (lines_from names p.group_of (length (fixed_workqueues p f)) new
+          ++ (order_line order ∷ count_line n ∷ map (arc_line names) arcs))
+          → AreWorkqueues (length names) p.group_of (fixed_workqueues p f ++ new)
+          → IsOrderBelow (length (fixed_workqueues p f ++ new)) order → n ≤ 4096 → length arcs ≡ n - 1
+          → All (IsArcOf (length names)) arcs
+          → around_plan_reading names p f lines ≡ made (assignment_of p (fixed_workqueues p f ++ new)) order (n, arcs)
+      around_plan_reading-new new order n arcs lines words are below few left known =
+          let count = begun_line (new_count_reading f) (count_words (codes "plan")) (IsNewCount f) (IsReadBy-new f)
+          lines (length new)
+          (lines_from names p.group_of (length (fixed_workqueues p f)) new
+          ++ (order_line order ∷ count_line n ∷ map (arc_line names) arcs)) words (room_behind new are.few) in
+          let all = AreRead-lines new count.rest (order_line order ∷ count_line n ∷ map (arc_line names) arcs)
+          count.behind are in
+          and_read-Ok behind_plan (next_line (new_count_reading f) lines) (length new) count.rest count.is_read
+          ∙ and_read-Ok behind_workqueues (new_assignment names p f (length new) count.rest)
+          (assignment_of p (fixed_workqueues p f ++ new)) all.rest all.is_read
+          ∙ behind_workqueues-lines (assignment_of p (fixed_workqueues p f ++ new)) order n arcs all.rest all.behind
+          are.few below few left known
+
+      pub around_plan_reading-lines : (lines : List CertLine) (c : AroundPlan)
+          → SpellsAround names p f (words_of_lines lines) c → around_plan_reading names p f lines ≡ Ok c
+      around_plan_reading-lines lines c spells =
+          around_plan_reading-new spells.new c.order c.length c.arcs lines spells.words spells.are spells.below
+          spells.few spells.count spells.known
+          ∙ ap (λ (b : Assignment). made b c.order (c.length, c.arcs)) (sym spells.assignment)
 
   -- ---- the first word
 

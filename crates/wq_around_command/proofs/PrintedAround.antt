@@ -369,7 +369,7 @@ module _ (t : Table) (p : Partition) (f : Fixed) (ws : Workqueues) (order : List
       text_reading-KeepsLimits (around_reading t.names p f) text (OfPlanAround plan)
       (KeepsLimits-printed lines printable most)
       (around_reading-plan t.names p f read many (wq_lines ++ behind) plan words
-      (around_plan_reading-lines t.names p f (sym long) table.distinct read plan
+      (around_plan_reading-lines t.names p f table.distinct (sym long) read plan
       (subst (λ (ls : List (List (List ℕ))). SpellsAround t.names p f ls plan) (sym words) SpellsAround-printed)))
 
 -- ---- a circle, and a flush to no rescuer
