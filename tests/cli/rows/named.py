@@ -1,7 +1,8 @@
 # NAMEs of `hang`, `replay` and `circles`: declarations, and of each assignments, the NAMEs, and the answers that may be printed.
 #
 # The rules are those of "What must go on" and "Circles that hold up NAMEs" in docs/FORMAT.md, from which each answer was worked out by
-# hand. Where several runs are as good, all of them stand here.
+# hand. Where several runs are as good, all of them stand here; but only one where NAMEs come in another order, which must make no
+# difference.
 
 SELF = "item a / item n / flush a a"
 PAIR = "item a / item b / flush a b"
@@ -128,7 +129,8 @@ HELD = [
     ("item n", "wq 0", [("m", ["refused 41 line 0"])]),
     ("item n", "wq 0 n", [("N", ["refused 8 line 0"]), ("n" * 64, ["refused 8 line 0"]), ("0", ["refused 8 line 0"])]),
     ("item -", "norescuer 0 -", [("-", ["run 1 / queue -"])]),
-    # Of two that are held up equally soon, here the one declared first, in whichever order they are NAMEd, and however often.
+    # Of two that are held up equally soon the one declared first, in whichever order they are NAMEd, and however often. (The page says
+    # only that it is the same one.)
     ("item x / item y", "norescuer 0 x y", [
         ("x y", ["run 1 / queue x"]),
         ("y x", ["run 1 / queue x"]),
