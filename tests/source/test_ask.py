@@ -654,6 +654,18 @@ def test_which_of_several_names(named):
     assert "\nsafe whatever the 2 unsure lines left turn out to be: nothing holds up n, d\n" in ran.out
 
 
+def test_a_name_that_waits_and_one_behind_another(ask, drafted_files):
+    """a and c wait in a circle, and d is behind c: whichever of a and d the run is for, a waits itself."""
+    (drafted_files / "r.wq").write_text("item a\nitem c\nitem d\nflush? a d\nflush? c a\n")
+    (drafted_files / "r.assign").write_text("wq 0 a\nwq 1 c d\n")
+    for names in (("a", "d"), ("d", "a")):
+        _, _, said = ask("q", words=("ask", "r.wq", "r.assign", "--needed", *names)).out.partition("\n  a can be held up with this and 1 more:\n")
+        assert sorted(said.splitlines()[:2]) == [
+            "    a, on workqueue 0, waits for d  (not sure)",
+            "    c, on workqueue 1, waits for a  (not sure)",
+        ]
+
+
 def test_a_name_without_a_rescuer(named, drafted_files):
     """It is held up whatever the lines turn out to be: nothing is asked."""
     assert named("n x") == named("x") == Ran(1, """
