@@ -11,7 +11,7 @@ import re
 import subprocess
 import tempfile
 from dataclasses import dataclass, field
-from typing import Iterator, Optional
+from typing import Iterator, Optional, Sequence
 
 from . import outputs, says
 from .calls import Edge
@@ -32,6 +32,8 @@ BEFORE_MARK = re.compile(r"\s*flush(?:wq)?(?=\?)")
 UNKNOWN = "thread: what ends a wait and isn't known"
 # Behind this, a comment names the calls that lead to its site.
 WAY = ", from "
+# What `wqplan hang` notes beside `safe`, if items are NAMEd (docs/MESSAGES.md, "What isn't held up").
+NOTE = re.compile(r": (note: nothing (?:on the workqueues? of|holds up) .*)")
 
 
 @dataclass
@@ -69,6 +71,12 @@ class Hang:
                 found.pop(words[0], None)
         return list(found.values())
 
+    def held_up(self, names: Sequence[str]) -> Optional[str]:
+        """Which of the NAMEd items doesn't come to its end; None if none is NAMEd. It is one of those that wait, which are
+        queued first, or the next one, which is behind the first of these (docs/FORMAT.md, "What must go on")."""
+        queued = [step.split()[1] for step in self.run if step.startswith("queue ")]
+        return next((item for item in queued if item in names), None)
+
 
 class Wqplan:
     """The program that is asked."""
@@ -76,20 +84,33 @@ class Wqplan:
     def __init__(self) -> None:
         self.path = find_wqplan()
 
-    def hang(self, text: str, name: str, assignment: str) -> Optional[Hang]:
-        """What `wqplan hang` says of a declaration of this name and a file with an assignment; None if they are safe."""
+    def hang(self, text: str, name: str, assignment: str, needed: Sequence[str]) -> Optional[Hang]:
+        """What `wqplan hang` says of a declaration of this name, a file with an assignment, and NAMEs; None if it is safe."""
+        status, out, _ = self.answer(text, name, assignment, needed)
+        return parsed(out) if status == HANGS else None
+
+    def notes(self, text: str, name: str, assignment: str, needed: Sequence[str]) -> list[str]:
+        """What it says of the NAMEs beside `safe`."""
+        _, _, said = self.answer(text, name, assignment, needed)
+        return NOTE.findall(said)
+
+    def answer(self, text: str, name: str, assignment: str, needed: Sequence[str]) -> tuple[int, str, str]:
+        """Its status, and what it writes to standard output and to standard error."""
         with tempfile.TemporaryDirectory() as folder:
             kept = pathlib.Path(folder) / name
             kept.write_bytes(text.encode("utf-8", "surrogateescape"))
+            # (a name may begin with a dash)
+            names = ["--", *needed] if needed else []
+            command = [self.path, "hang", str(kept), assignment, *names]
             try:
-                ran = subprocess.run([self.path, "hang", str(kept), assignment], capture_output=True, timeout=SECONDS)
+                ran = subprocess.run(command, capture_output=True, timeout=SECONDS)
             except (OSError, subprocess.TimeoutExpired) as error:
                 raise NoWqplan(f"{self.path}: {error}") from error
         out = ran.stdout.decode(errors="surrogateescape")
+        said = ran.stderr.decode(errors="surrogateescape").replace(f"{folder}/", "")
         if ran.returncode not in (SAFE, HANGS):
-            said = ran.stderr.decode(errors="surrogateescape").replace(f"{folder}/", "")
             raise Fault(f"wqplan hang: {out.strip()}{open_lines(text)}\n{said}".rstrip())
-        return parsed(out) if ran.returncode == HANGS else None
+        return ran.returncode, out, said
 
 
 def open_lines(text: str) -> str:
@@ -266,10 +287,13 @@ class CallOfWay:
 
 
 class Asking:
-    """The questions about a declaration and an assignment, as they are by the answers up to now."""
+    """The questions about a declaration and an assignment, as they are by the answers up to now: whether one of the NAMEd
+    items can be held up, or, if none is NAMEd, whether the workqueues can hang."""
 
-    def __init__(self, path: pathlib.Path, assignment: str, program: Optional[Program], wqplan: Wqplan) -> None:
-        self.path, self.assignment, self.program, self.wqplan = path, assignment, program, wqplan
+    def __init__(
+        self, path: pathlib.Path, assignment: str, needed: Sequence[str], program: Optional[Program], wqplan: Wqplan
+    ) -> None:
+        self.path, self.assignment, self.needed, self.program, self.wqplan = path, assignment, needed, program, wqplan
         # lines that were put off, by what stands in them
         self.later: collections.Counter[str] = collections.Counter()
         self.read: Optional[Read] = None
@@ -284,7 +308,7 @@ class Asking:
         self.unknown = {item.name for item in declaration.items if UNKNOWN in item.comment}
         if self.program:
             self.read = self.read.beside(declaration) if self.read else Read.of(declaration, self.program)
-        self.hang = self.wqplan.hang(self.text.text, self.path.name, self.assignment)
+        self.hang = self.hang_of(self.text.text)
         self.number, self.asked = self.next_question()
 
     def next_question(self) -> tuple[Optional[int], Optional[Hang]]:
@@ -309,7 +333,14 @@ class Asking:
 
     def hang_without(self, away: set[int]) -> Optional[Hang]:
         """What is answered if these lines are taken away."""
-        return self.wqplan.hang(self.text.without(away), self.path.name, self.assignment) if away else self.hang
+        return self.hang_of(self.text.without(away)) if away else self.hang
+
+    def hang_of(self, text: str) -> Optional[Hang]:
+        return self.wqplan.hang(text, self.path.name, self.assignment, self.needed)
+
+    def notes(self) -> list[str]:
+        """What is said of the NAMEs beside `safe`."""
+        return self.wqplan.notes(self.text.text, self.path.name, self.assignment, self.needed) if self.needed else []
 
     def put_off(self) -> set[int]:
         """The lines that were put off: of those that are the same, the first ones."""

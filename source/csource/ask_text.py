@@ -63,13 +63,24 @@ class Printer:
         self.choices(len(sites))
 
     def hang_text(self, hang: Hang) -> None:
-        """The waits of the run."""
+        """Who is held up, if items are NAMEd, and the waits of the run."""
         unsure = len(hang.unsure)
-        self.say(f"  With {'this line' if unsure == 1 else f'this and {unsure - 1} more'} it can hang:")
+        these = "this line" if unsure == 1 else f"this and {unsure - 1} more"
+        held = hang.held_up(self.asking.needed)
+        self.say(f"  {held} can be held up with {these}:" if held else f"  With {these} it can hang:")
+        self.where_held(hang, "    ")
         for waiting in hang.waiting():
             word = "flushwq?" if waiting.is_whole else "flush?"
             is_unsure = [word, waiting.item, waiting.target] in hang.unsure
             self.say(f"    {waiting}{'  (not sure)' if is_unsure else ''}")
+
+    def where_held(self, hang: Hang, indent: str) -> None:
+        """Of a NAMEd item that is held up and doesn't wait itself: what it is behind, or that it has no rescuer."""
+        held, waiting = hang.held_up(self.asking.needed), hang.waiting()
+        if held and not waiting:
+            self.say(f"{indent}{held} is on a workqueue without a rescuer: nothing guarantees that it runs")
+        elif held and held not in [one.item for one in waiting]:
+            self.say(f"{indent}{held}, on workqueue {waiting[0].queue}, is behind {waiting[0].item}")
 
     def choices(self, sites: int) -> None:
         """What may be answered. The wider ones are told if they decide more."""
@@ -179,16 +190,22 @@ class Printer:
     # The end
 
     def end(self) -> None:
-        """How it ends: safe, or hangs for sure with the run, or what it still depends on."""
+        """How it ends: safe, or hangs for sure with the run, or what it still depends on. And for whom, if items are
+        NAMEd."""
         asking = self.asking
         left = len(asking.text.unsure())
         self.say()
         if asking.hang is None:
             others = f" whatever the {says.counted(left, 'unsure line')} left {'turns' if left == 1 else 'turn'} out to be"
-            self.say(f"safe{others if left else ''}")
+            nothing = f": nothing holds up {', '.join(asking.needed)}" if asking.needed else ""
+            self.say(f"safe{others if left else ''}{nothing}")
+            for note in asking.notes():
+                self.say(note)
         elif not asking.hang.unsure:
             others = f", whatever the {says.counted(left, 'unsure line')} left {'turns' if left == 1 else 'turn'} out to be"
-            self.say(f"hangs for sure{others if left else ''}:")
+            held = asking.hang.held_up(asking.needed)
+            self.say(f"hangs for sure{others if left else ''}{f'. {held} is held up' if held else ''}:")
+            self.where_held(asking.hang, "  ")
             for waiting in asking.hang.waiting():
                 self.say(f"  {waiting}")
             self.say(f"run {len(asking.hang.run)}")

@@ -118,6 +118,15 @@ def parser() -> argparse.ArgumentParser:
     four.add_argument("declaration", metavar="DECL")
     four.add_argument("assignment", metavar="ASSIGN")
     four.add_argument("--tree", type=pathlib.Path, default=HERE, metavar="DIR")
+    four.add_argument(
+        "--needed",
+        nargs="+",
+        action="extend",
+        default=[],
+        metavar="NAME",
+        help="only what can hold up one of these items, as `wqplan hang DECL ASSIGN NAME..` asks; "
+        "write `--` between them and DECL",
+    )
     four.add_argument("files", **files)
     scan_options.add_parser(verbs, shared, ENDS)
     return words

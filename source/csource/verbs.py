@@ -152,17 +152,30 @@ def run_draft(words: argparse.Namespace, extractor: program.ReadsFacts) -> int:
     return DONE
 
 
+def needed_items(words: argparse.Namespace, declaration: Declaration) -> list[str]:
+    """The NAMEs, each once. Each is an item, and no FILE is one."""
+    items = {item.name for item in declaration.items}
+    for name in words.needed:
+        if name not in items:
+            raise Fault(f"{words.declaration}: no item `{name}` is declared")
+    for name in words.files:
+        if name in items and wrong_name(words.tree, name):
+            raise Fault(f"{name} is an item, and was taken for a file: write `--needed {name}`")
+    return list(dict.fromkeys(words.needed))
+
+
 def run_ask(words: argparse.Namespace, extractor: program.ReadsFacts) -> int:
     from . import ask, ask_text
 
     declaration = declared(words.declaration)
+    needed = needed_items(words, declaration)
     wqplan = ask.Wqplan()
     read = None
     if words.files or declaration.files:
         files = files_of(words.tree, words.files, declaration)
         stacked = words.stacked or declaration.is_stacked
         read = program_of(words.tree, files, extractor, stacked)
-    asking = ask.Asking(pathlib.Path(words.declaration), words.assignment, read, wqplan)
+    asking = ask.Asking(pathlib.Path(words.declaration), words.assignment, needed, read, wqplan)
     extractor.progress.end()
     ask_text.talk(asking, ask_text.terminal(), sys.stdout)
     if asking.hang is None:

@@ -4,6 +4,7 @@
 # `wrong_with` says whether another run is as good. With NAMEs it prints a run by which one of them is held up. See plan.py for what the
 # model is.
 
+import os
 import re
 import sys
 
@@ -212,10 +213,12 @@ def answer(declaration_text, assignment_text, *names):
 
 def main(arguments):
     """The exit status."""
-    if len(arguments) != 3 or arguments[0] != "hang":
-        print("usage: hang.py hang DECL ASSIGN", file=sys.stderr)
+    if len(arguments) < 3 or arguments[0] != "hang":
+        print("usage: hang.py hang DECL ASSIGN [NAME..]", file=sys.stderr)
         return 2
-    return answer_texts(answer, arguments[1:], (declaration.TEXT_LIMIT, certificate.TEXT_LIMIT))
+    behind = arguments[4:] if arguments[3:4] == ["--"] else arguments[3:]
+    names = [os.fsencode(name) for name in behind]
+    return answer_texts(lambda *texts: answer(*texts, *names), arguments[1:3], (declaration.TEXT_LIMIT, certificate.TEXT_LIMIT))
 
 
 if __name__ == "__main__":

@@ -8,7 +8,8 @@ reasons why workqueues can hang (reasons.py).
 What the program prints is then given back to it: the plans and circles to `check`, the plans as assignments to `deadlock`, and the runs,
 those behind circles too, to `replay`. It must stand by its answers: `yes`, `safe` and `deadlock`; of what `hang` prints the model says
 which of `deadlock` and `stuck`, and `dot` must draw the waits of that run bold red. Where it prints `safe` by `circles`, it must print
-it by `deadlock` too. What it prints by `repair` must be safe, and need no repair.
+it by `deadlock` too. What it prints by `repair` must be safe, and need no repair. And it must say the same, to the byte, of NAMEs that
+must go on in whatever order they come, and however often.
 
 A case that fails is shown with as few lines as fail (smallest.py). A test of a command fails, too, where some kind of answer or of
 reason never came. Other random cases, and more of them:
@@ -18,6 +19,7 @@ reason never came. Other random cases, and more of them:
 
 import collections
 import os
+import random
 import re
 
 import around
@@ -29,17 +31,20 @@ import reasons
 import reasons_for
 import told_changes
 import unrescued
-from cases import COMMANDS, KINDS, WITHOUT, cases, kind_of
+from cases import COMMANDS, KINDS, MUST_GO_ON, WITHOUT, cases, kind_of
 from commands import TEXTS_OF
 from declaration import Refused, read_declaration, split_lines
 from models import ANSWERS, agrees
 from standard_error import HAS_FURTHER, STDIN, fits, note
 from tables import short
+from test_held import make_case
 
 # How many random cases there are: fewer of `run`, which makes threads, of `hang`, whose answers are judged by other means, and of
 # `repair`, whose answers are given back to three commands.
 CASES = 2_000
 FEWER = dict.fromkeys(("run", "hang", "repair"), 5)
+# How many cases have their NAMEs in two orders.
+ORDERS = 300
 # The word behind the files of `run`, in turn.
 HELPERS = [[], ["2"], ["8"], ["0"], ["1"], ["5"]]
 
@@ -242,3 +247,34 @@ def of_smallest(compare, command, texts, words):
         small = smallest(texts[:count], lambda some: tried(compare, command, [*some, *names], words)[1] is not None)
         pytest.fail(tried(compare, command, [*small, *names], words)[1] or wrong, pytrace=False)
     return rows
+
+
+def in_two_orders(command, seed, number, sure):
+    """The texts of a case, in which an item is held up if one can be; NAMEs; and the same, the last one first, and some several times.
+
+    So each two of them come in both orders.
+    """
+    choose = random.Random(f"{seed} orders {number}")
+    items = choose.randint(2, 6)
+    unsure = choose.choice([0, 0, 1, 3])
+    texts = make_case(choose, items, choose.randint(0, 2 * items), 0 if sure else unsure)
+    names = choose.sample(read_declaration(texts[0]).items, choose.randint(2, items))
+    if command == "replay":
+        printed, status = ANSWERS["hang"](*texts, *names)
+        texts = *texts, printed if status == 1 else b"run 0\n"
+    return texts, names, [*names[::-1], *choose.choices(names, k=choose.randint(0, 3))]
+
+
+@pytest.mark.parametrize("command", MUST_GO_ON)
+def test_names_are_a_set(program, tmp_path, same, command, request):
+    """In which order NAMEs come, and how often each, changes neither the answer, nor the status, nor what is said."""
+    seed, count = request.config.getoption("--seed"), request.config.getoption("--cases") or ORDERS
+    held = 0
+    for number in range(count):
+        texts, names, others = in_two_orders(command, seed, number, request.config.getoption("--sure"))
+        with programs.files(tmp_path, dict(zip(TEXTS_OF[command], texts))) as places:
+            first, second = (programs.ask([program, command, *places, *given]) for given in (names, others))
+        words = b" ".join([*names, b"and then", *others]).decode()
+        same(asked(command, texts, words), *(b"%sstatus %d\n%s" % answer for answer in (first, second)))
+        held += first.status
+    assert held > count // 3, f"in {held} of {count} cases an item is held up"

@@ -90,7 +90,7 @@ def wqsource():
 
 # The model, which keeps what it answered: a test asks the same of the same texts many times.
 MODEL = """#!/bin/sh
-kept={folder}/$({{ echo "$1"; cat -- "$2"; echo; cat -- "$3"; }} | sha256sum | cut -c1-64)
+kept={folder}/$({{ echo "$1"; cat -- "$2"; echo; cat -- "$3"; shift 3; echo "$@"; }} | sha256sum | cut -c1-64)
 if [ ! -e "$kept" ]; then
     {python} {root}/tests/model/$1.py "$@" >"$kept.half.$$"
     echo $? >"$kept.status.$$"

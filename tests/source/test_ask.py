@@ -575,3 +575,166 @@ def test_a_cut_of_what_somebody_changes_meanwhile(wqplan, drafted_files, one_sit
     assert "2 unsure lines led only through it" in talking.wait() and talking.end().status == 0
     gone, new = changed(one_site, (drafted_files / "r.wq").read_text())
     assert len(gone) == 2 and new == ["# by another hand", "# no wait: r.c r_send r_sent(r): never"]
+
+
+# NAMEs: a waits for b behind it, c for d behind it, and n, on a workqueue of its own, for c. x has no rescuer.
+NAMED = "item a\nitem b\nitem c\nitem d\nitem n\nitem x\nflush? a b\nflush? c d\nflush? n c\n"
+ON = "wq 0 a b\nwq 1 c d\nwq 2 n\nnorescuer 3 x\n"
+
+
+@pytest.fixture
+def named(ask, drafted_files):
+    """named(NAMEs, answers ..): what is asked about NAMEd items of the small declaration, which cites no source."""
+    (drafted_files / "r.wq").write_text(NAMED)
+    (drafted_files / "r.assign").write_text(ON)
+    return lambda names, *answers: ask(*answers, words=("ask", "r.wq", "r.assign", *(["--needed", *names.split()] if names else [])))
+
+
+def test_what_matters_without_names(named, drafted_files):
+    """The two circles, and not the way of n to one of them."""
+    ran = named("", "n never", "n never")
+    assert questions(ran.out) == ["flush? a b", "flush? c d"]
+    assert ran.status == 0 and ran.out.endswith("\nsafe whatever the 1 unsure line left turns out to be\n")
+
+
+def test_what_matters_to_a_name(named, drafted_files):
+    """The circle that n waits for, and its way there; and not the other circle."""
+    ran = named("n", "y", "y")
+    assert questions(ran.out) == ["flush? c d", "flush? n c"]
+    both = "    n, on workqueue 2, waits for c  (not sure)\n    c, on workqueue 1, waits for d"
+    assert f"\n  n can be held up with this and 1 more:\n{both}  (not sure)\n" in ran.out
+    assert f"\n  n can be held up with this line:\n{both}\n" in ran.out
+    assert ran.status == 1 and ran.out.endswith("""
+hangs for sure, whatever the 1 unsure line left turns out to be. n is held up:
+  n, on workqueue 2, waits for c
+  c, on workqueue 1, waits for d
+run 7
+queue n
+queue c
+queue d
+start 2 n
+wait 2 c
+start 1 c
+wait 1 d
+""")
+    text = NAMED.replace("flush? c d", "flush c d").replace("flush? n c", "flush n c")
+    assert (drafted_files / "r.wq").read_text() == text
+
+
+def test_what_holds_up_no_name(named):
+    """One line is enough, though without a NAME it still depends on another."""
+    ran = named("n", "n never")
+    assert questions(ran.out) == ["flush? c d"] and ran.status == 0
+    said, _, notes = ran.out.partition("\nsafe whatever the 2 unsure lines left turn out to be: nothing holds up n\n")
+    assert said and all(line.startswith("note: ") for line in notes.splitlines())
+    assert questions(named("").out) == ["flush? a b"]
+
+
+def test_a_name_that_is_behind_who_waits(named):
+    ran = named("b", "y")
+    assert questions(ran.out) == ["flush? a b"]
+    assert "\n  b can be held up with this line:\n    b, on workqueue 0, is behind a\n    a, on workqueue 0, waits for b  (not sure)\n" in ran.out
+    assert ran.out.endswith("""
+hangs for sure, whatever the 2 unsure lines left turn out to be. b is held up:
+  b, on workqueue 0, is behind a
+  a, on workqueue 0, waits for b
+run 4
+queue a
+queue b
+start 0 a
+wait 0 b
+""")
+
+
+def test_which_of_several_names(named):
+    """For d one line is enough, for n two are; once it isn't so, neither is held up."""
+    ran = named("n d n", "n never")
+    assert questions(ran.out) == ["flush? c d"] and ran.status == 0
+    assert "\n  d can be held up with this line:\n    d, on workqueue 1, is behind c\n    c, on workqueue 1, waits for d  (not sure)\n" in ran.out
+    assert "\nsafe whatever the 2 unsure lines left turn out to be: nothing holds up n, d\n" in ran.out
+
+
+def test_a_name_that_waits_and_one_behind_another(ask, drafted_files):
+    """a and c wait in a circle, and d is behind c: whichever of a and d the run is for, a waits itself."""
+    (drafted_files / "r.wq").write_text("item a\nitem c\nitem d\nflush? a d\nflush? c a\n")
+    (drafted_files / "r.assign").write_text("wq 0 a\nwq 1 c d\n")
+    for names in (("a", "d"), ("d", "a")):
+        _, _, said = ask("q", words=("ask", "r.wq", "r.assign", "--needed", *names)).out.partition("\n  a can be held up with this and 1 more:\n")
+        assert sorted(said.splitlines()[:2]) == [
+            "    a, on workqueue 0, waits for d  (not sure)",
+            "    c, on workqueue 1, waits for a  (not sure)",
+        ]
+
+
+def test_a_name_without_a_rescuer(named, drafted_files):
+    """It is held up whatever the lines turn out to be: nothing is asked."""
+    assert named("n x") == named("x") == Ran(1, """
+hangs for sure, whatever the 3 unsure lines left turn out to be. x is held up:
+  x is on a workqueue without a rescuer: nothing guarantees that it runs
+run 1
+queue x
+""", "")
+
+
+def test_a_way_in_the_source_to_what_is_named(ask, drafted_files):
+    """The source is shown as without NAMEs. r_log waits for nothing, so nothing of the draft is asked for it."""
+    ran = ask("s", words=("ask", "r.wq", "r.assign", "--needed", "r_send"))
+    assert sorted(questions(ran.out)) == ["flush? r_retry r_send", "flush? r_send r_retry"] and ran.status == DEPENDS
+    assert "\n  r_send can be held up with this line:\n" in ran.out and "    the wait:\n" in ran.out
+    ran = ask(words=("ask", "--needed", "r_log", "--", "r.wq", "r.assign", "r.c"))
+    assert ran.status == 0 and ran.out.startswith("\nsafe whatever the 3 unsure lines left turn out to be: nothing holds up r_log\n")
+
+
+@pytest.fixture
+def program(wqplan, drafted_files, monkeypatch):
+    """program(text): a script that is asked in place of wqplan."""
+
+    def put(text):
+        path = drafted_files / "asked"
+        path.write_text("#!/bin/sh\n" + text)
+        path.chmod(0o755)
+        monkeypatch.setenv("WQPLAN", str(path))
+
+    return put
+
+
+@pytest.mark.parametrize("names,words", [("n a", "hang r.assign -- n a"), ("", "hang r.assign")])
+def test_each_question_has_the_names(named, program, wqplan, drafted_files, names, words):
+    """The first one, those without lines that are put off, and those about what was written."""
+    program(f'(word=$1; shift 2; echo "$word $*") >>{drafted_files}/words\nexec {wqplan} "$@"\n')
+    assert named(names, "s", "y", "q").status in (1, DEPENDS)
+    found = (drafted_files / "words").read_text().splitlines()
+    assert len(found) > 3 and set(found) == {words}
+
+
+NOTES = """\
+note: nothing on the workqueue of `n` declares a flush. Does reclaim wait for its end, or for what another item does?
+note: nothing holds up what is named; other items can hang: ask without a NAME
+"""
+
+
+def test_notes_beside_safe(named, program):
+    """Those that are about NAMEs are passed on."""
+    lines = ["note: safe whatever the 3 unsure lines turn out to be", *NOTES.splitlines()]
+    program("echo safe\n" + "".join(f"echo '{line}' | sed \"s|^|$2: |\" >&2\n" for line in lines))
+    safe = "\nsafe whatever the 3 unsure lines left turn out to be"
+    assert named("n") == Ran(0, f"{safe}: nothing holds up n\n{NOTES}", "")
+    assert named("") == Ran(0, f"{safe}\n", "")
+
+
+def test_a_name_with_a_dash(ask, drafted_files):
+    (drafted_files / "r.wq").write_text("item -a\nitem --\nflush -a --\n")
+    (drafted_files / "r.assign").write_text("wq 0 -a --\n")
+    ran = ask(words=("ask", "r.wq", "r.assign", "--needed=-a"))
+    assert ran.status == 1 and ran.out.startswith("\nhangs for sure. -a is held up:\n  -a, on workqueue 0, waits for --\nrun 4\n")
+    ran = ask(words=("ask", "r.wq", "r.assign", "--needed=--", "--needed=-a"))
+    assert ran.status == 1 and ran.out.startswith("\nhangs for sure. -a is held up:\n")
+
+
+@pytest.mark.parametrize("words,said", [
+    (("r.wq", "r.assign", "--needed", "r_send", "r_sent"), "r.wq: no item `r_sent` is declared"),
+    (("r.wq", "r.assign", "r_send"), "r_send is an item, and was taken for a file: write `--needed r_send`"),
+    (("r.wq", "r.assign", "r_sent"), "r_sent: no such file"),
+])
+def test_what_is_no_name(wqsource, wqplan, drafted_files, words, said):
+    assert wqsource("ask", *words, cwd=drafted_files) == Ran(3, "", f"wqsource: {said}\n")

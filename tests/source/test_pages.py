@@ -55,7 +55,7 @@ def test_calls_of_the_guide():
     """waits.txt has a kind for each call that may wait by the first table of section 2, but for those that start a process."""
     waits = tables.Waits()
     rows = re.search(r"^\| Call in a work function \|.*\n\|-.*\n((?:\|.*\n)+)", GUIDE, re.M)[1].splitlines()
-    calls = {call for row in rows for call in re.findall(r"`([a-z_]+)[(`]", row.split("|")[1].split(", where")[0])}
+    calls = {call for row in rows for call in re.findall(r"`([a-z_]+)[(`]", row.split("|")[1].split(", if")[0])}
     kinds = {call: waits.kind(call).name for call in calls if len(call) > 2}
     assert len(kinds) > 35
     assert {call for call, kind in kinds.items() if kind in ("none", "never")} == {"request_module", "call_usermodehelper"}

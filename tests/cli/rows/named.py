@@ -1,7 +1,8 @@
 # NAMEs of `hang`, `replay` and `circles`: declarations, and of each assignments, the NAMEs, and the answers that may be printed.
 #
 # The rules are those of "What must go on" and "Circles that hold up NAMEs" in docs/FORMAT.md, from which each answer was worked out by
-# hand. Where several runs are as good, all of them stand here.
+# hand. Where several runs are as good, all of them stand here; but only one where NAMEs come in another order, which must make no
+# difference.
 
 SELF = "item a / item n / flush a a"
 PAIR = "item a / item b / flush a b"
@@ -128,6 +129,22 @@ HELD = [
     ("item n", "wq 0", [("m", ["refused 41 line 0"])]),
     ("item n", "wq 0 n", [("N", ["refused 8 line 0"]), ("n" * 64, ["refused 8 line 0"]), ("0", ["refused 8 line 0"])]),
     ("item -", "norescuer 0 -", [("-", ["run 1 / queue -"])]),
+    # Of two that are held up equally soon the one declared first, in whichever order they are NAMEd, and however often. (The page says
+    # only that it is the same one.)
+    ("item x / item y", "norescuer 0 x y", [
+        ("x y", ["run 1 / queue x"]),
+        ("y x", ["run 1 / queue x"]),
+        ("y y x y", ["run 1 / queue x"]),
+    ]),
+    ("item x / item y / flush? x y", "norescuer 0 x / norescuer 1 y", [
+        ("x y", ["unsure 0 / run 1 / queue x"]),
+        ("y x", ["unsure 0 / run 1 / queue x"]),
+    ]),
+    ("item a / item m / item n / flush a a", "wq 0 a m n", [
+        ("m n", ["run 4 / queue a / queue m / start 0 a / wait 0 a"]),
+        ("n m", ["run 4 / queue a / queue m / start 0 a / wait 0 a"]),
+        ("n m n", ["run 4 / queue a / queue m / start 0 a / wait 0 a"]),
+    ]),
     # Unsure lines: the fewest first, and then the fewest steps.
     ("item n / item a / item b / flush? n a / flush? a a / flush n b / flush? b n", "wq 0 n / wq 1 a / wq 2 b", [
         ("n", ["unsure 1 / flush? b n / run 6 / queue n / queue b / start 0 n / wait 0 b / start 2 b / wait 2 n"]),
@@ -177,6 +194,7 @@ LONG = [(
 # Runs, with NAMEs: a declaration, an assignment, a run, NAMEs, and how it ends.
 REPLAYS = [
     (PAST, "wq 0 a / norescuer 1 x / wq 2 n", "run 1 / queue x", [("x", "stuck"), ("n", "open"), ("a", "open"), ("a x", "stuck")]),
+    (PAST, "wq 0 a / norescuer 1 x / wq 2 n", "run 1 / queue x", [("x a", "stuck"), ("a x a n", "stuck"), ("n a n", "open")]),
     (PAST, "wq 0 a / norescuer 1 x / wq 2 n", "run 0", [("x", "open"), ("x n a", "open")]),
     ("item x", "norescuer 0 x", "run 1 / queue x", [("x", "deadlock")]),
     ("item x", "norescuer 0 x", "run 2 / queue x / start 0 x", [("x", "open")]),
@@ -205,6 +223,7 @@ CIRCLES = [
         ("a a", "components 1 / component 1 / arc a a"),
         ("b", "components 2 / component 1 / arc a a / component 1 / arc b b / ways 3 / arc n p / arc p a / arc b n"),
         ("p n", "components 1 / component 1 / arc a a / ways 2 / arc n p / arc p a"),
+        ("n p n", "components 1 / component 1 / arc a a / ways 2 / arc n p / arc p a"),
         ("p", "components 1 / component 1 / arc a a / ways 1 / arc p a"),
         ("z", "refused 8 line 0"),
     ]),
