@@ -65,12 +65,12 @@ _wqplan() {
     local files
     case $command in
         '')
-            mapfile -t COMPREPLY < <(compgen -W 'plan check deadlock hang repair replay circles dot run explain help' -- "$word")
+            mapfile -t COMPREPLY < <(compgen -W 'plan check deadlock hang repair replay circles dot longest run explain help' -- "$word")
             return
             ;;
         help)
             [ "$words" -gt 0 ] ||
-                mapfile -t COMPREPLY < <(compgen -W 'plan check deadlock hang repair replay circles dot run explain' -- "$word")
+                mapfile -t COMPREPLY < <(compgen -W 'plan check deadlock hang repair replay circles dot longest run explain' -- "$word")
             return
             ;;
         explain)
@@ -80,8 +80,8 @@ _wqplan() {
             codes+=' TooManyItems TooManyFlushes GroupedTwice ExtraWord BadCertLine NotAllItems GroupSplit'
             codes+=' NumberOutOfRange NotFalling ChainBroken LengthDiffers CircleBroken RunBroken HasRescuer'
             codes+=' TooManyLanes read memory thread tally write plan wq order chain arc circle run unsure yes no'
-            codes+=" 'not lawful' deadlock stuck open safe components arc? norescuer ways workqueues refused fault"
-            codes+=' item flush flushwq flush? flushwq? ordered'
+            codes+=" 'not lawful' deadlock stuck open safe longest components arc? norescuer ways workqueues refused"
+            codes+=' fault item flush flushwq flush? flushwq? ordered'
             mapfile -t COMPREPLY < <(compgen -W "$codes" -- "$word")
             # The blank of `not lawful` belongs to the word.
             COMPREPLY=("${COMPREPLY[@]// /\\ }")
@@ -94,6 +94,7 @@ _wqplan() {
             fi
             files=1
             ;;
+        longest) files=1 ;;
         plan | deadlock | hang | repair | circles | dot) files=2 ;;
         check | replay) files=3 ;;
         *) return ;;

@@ -61,7 +61,7 @@ use Rattle.wq_commands.specs.declared.end.End.{End}
 use Rattle.wq_commands.specs.declared.end.End.TheVariants.{Refused}
 use Rattle.wq_commands.specs.Answer.{ends_of}
 use Rattle.wq_groups.specs.DeclaredGroups.{declared_waits, Declared}
-use Rattle.wq_commands.specs.Answer.{Answers, AnswersDeclared, refusal_text}
+use Rattle.wq_commands.specs.Answer.{Answers, AnswersDeclared, AnswersLongest, LongestDeclared, refusal_text}
 pub use Rattle.wq_groups.specs.DeclaredGroups.{IsSound}
 use Rattle.wq_commands.specs.Declaration.{
   max_declaration,
@@ -207,4 +207,10 @@ pub Answers-same : (read text : List ℕ) (end : End) (out : List ℕ) → decla
     end out → Answers text end out
 Answers-same read text end out same answers =
     subst (λ (d : Result Declared Refusal). MatchResult d (λ s. AnswersDeclared s end out)
+    (λ r. (end ≡ Refused) × (out ≡ refusal_text r))) same answers
+
+pub AnswersLongest-same : (read text : List ℕ) (end : End) (out : List ℕ) → declaration read ≡ declaration text → AnswersLongest read
+    end out → AnswersLongest text end out
+AnswersLongest-same read text end out same answers =
+    subst (λ (d : Result Declared Refusal). MatchResult d (λ s. LongestDeclared s end out)
     (λ r. (end ≡ Refused) × (out ≡ refusal_text r))) same answers

@@ -14,7 +14,8 @@ use Rattle.wq_levels.specs.Walks.{IsWalkedCircle}
 use Rattle.wq_commands.specs.declared.end.End.{End}
 use Rattle.wq_commands.specs.declared.end.End.TheVariants.{Good, Bad, Refused}
 use Rattle.wq_groups.specs.DeclaredGroups.{declared_waits, Declared}
-use Rattle.wq_commands.specs.Answer.{Answers, AnswersDeclared, PrintsCircle, refusal_text, text_of_plan, text_of_circle}
+use Rattle.wq_commands.specs.Answer.{Answers, AnswersDeclared, AnswersLongest, LongestDeclared, PrintsCircle}
+use Rattle.wq_commands.specs.Answer.{longest_text, refusal_text, text_of_plan, text_of_circle}
 use Rattle.wq_commands.specs.Declaration.{declaration}
 use Rattle.wq_commands.proofs.AnswerLemmas.{IsSound, IsSound-declaration, IsDeclaration-sound}
 use Rattle.wq_commands.proofs.CircleRuns.{IsCircleRun-own_lanes}
@@ -43,3 +44,18 @@ answers_exist (Err r) sound = (Refused, refusal_text r, (refl, refl))
 
 pub Answers-exist : (text : List ℕ) → (end : End) × (out : List ℕ) × Answers text end out
 Answers-exist text = answers_exist (declaration text) (IsSound-declaration text)
+
+LongestDeclared-exist : (s : Declared) → IsSound s → (end : End) × (out : List ℕ) × LongestDeclared s end out
+LongestDeclared-exist s sound = elim (IsPlan-or_walked_circle (declared_waits s) (IsDeclaration-sound s sound)) [
+  | inl plan ↦ (Good, longest_text plan.0.lanes, record { assignment = plan.0; plan = plan.1; text = refl })
+  | inr circle ↦ let printed = PrintsCircle-exists s circle.0 sound circle.1 in (Bad, printed.0, printed.1)
+]
+
+longest_exist : (declared : Result Declared Refusal) → ((s : Declared) → declared ≡ Ok s → IsSound s)
+    → (end : End) × (out : List ℕ)
+    × MatchResult declared (λ s. LongestDeclared s end out) (λ r. (end ≡ Refused) × (out ≡ refusal_text r))
+longest_exist (Ok s) sound = LongestDeclared-exist s (sound s refl)
+longest_exist (Err r) sound = (Refused, refusal_text r, (refl, refl))
+
+pub AnswersLongest-exist : (text : List ℕ) → (end : End) × (out : List ℕ) × AnswersLongest text end out
+AnswersLongest-exist text = longest_exist (declaration text) (IsSound-declaration text)

@@ -19,12 +19,13 @@ use Rattle.wq_commands.specs.declared.found.Found.{Found}
 use Rattle.wq_commands.specs.declared.found.Which.{Which}
 use Rattle.wq_commands.specs.declared.found.Which.TheVariants.{Certificate as SecondText, Run}
 use Rattle.wq_commands.specs.declared.replaying.Replayed.{Replayed}
-use Rattle.wq_commands.specs.Answer.{Answers, AnswersDeclared, PrintsRefusal}
+use Rattle.wq_commands.specs.Answer.{Answers, AnswersDeclared, AnswersLongest, LongestDeclared, PrintsRefusal}
 use Rattle.wq_commands.specs.Checking.{AnswersCheck, Checks, ChecksDeclared}
 use Rattle.wq_commands.specs.Commands.{
   ChecksText,
   FindsCheck,
   FindsEnd,
+  FindsLongest,
   FindsPlan,
   FindsVerdict,
   JudgesText,
@@ -38,12 +39,12 @@ use Rattle.wq_commands.specs.Declaration.{DeclaresNoUnsure, declaration, max_dec
 use Rattle.wq_commands.specs.Found.{AnswersIn}
 use Rattle.wq_commands.specs.Replaying.{AnswersReplay, ReplaysAssigned, ReplaysDeclared, ReplaysRun}
 use Rattle.wq_commands.specs.Shell.{AnswersTexts, HasOneAnswer, HasOneAnswerTo}
-use Rattle.wq_commands.proofs.AnswerLemmas.{Answers-same, declaration-take}
+use Rattle.wq_commands.proofs.AnswerLemmas.{Answers-same, AnswersLongest-same, declaration-take}
 use Rattle.wq_commands.proofs.CheckAnswers.{Checks-unique}
 use Rattle.wq_commands.proofs.InputLemmas.{Checks-take, Judges-take, ReplaysRun-take}
 use Rattle.wq_commands.proofs.JudgeLemmas.{Judges-same_end, Judges-same_out}
 use Rattle.wq_commands.proofs.ReplayAnswers.{ReplaysRun-unique}
-use Rattle.wq_commands.proofs.Uniqueness.{Answers-unique}
+use Rattle.wq_commands.proofs.Uniqueness.{Answers-unique, AnswersLongest-unique}
 
 -- ---- a text behind the declaration
 
@@ -131,6 +132,14 @@ module _ (texts : Given) (end : End) (out : List ℕ) where
       (AnswersTexts-match (λ s _ f e o. FindsPlan s f e o) AnswersDeclared (kept one_text texts) found end out
       (λ s f h. h.1) h)
 
+  pub longest-kept : (found : Result End Refusal)
+      → AnswersTexts (λ s _ f e o. FindsLongest s f e o) (kept one_text texts) found end out
+      → AnswersLongest texts.first end out
+  longest-kept found h =
+      AnswersLongest-same (take (max_declaration + 1) texts.first) texts.first end out (declaration-take texts.first)
+      (AnswersTexts-match (λ s _ f e o. FindsLongest s f e o) LongestDeclared (kept one_text texts) found end out
+      (λ s f h. h.1) h)
+
   pub check-kept : (found : Result (Found (Result Yes No)) Refusal)
       → AnswersTexts (λ s t f e o. ChecksText s t.second f e o) (kept two_texts texts) found end out
       → Checks texts.first texts.second end out
@@ -168,6 +177,14 @@ plan-unique s texts found again end other out printed is one two =
     Answers-unique texts.first end other out printed
     (of_declared (λ s. AnswersDeclared s end out) (λ r. PrintsRefusal r end out) (declaration texts.first) s is one.1)
     (of_declared (λ s. AnswersDeclared s other printed) (λ r. PrintsRefusal r other printed) (declaration texts.first) s
+    is
+    two.1)
+
+pub longest-unique : HasOneAnswer (λ s _ found end out. FindsLongest s found end out)
+longest-unique s texts found again end other out printed is one two =
+    AnswersLongest-unique texts.first end other out printed
+    (of_declared (λ s. LongestDeclared s end out) (λ r. PrintsRefusal r end out) (declaration texts.first) s is one.1)
+    (of_declared (λ s. LongestDeclared s other printed) (λ r. PrintsRefusal r other printed) (declaration texts.first) s
     is
     two.1)
 

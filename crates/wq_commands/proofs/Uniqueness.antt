@@ -19,8 +19,12 @@ use Rattle.wq_groups.specs.DeclaredGroups.{declared_waits, Declared}
 use Rattle.wq_commands.specs.Answer.{
   Answers,
   AnswersDeclared,
+  AnswersLongest,
+  LongestDeclared,
+  PrintsLongest,
   PrintsPlan,
   PrintsCircle,
+  longest_text,
   refusal_text,
   text_of_plan,
   text_of_circle,
@@ -78,4 +82,36 @@ answers_unique (Err r) end other out printed sound one two = (one.0 ∙ sym two.
 pub Answers-unique : (text : List ℕ) (end other : End) (out printed : List ℕ) → Answers text end out → Answers text
     other printed → (end ≡ other) × (out ≡ printed)
 Answers-unique text end other out printed = answers_unique (declaration text) end other out printed
+    (IsSound-declaration text)
+
+-- so is the number of ranks
+PrintsLongest-unique : (s : Declared) (out printed : List ℕ) → PrintsLongest s out → PrintsLongest s printed
+    → out ≡ printed
+PrintsLongest-unique s out printed one two = one.text ∙ ap (λ (a : Assignment). longest_text a.lanes)
+    (IsPlan-unique (declared_waits s) one.assignment two.assignment one.plan two.plan) ∙ sym two.text
+
+LongestDeclared-unique : (s : Declared) (end other : End) (out printed : List ℕ) → IsSound s
+    → LongestDeclared s end out → LongestDeclared s other printed → (end ≡ other) × (out ≡ printed)
+LongestDeclared-unique s Good Good out printed sound one two = (refl, PrintsLongest-unique s out printed one two)
+LongestDeclared-unique s Good Bad out printed sound one two = absurd
+    (not_both s one.assignment two.circle sound one.plan two.walked)
+LongestDeclared-unique s Good Refused out printed sound one two = absurd two
+LongestDeclared-unique s Bad Good out printed sound one two = absurd
+    (not_both s two.assignment one.circle sound two.plan one.walked)
+LongestDeclared-unique s Bad Bad out printed sound one two = (refl, PrintsCircle-unique s out printed sound one two)
+LongestDeclared-unique s Bad Refused out printed sound one two = absurd two
+LongestDeclared-unique s Refused other out printed sound one two = absurd one
+
+longest_unique : (declared : Result Declared Refusal) (end other : End) (out printed : List ℕ) →
+    ((s : Declared) → declared ≡ Ok s → IsSound s)
+    → MatchResult declared (λ s. LongestDeclared s end out) (λ r. (end ≡ Refused) × (out ≡ refusal_text r))
+    → MatchResult declared (λ s. LongestDeclared s other printed) (λ r. (other ≡ Refused) × (printed ≡ refusal_text r))
+    → (end ≡ other) × (out ≡ printed)
+longest_unique (Ok s) end other out printed sound one two = LongestDeclared-unique s end other out printed
+    (sound s refl) one two
+longest_unique (Err r) end other out printed sound one two = (one.0 ∙ sym two.0, one.1 ∙ sym two.1)
+
+pub AnswersLongest-unique : (text : List ℕ) (end other : End) (out printed : List ℕ) → AnswersLongest text end out → AnswersLongest text
+    other printed → (end ≡ other) × (out ≡ printed)
+AnswersLongest-unique text end other out printed = longest_unique (declaration text) end other out printed
     (IsSound-declaration text)

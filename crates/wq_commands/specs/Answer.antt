@@ -54,6 +54,27 @@ pub record PrintsCircle (s : Declared) (out : List ℕ) : Type 0 where
   pub is_run : IsCircleRun (wiring (declared_waits s) (own_lanes s.partition.groups)) circle steps
   pub text : out ≡ text_of_circle s circle steps
 
+-- `longest N`
+abbrev pub longest_text : ℕ → List ℕ
+longest_text n = line_text (codes "longest" ∷ decimal n ∷ [])
+
+-- how many workqueues a plan has is printed: as many as there are ranks of groups
+pub record PrintsLongest (s : Declared) (out : List ℕ) : Type 0 where
+  pub assignment : Assignment
+  pub plan : IsPlan (declared_waits s) assignment
+  pub text : out ≡ longest_text assignment.lanes
+
+-- the answer of `longest` to a declaration: how many ranks its groups have, or the circle in which they wait
+abbrev pub LongestDeclared : Declared → End → List ℕ → Type 0
+LongestDeclared s Good out = PrintsLongest s out
+LongestDeclared s Bad out = PrintsCircle s out
+LongestDeclared s Refused out = ⊥
+
+-- the answer of `longest` to a text: the answer to what it declares, or its refusal
+abbrev pub AnswersLongest : List ℕ → End → List ℕ → Type 0
+AnswersLongest text end out =
+    MatchResult (declaration text) (λ s. LongestDeclared s end out) (λ r. PrintsRefusal r end out)
+
 -- the answer to a declaration: its plan, or the circle in which its groups wait
 abbrev pub AnswersDeclared : Declared → End → List ℕ → Type 0
 AnswersDeclared s Good out = PrintsPlan s out

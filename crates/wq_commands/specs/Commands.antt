@@ -19,7 +19,7 @@ use Rattle.wq_commands.specs.declared.found.Found.TheVariants.{Read}
 use Rattle.wq_commands.specs.declared.found.Which.TheVariants.{Certificate as SecondText, Run}
 use Rattle.wq_commands.specs.declared.replaying.Replayed.{Replayed}
 use Rattle.wq_groups.specs.DeclaredGroups.{declared_waits, Declared}
-use Rattle.wq_commands.specs.Answer.{AnswersDeclared}
+use Rattle.wq_commands.specs.Answer.{AnswersDeclared, LongestDeclared}
 use Rattle.wq_commands.specs.Checking.{PrintsCheck}
 use Rattle.wq_commands.specs.Deadlocking.{JudgesBy}
 use Rattle.wq_commands.specs.Declaration.{max_declaration}
@@ -50,6 +50,10 @@ one_or_two_texts false = one_text
 -- `plan`: whether there is a plan
 abbrev pub FindsPlan : Declared → End → End → List ℕ → Type 0
 FindsPlan s found end out = (found ≡ end) × AnswersDeclared s end out
+
+-- `longest`: whether the groups have ranks
+abbrev pub FindsLongest : Declared → End → End → List ℕ → Type 0
+FindsLongest s found end out = (found ≡ end) × LongestDeclared s end out
 
 -- the checker's answer to a certificate is found, and printed
 abbrev pub FindsCheck : Declared → Certificate → Found (Result Yes No) → End → List ℕ → Type 0

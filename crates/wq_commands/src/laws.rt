@@ -30,7 +30,7 @@ ghost use Rattle.wq_deadlock.specs.CircleRun.{IsCircleRun};
 ghost use Rattle.wq_deadlock.specs.Judging.{IsHang, bare_waits, rescued_graph};
 ghost use Rattle.wq_deadlock.specs.Verdict.{IsDeadlock};
 ghost use Rattle.wq_groups.specs.DeclaredGroups.{declared_waits, Declared};
-ghost use Rattle.wq_commands.specs.Answer.{Answers, text_of_plan, text_of_circle};
+ghost use Rattle.wq_commands.specs.Answer.{Answers, AnswersLongest, text_of_plan, text_of_circle};
 ghost use Rattle.wq_commands.specs.DeclaredIn.{declared_in, named_of};
 ghost use Rattle.wq_commands.specs.Promise.{KeepsPromise};
 ghost use Rattle.wq_commands.specs.Shown.{ShowsPlan, ShowsCircle, ShowsAnswer};
@@ -41,7 +41,7 @@ ghost use Rattle.wq_commands.specs.YesIsTrue.{YesIsTrue};
 ghost use Rattle.wq_commands.specs.Replaying.{replay_words, ReplaysRun};
 ghost use Rattle.wq_commands.specs.Deadlocking.{Judges, safe_text};
 ghost use Rattle.wq_commands.specs.AllRescued.{JudgesAllRescued, ReplaysAllRescued};
-ghost use Rattle.wq_commands.specs.Commands.{ChecksText, FindsPlan, JudgesText, ReplaysTexts};
+ghost use Rattle.wq_commands.specs.Commands.{ChecksText, FindsLongest, FindsPlan, JudgesText, ReplaysTexts};
 ghost use Rattle.wq_commands.specs.Shell.{AnswersTexts, Call, FindsTexts, HasOneAnswer, IsAnswered, SaysOfTexts};
 ghost use Rattle.wq_commands.specs.Shell.{HasOneAnswerTo};
 ghost use Rattle.wq_commands.specs.declared.deadlocking.Verdict.{Verdict};
@@ -249,11 +249,25 @@ pub fn a_replay_has_an_answer()
     ensures { (text lanes steps : List ℕ) → (end : End) × (out : List ℕ) × ReplaysRun text lanes steps end out }
 {}
 
-/// Each of `plan`, `check`, `deadlock` and `replay` has at most one answer to its texts: one end, and one text that is
+/// A text has one answer of `longest` at most: one end, and one text that is printed.
+pub fn a_longest_has_one_answer()
+    ensures end { (text : List ℕ) (end other : End) (out printed : List ℕ) → AnswersLongest text end out →
+        AnswersLongest text other printed → end ≡ other }
+    ensures out { (text : List ℕ) (end other : End) (out printed : List ℕ) → AnswersLongest text end out →
+        AnswersLongest text other printed → out ≡ printed }
+{}
+
+/// A text has an answer of `longest`.
+pub fn a_longest_has_an_answer()
+    ensures { (text : List ℕ) → (end : End) × (out : List ℕ) × AnswersLongest text end out }
+{}
+
+/// Each of `plan`, `longest`, `check`, `deadlock` and `replay` has at most one answer to its texts: one end, and one text that is
 /// printed; `deadlock` to texts that declare no unsure flush. So `what_is_said_changes_no_answer` can be used of each,
 /// and of `deadlock` with such texts.
 pub fn each_command_has_one_answer<A: Allocator>()
     ensures plan { HasOneAnswer (λ s _ found end out. FindsPlan s found end out) }
+    ensures longest { HasOneAnswer (λ s _ found end out. FindsLongest s found end out) }
     ensures check { HasOneAnswer (λ s texts found end out. ChecksText s texts.second found end out) }
     ensures deadlock { (s : Declared) → has_unsure s.table.waits ≡ false → HasOneAnswerTo s
         (λ s texts (found : Found (Verdict A)) end out. JudgesText s texts.second found end out) }

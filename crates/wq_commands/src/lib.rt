@@ -19,6 +19,7 @@ mod end;
 mod found;
 pub mod laws;
 mod limits;
+mod longest;
 mod named;
 mod plan;
 mod refusal;
@@ -39,6 +40,7 @@ pub use declaration::{MAX_DECLARATION, MAX_DECLARATION_LINE, Stop, read_declarat
 pub use end::End;
 pub use found::{Found, Which};
 pub use limits::{ONE_TEXT, THREE_TEXTS, TWO_TEXTS, one_or_two_texts};
+pub use longest::LongestCommand;
 pub use named::{named_items, refuse_name};
 pub use plan::{PlanCommand, plan_cmd};
 pub use refusal::{TOO_MANY_LANES, refuse};

@@ -28,9 +28,9 @@ names =
     ∷ codes "memory" ∷ codes "thread" ∷ codes "tally" ∷ codes "write"
     ∷ codes "plan" ∷ codes "wq" ∷ codes "order" ∷ codes "chain" ∷ codes "arc" ∷ codes "circle" ∷ codes "run"
     ∷ codes "unsure" ∷ codes "yes" ∷ codes "no" ∷ codes "not lawful" ∷ codes "deadlock" ∷ codes "stuck"
-    ∷ codes "open" ∷ codes "safe" ∷ codes "components" ∷ codes "arc?" ∷ codes "norescuer" ∷ codes "ways"
-    ∷ codes "workqueues" ∷ codes "refused" ∷ codes "fault" ∷ codes "item" ∷ codes "flush" ∷ codes "flushwq"
-    ∷ codes "flush?" ∷ codes "flushwq?" ∷ codes "ordered" ∷ []
+    ∷ codes "open" ∷ codes "safe" ∷ codes "longest" ∷ codes "components" ∷ codes "arc?" ∷ codes "norescuer"
+    ∷ codes "ways" ∷ codes "workqueues" ∷ codes "refused" ∷ codes "fault" ∷ codes "item" ∷ codes "flush"
+    ∷ codes "flushwq" ∷ codes "flush?" ∷ codes "flushwq?" ∷ codes "ordered" ∷ []
 
 -- a row of the table: the number that it explains, if it explains one; the name of the number or of the fault, the word
 -- of an answer, or the directive; its line in a list; and what it means

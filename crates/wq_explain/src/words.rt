@@ -352,6 +352,25 @@ item or a wait is added.
 ",
 );
 
+const LONGEST: Explanation = (
+    None,
+    "longest",
+    "longest answer\n",
+    "\
+`longest N`: of the groups of items, N wait for one another on a longest chain,
+one after another. A plan needs so many workqueues.
+
+The rule: docs/FORMAT.md, \"The command `longest`\"
+
+To see it:
+    printf 'item a\\nitem b\\nflush a b\\n' > decl
+    wqplan longest decl
+
+What to do:
+Ask `wqplan plan` for the chain, and for the workqueue of each item.
+",
+);
+
 const COMPONENTS: Explanation = (
     None,
     "components",
@@ -626,7 +645,7 @@ at once. An assignment doesn't say which workqueues are ordered.
 );
 
 /// The explanations of the words of answers and of the directives, in the order of docs/FORMAT.md.
-pub static WORDS: [Explanation; 28] = [
+pub static WORDS: [Explanation; 29] = [
     PLAN,
     WQ,
     ORDER,
@@ -642,6 +661,7 @@ pub static WORDS: [Explanation; 28] = [
     STUCK,
     OPEN,
     SAFE,
+    LONGEST,
     COMPONENTS,
     ARC_UNSURE,
     NORESCUER,

@@ -77,6 +77,13 @@ abbrev pub SaysPlan : List ℕ → Declared → End → Option (List ℕ) → Ty
 SaysPlan first s Bad said = GivesReasonOfGroups first s said
 SaysPlan first s end said = NotesPlan first s said
 
+-- ---- `longest`
+
+-- beside a circle, how its groups can hang on any workqueues; else what is said of a declaration without an item
+abbrev pub SaysLongest : List ℕ → Declared → End → Option (List ℕ) → Type 0
+SaysLongest first s Bad said = GivesReasonOfGroups first s said
+SaysLongest first s end said = NotesNoItem first s said
+
 -- ---- `check`
 
 -- the diagnosis of a plan with a flush that doesn't fall, and behind it how its workqueues can hang, if they can

@@ -19,6 +19,7 @@ mod flush_lines;
 mod groups;
 mod held;
 mod lead;
+mod longest;
 mod note;
 mod plan;
 mod reason;

@@ -390,6 +390,12 @@ module _ (name : Text) where
     tt,
   )
 
+  reads_one : (a : Text) → is_no_option a ≡ true
+      → Reads name file_forms.One tail_forms.Nothing (One a) nothing (a ∷ [])
+  unfolding clap_on_literals
+  reads_one a p =
+      rw (bytes_eq-no_option a p, long_of-no_option a p, short_of-no_option a p) (refl, refl, refl, tt)
+
   reads_no_helpers : (a : Text) → is_no_option a ≡ true
       → Reads name file_forms.One tail_forms.Helpers (One a) (helpers 0) (a ∷ [])
   unfolding clap_on_literals
@@ -463,6 +469,7 @@ module _ (P : Behind → List Text → Type 0) where
 abbrev is_form : FileForm → TailForm → Bool
 is_form file_forms.Nothing tail_forms.Word = true
 is_form file_forms.Input tail_forms.Nothing = true
+is_form file_forms.One tail_forms.Nothing = true
 is_form file_forms.One tail_forms.Helpers = true
 is_form (file_forms.Two kind) tail_forms.Nothing = true
 is_form (file_forms.Two kind) tail_forms.Names = true
@@ -495,6 +502,10 @@ read name file_forms.Input tail_forms.Nothing (Two a b) behind rest form fit fol
     (λ plain. let more = first_plain a (b ∷ []) plain in
     reads_fixed name a b more.0 (first_plain b [] more.1).0)
 read name file_forms.Input tail_forms.Nothing _ behind rest form fit follow spell = absurd fit
+read name file_forms.One tail_forms.Nothing (One a) behind rest form fit follow spell =
+    with_nothing (ReadsBehind name file_forms.One tail_forms.Nothing (One a)) behind rest spell
+    (λ plain. reads_one name a (first_plain a [] plain).0)
+read name file_forms.One tail_forms.Nothing _ behind rest form fit follow spell = absurd fit
 read name file_forms.One tail_forms.Helpers (One a) behind rest form fit follow spell =
     with_helpers (ReadsBehind name file_forms.One tail_forms.Helpers (One a)) behind rest spell
     (λ plain. reads_no_helpers name a (first_plain a [] plain).0)

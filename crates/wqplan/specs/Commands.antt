@@ -10,11 +10,11 @@ use Rattle.wqplan.specs.declared.command_line.TailForm.{TailForm}
 use Rattle.wqplan.specs.declared.command_line.TailForm.TheVariants as tails
 use Rattle.wqplan.specs.declared.commands.Verb.{Verb}
 use Rattle.wqplan.specs.declared.commands.Verb.TheVariants.{Plan, Check, Deadlock, Hang, Repair, Replay, Circles, Dot}
-use Rattle.wqplan.specs.declared.commands.Verb.TheVariants.{Run, Explain}
+use Rattle.wqplan.specs.declared.commands.Verb.TheVariants.{Longest, Run, Explain}
 
 -- all commands, in their order
 abbrev pub verbs : List Verb
-verbs = Plan ∷ Check ∷ Deadlock ∷ Hang ∷ Repair ∷ Replay ∷ Circles ∷ Dot ∷ Run ∷ Explain ∷ []
+verbs = Plan ∷ Check ∷ Deadlock ∷ Hang ∷ Repair ∷ Replay ∷ Circles ∷ Dot ∷ Longest ∷ Run ∷ Explain ∷ []
 
 -- the word by which a command is called
 abbrev pub command_name : Verb → Text
@@ -26,6 +26,7 @@ command_name Repair = codes "repair"
 command_name Replay = codes "replay"
 command_name Circles = codes "circles"
 command_name Dot = codes "dot"
+command_name Longest = codes "longest"
 command_name Run = codes "run"
 command_name Explain = codes "explain"
 
@@ -43,6 +44,7 @@ file_form Repair = files.Two Assignment
 file_form Replay = files.Three
 file_form Circles = files.OneOrTwo
 file_form Dot = files.OneOrTwo
+file_form Longest = files.One
 file_form Run = files.One
 file_form Explain = files.Nothing
 
@@ -56,5 +58,6 @@ tail_form Repair = tails.Names
 tail_form Replay = tails.Names
 tail_form Circles = tails.Names
 tail_form Dot = tails.Nothing
+tail_form Longest = tails.Nothing
 tail_form Run = tails.Helpers
 tail_form Explain = tails.Word

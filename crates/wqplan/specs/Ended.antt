@@ -8,7 +8,7 @@ use Rattle.wq_meter.specs.Shell.{Given}
 use Rattle.wq_meter.specs.declared.texts.Limits.{Limits}
 use Rattle.wq_commands.specs.Commands.{one_or_two_texts, one_text, three_texts, two_texts}
 use Rattle.wq_commands.specs.declared.end.End.{End}
-use Rattle.wq_commands.specs.Answer.{Answers}
+use Rattle.wq_commands.specs.Answer.{Answers, AnswersLongest}
 use Rattle.wq_commands.specs.Checking.{Checks}
 use Rattle.wq_commands.specs.Deadlocking.{Judges}
 use Rattle.wq_around_command.specs.Checking.{ChecksAround}
@@ -31,7 +31,7 @@ use Rattle.wqplan.specs.declared.command_line.Files.TheVariants.{One, Three, Unn
 use Rattle.wqplan.specs.declared.commands.Verb.{Verb}
 use Rattle.wqplan.specs.declared.commands.Verb.TheVariants.{Plan, Check, Deadlock, Hang, Repair, Replay}
 use Rattle.wqplan.specs.declared.commands.Verb.TheVariants.{Circles as CirclesVerb}
-use Rattle.wqplan.specs.declared.commands.Verb.TheVariants.{Dot, Run, Explain}
+use Rattle.wqplan.specs.declared.commands.Verb.TheVariants.{Dot, Longest, Run, Explain}
 use Rattle.wqplan.specs.CommandLine.{Asked, Behind, helpers_asked, names_asked, word_asked}
 use Rattle.wqplan.specs.Files.{HaveTexts}
 use Rattle.wqplan.specs.Status.{explain_end}
@@ -71,6 +71,7 @@ limits_of Repair files = two_texts
 limits_of Replay files = three_texts
 limits_of CirclesVerb files = one_or_two_texts (has_second files)
 limits_of Dot files = one_or_two_texts (has_second files)
+limits_of Longest files = one_text
 limits_of Run files = one_text
 limits_of Explain files = one_text
 
@@ -119,6 +120,7 @@ EndsOn Repair files behind texts end out = Repairs (names_asked behind) texts.fi
 EndsOn Replay files behind texts end out = EndsReplay (names_asked behind) texts end out
 EndsOn CirclesVerb files behind texts end out = EndsCircles (has_second files) (names_asked behind) texts end out
 EndsOn Dot files behind texts end out = AnswersDot (has_second files) texts end out
+EndsOn Longest files behind texts end out = AnswersLongest texts.first end out
 EndsOn Run files behind texts end out = RunsPlan (helpers_asked behind) texts.first end out
 EndsOn Explain files behind texts end out = EndsExplain (word_asked behind) end out
 

@@ -6,7 +6,7 @@ use Rattle.clap.specs.Words.{Text}
 use Rattle.wq_text.specs.Refusal.{Refusal}
 use Rattle.wq_meter.specs.Shell.{Given, kept}
 use Rattle.wq_commands.specs.declared.end.End.{End}
-use Rattle.wq_commands.specs.Commands.{ChecksText, FindsPlan, JudgesText, ReplaysTexts}
+use Rattle.wq_commands.specs.Commands.{ChecksText, FindsLongest, FindsPlan, JudgesText, ReplaysTexts}
 use Rattle.wq_commands.specs.ReplayingFor.{ReplaysTextsFor}
 use Rattle.wq_groups.specs.DeclaredGroups.{Declared}
 use Rattle.wq_commands.specs.Shell.{AnswersTexts, SaysOfTexts}
@@ -26,13 +26,13 @@ use Rattle.wq_changes.specs.Voice.{SaysRepair}
 use Rattle.wq_run.specs.Running.{FindsRun, SaysRun}
 use Rattle.wq_diagnosis.specs.Refused.{Diagnoses}
 use Rattle.wq_voice.specs.declared.file_names.FileNames.{FileNames}
-use Rattle.wq_voice.specs.Voice.{SaysCheck, SaysCirclesOf, SaysEndOf, SaysPlan, SaysVerdictOf}
+use Rattle.wq_voice.specs.Voice.{SaysCheck, SaysCirclesOf, SaysEndOf, SaysLongest, SaysPlan, SaysVerdictOf}
 use Rattle.wq_voice.specs.VoiceFor.{SaysCirclesOfFor, SaysEndOfFor}
 use Rattle.wqplan.specs.declared.command_line.Files.{Files}
 use Rattle.wqplan.specs.declared.command_line.Files.TheVariants.{One, Three, Two, Unnamed}
 use Rattle.wqplan.specs.declared.commands.Verb.{Verb}
 use Rattle.wqplan.specs.declared.commands.Verb.TheVariants.{Plan, Check, Deadlock, Hang, Repair, Replay, Circles, Dot}
-use Rattle.wqplan.specs.declared.commands.Verb.TheVariants.{Run, Explain}
+use Rattle.wqplan.specs.declared.commands.Verb.TheVariants.{Longest, Run, Explain}
 use Rattle.wqplan.specs.CommandLine.{Asked, Behind, helpers_asked, names_asked}
 use Rattle.wqplan.specs.Ended.{EndsOn, HasTexts, has_second, has_third, limits_of}
 
@@ -135,6 +135,8 @@ SaysOn A n Circles files behind = SaysCirclesNamed A n (has_second files) (names
 SaysOn A n Dot files behind = IsSaidOf n.declaration
     (λ s t found end out. DrawsTexts {A = A} (has_second files) s t found end out)
     (λ s t found said. SaysDot n.declaration n.second n.run s found said)
+SaysOn A n Longest files behind = IsSaidOf n.declaration (λ s _ found end out. FindsLongest s found end out)
+    (λ s _ end said. SaysLongest n.declaration s end said)
 SaysOn A n Run files behind = IsSaidOf n.declaration
     (λ s _ found end out. FindsRun (helpers_asked behind) s found end out)
     (λ s _ end said. SaysRun n.declaration s end said)

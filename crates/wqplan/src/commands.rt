@@ -19,12 +19,13 @@ pub(crate) enum Verb {
     Replay,
     Circles,
     Dot,
+    Longest,
     Run,
     Explain,
 }
 
 /// All commands, in the order in which help lists them.
-pub(crate) const VERBS: [Verb; 10] = [
+pub(crate) const VERBS: [Verb; 11] = [
     Verb::Plan,
     Verb::Check,
     Verb::Deadlock,
@@ -33,6 +34,7 @@ pub(crate) const VERBS: [Verb; 10] = [
     Verb::Replay,
     Verb::Circles,
     Verb::Dot,
+    Verb::Longest,
     Verb::Run,
     Verb::Explain,
 ];
@@ -51,6 +53,7 @@ impl Verb {
             Verb::Replay => "replay",
             Verb::Circles => "circles",
             Verb::Dot => "dot",
+            Verb::Longest => "longest",
             Verb::Run => "run",
             Verb::Explain => "explain",
         }
@@ -78,7 +81,7 @@ impl Verb {
             Verb::Deadlock | Verb::Hang | Verb::Repair => FileForm::Two(Second::Assignment),
             Verb::Replay => FileForm::Three,
             Verb::Circles | Verb::Dot => FileForm::OneOrTwo,
-            Verb::Run => FileForm::One,
+            Verb::Longest | Verb::Run => FileForm::One,
             Verb::Explain => FileForm::Nothing,
         }
     }
@@ -88,7 +91,9 @@ impl Verb {
         ensures { result ≡ tail_form self }
     {
         match self {
-            Verb::Plan | Verb::Check | Verb::Deadlock | Verb::Dot => TailForm::Nothing,
+            Verb::Plan | Verb::Check | Verb::Deadlock | Verb::Dot | Verb::Longest => {
+                TailForm::Nothing
+            }
             Verb::Hang | Verb::Repair | Verb::Replay | Verb::Circles => TailForm::Names,
             Verb::Run => TailForm::Helpers,
             Verb::Explain => TailForm::Word,
@@ -106,6 +111,7 @@ impl Verb {
             Verb::Replay => "Reads a declaration, an assignment and a run, prints how it ends",
             Verb::Circles => "Reads a declaration, prints all flushes that can hang, or `safe`",
             Verb::Dot => "Reads a declaration, prints a drawing of it for Graphviz",
+            Verb::Longest => "Reads a declaration, prints how many ranks its groups have",
             Verb::Run => "Reads a declaration, runs its plan in threads, prints what happened",
             Verb::Explain => "Prints what a refusal, a fault or an answer means, and what to do",
         }
@@ -120,6 +126,7 @@ impl Verb {
             | Verb::Hang
             | Verb::Repair
             | Verb::Replay
+            | Verb::Longest
             | Verb::Run
             | Verb::Explain => help::ASSIGN,
             Verb::Circles => "As for `deadlock`. Without it each group has its own workqueue",
@@ -135,6 +142,7 @@ impl Verb {
             | Verb::Deadlock
             | Verb::Repair
             | Verb::Dot
+            | Verb::Longest
             | Verb::Run
             | Verb::Explain => help::NAME,
             Verb::Hang => "An item that must go on: can one of them be held up?",
@@ -154,6 +162,7 @@ impl Verb {
             Verb::Replay => statuses::REPLAY,
             Verb::Circles => statuses::CIRCLES,
             Verb::Dot => statuses::DOT,
+            Verb::Longest => statuses::LONGEST,
             Verb::Run => statuses::RUN,
             Verb::Explain => statuses::EXPLAIN,
         }

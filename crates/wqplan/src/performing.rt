@@ -37,8 +37,8 @@ use wq_around_command::{CheckAroundCommand, PlanAroundCommand};
 use wq_changes::RepairVoice;
 use wq_circles::{CirclesCommand, CirclesForCommand};
 use wq_commands::{
-    CheckCommand, Command, DeadlockCommand, End, PlanCommand, ReplayCommand, ReplayForCommand,
-    Voice, carry_out,
+    CheckCommand, Command, DeadlockCommand, End, LongestCommand, PlanCommand, ReplayCommand,
+    ReplayForCommand, Voice, carry_out,
 };
 use wq_dot::DotCommand;
 use wq_explain::{Explained, explain_cmd};
@@ -633,6 +633,17 @@ fn carry_out_seeded<'a, O: World<'a>, R: Threads + Wait + Sync, I: Read, W: Writ
                 world, alloc, seed, &command, &names, files, input, writer, teller,
             )
         }
+        Verb::Longest => carry_out_files(
+            world,
+            alloc,
+            seed,
+            &LongestCommand,
+            &names,
+            files,
+            input,
+            writer,
+            teller,
+        ),
         Verb::Run => {
             let command = RunCommand {
                 helpers: request.tail.helpers(),

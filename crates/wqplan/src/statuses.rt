@@ -5,8 +5,8 @@
 pub(crate) const PROGRAM: &str = "\
 `wqplan COMMAND --help` has those of one command. Exit status:
   0    the answer is a plan, `yes ..`, `safe`, an assignment, `open`, a drawing,
-       `workqueues ..`, an explanation or the titles of all; or help or the
-       version was printed
+       `longest N`, `workqueues ..`, an explanation or the titles of all; or
+       help or the version was printed
   1    the answer is a circle, a norescuer text, `no ..`, a run that deadlocks,
        a run that ends stuck, `deadlock`, `stuck`, `not lawful N` or
        `components ..`
@@ -122,6 +122,20 @@ number and word.";
 pub(crate) const DOT: &str = "\
 Exit status:
   0    the answer is a drawing
+  2    the answer is `refused CODE line N`: a text isn't of its form; or the
+       command line is wrong, and standard error says how
+  3    a fault: the last line of standard error is `fault memory`, `fault read`
+       or `fault write`
+  141  nobody reads standard output any more
+
+docs/FORMAT.md describes the texts and the answers, `wqplan explain CODE` each
+number and word.";
+
+/// Of `longest`.
+pub(crate) const LONGEST: &str = "\
+Exit status:
+  0    the answer is `longest N`
+  1    the answer is a circle
   2    the answer is `refused CODE line N`: a text isn't of its form; or the
        command line is wrong, and standard error says how
   3    a fault: the last line of standard error is `fault memory`, `fault read`

@@ -7,11 +7,11 @@ use Rattle.std.specs.declared.alloc.Global.{Global}
 use Rattle.wq_meter.specs.Input.{HasFailed, IsInput}
 use Rattle.wq_meter.specs.Meter.{WritesWhole}
 use Rattle.wq_meter.specs.Shell.{Tells, kept}
-use Rattle.wq_commands.specs.Commands.{JudgesText, one_or_two_texts}
+use Rattle.wq_commands.specs.Commands.{FindsLongest, JudgesText, one_or_two_texts, one_text}
 use Rattle.wq_commands.specs.Commands.{two_texts}
 use Rattle.wq_commands.specs.declared.deadlocking.Verdict.{Verdict}
 use Rattle.wq_commands.specs.declared.found.Found.{Found}
-use Rattle.wq_commands.proofs.FoundLemmas.{deadlock-kept}
+use Rattle.wq_commands.proofs.FoundLemmas.{deadlock-kept, longest-kept}
 use Rattle.wq_dot.specs.Dotting.{AnswersDot, DrawsTexts}
 use Rattle.wq_dot.specs.Saying.{SaysDot}
 use Rattle.wq_dot.proofs.Found.{dot-kept}
@@ -19,13 +19,13 @@ use Rattle.wq_repair_command.specs.Repairing.{Repairs, RepairsText}
 use Rattle.wq_repair_command.specs.declared.repairing.Repairing.{Repairing}
 use Rattle.wq_repair_command.proofs.Taking.{Repairs-kept}
 use Rattle.wq_changes.specs.Voice.{SaysRepair}
-use Rattle.wq_voice.specs.Voice.{SaysVerdictOf}
+use Rattle.wq_voice.specs.Voice.{SaysLongest, SaysVerdictOf}
 use Rattle.wqplan.specs.Cause.{EndsReady, IsCaused, MayFail, ReadsBy, TakesInput}
 use Rattle.wqplan.specs.CommandLine.{listed, named_asked, paths, tail_spelled}
 use Rattle.wqplan.specs.Ended.{EndedBy, EndsAsAsked, EndsExplain, Has, has_second}
 use Rattle.wqplan.specs.Files.{HaveTexts}
 use Rattle.wqplan.specs.Told.{IsSaidOf, IsToldAsAsked, names_given, names_of_files}
-use Rattle.wqplan.specs.declared.commands.Verb.TheVariants.{Circles, Deadlock, Dot, Hang, Repair, Replay}
+use Rattle.wqplan.specs.declared.commands.Verb.TheVariants.{Circles, Deadlock, Dot, Hang, Longest, Repair, Replay}
 use Rattle.wqplan.proofs.AskedLemmas.{ended_as, explain_ended, explain_told, few_helpers, first_limit, told_as}
 use Rattle.wqplan.proofs.NamedLemmas.{check_told, circles_told, hang_told, plan_told, replay_told}
 use Rattle.wqplan.proofs.RunLemmas.{asked_ended, asked_told}
@@ -430,6 +430,52 @@ returns-in-Dot-clause-input g c =
     (subst (λ n. TakesInput g.I.Read.remaining c.args.input.now on.new.input n files)
     (first_limit c.has_second.result)
     on.ensures.input)
+
+pub returns-in-Longest-clause-ended : goal.returns-in-Longest-clause-ended
+returns-in-Longest-clause-ended g c =
+    let H = Has (g.O.World.opens c.args.world.now) g.O.File.Read.remaining in
+    let I = IsInput (g.I.Read.remaining c.args.input.now.device) in
+    let files = paths c.args.request.files in
+    let behind = tail_spelled c.args.request.tail in
+    let on = c.carry_out_files-in-Longest in
+    ended_as H I Longest files behind one_text (λ s _ f e o. FindsLongest s f e o)
+    (λ t h. h)
+    (λ t found end out h. longest-kept t end out found h)
+    g.W.Write.contents c.args.writer.now on.new.writer c.args.request.verb c.in-Longest.is on.result on.ensures.ended
+
+pub returns-in-Longest-clause-told : goal.returns-in-Longest-clause-told
+returns-in-Longest-clause-told g c =
+    let H = Has (g.O.World.opens c.args.world.now) g.O.File.Read.remaining in
+    let I = IsInput (g.I.Read.remaining c.args.input.now.device) in
+    let files = paths c.args.request.files in
+    let behind = tail_spelled c.args.request.tail in
+    let on = c.carry_out_files-in-Longest in
+    told_as H I Longest files behind one_text (λ s _ f e o. FindsLongest s f e o)
+    (λ t h. h)
+    (λ t found end out h. longest-kept t end out found h)
+    g.W.Write.contents c.args.writer.now on.new.writer c.args.request.verb c.in-Longest.is on.result Global
+    (λ n s _ f said. SaysLongest n.declaration s f said)
+    (λ t end out said h. h)
+    (names_given c.names_of-names.result) c.names_of-names.ensures g.E.Write.contents c.args.teller.now
+    on.new.teller on.ensures.told
+
+pub returns-in-Longest-clause-caused : goal.returns-in-Longest-clause-caused
+returns-in-Longest-clause-caused g c =
+    let files = paths c.args.request.files in
+    let behind = tail_spelled c.args.request.tail in
+    let on = c.carry_out_files-in-Longest in
+    let Failed = HasFailed c.args.input.now on.new.input in
+    subst
+    (λ v. IsCaused (g.O.World.seeds c.args.world.now) (g.O.World.opens c.args.world.now) Failed
+    (record { verb = v; files = files; behind = behind }) on.result) (sym c.in-Longest.is)
+    on.ensures.caused
+
+pub returns-in-Longest-clause-input : goal.returns-in-Longest-clause-input
+returns-in-Longest-clause-input g c =
+    let files = paths c.args.request.files in
+    let on = c.carry_out_files-in-Longest in
+    subst (λ v. ReadsBy g.I.Read.remaining c.args.input.now on.new.input v files) (sym c.in-Longest.is)
+    on.ensures.input
 
 pub returns-in-Run-clause-ended : goal.returns-in-Run-clause-ended
 returns-in-Run-clause-ended g c =
