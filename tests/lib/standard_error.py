@@ -34,7 +34,7 @@ NO = re.compile(rb"(no) ([0-9]+)(?: [^\n]*)?\n")
 
 NUMBER = rb"[1-9][0-9]*"
 # Answers that only a declaration without an item has, and answers that others have, too.
-NO_ITEM = re.compile(rb"plan 0\nchain 0\n|yes 0\n|workqueues 0\nfaults 0\n")
+NO_ITEM = re.compile(rb"plan 0\nchain 0\n|yes 0\n|workqueues 0\nfaults 0\n|longest 0\n")
 MAY_BE_NO_ITEM = re.compile(rb"safe\n|open\n|plan 0\norder[ 0-9]*\nchain 0\n|digraph [^\0]*|(?:(?:wq|norescuer) [0-9]+(?:  # [ -~]+)?\n)*")
 # The line that is meant, and below it the marks, with the hint if there is one; and where there is none.
 MARKED = rb"    [ -~]+\n {4,}\^+(?: [ -~]+)?\n"

@@ -233,7 +233,7 @@ def case_of(command, files, texts, printed):
     elif command == "plan" and len(texts) == 2:
         case = Case(files, texts, declared, around.start_of(declared, around.read_fixed(texts[1], declared)))
     elif len(texts) == 1:
-        front = FRONT_OF_PLAN if command == "plan" else FRONT
+        front = FRONT_OF_PLAN if command in ("plan", "longest") else FRONT
         case = Case(files, texts, declared, circles.own_workqueues(declared), True, front)
     else:
         case = Case(files, texts, declared, certificate.read_assignment(texts[1], declared))
@@ -243,7 +243,7 @@ def case_of(command, files, texts, printed):
 # Of each command the first words of the answers beside which reasons are said. A plan to which `check` says no may be safe.
 BESIDE = {
     ("deadlock", b"run"), ("hang", b"run"), ("deadlock", b"unsure"), ("hang", b"unsure"), ("replay", b"deadlock"), ("replay", b"stuck"), ("check", b"no"),
-    ("circles", b"components"), ("plan", b"circle"), ("plan", b"norescuer"),
+    ("circles", b"components"), ("plan", b"circle"), ("plan", b"norescuer"), ("longest", b"circle"),
 }
 
 

@@ -17,6 +17,7 @@ import deadlock
 import dot
 import drawn
 import hang
+import longest
 import make_certificates
 import notes
 import plan
@@ -435,6 +436,14 @@ def look_at_running(text):
            "each item is on its workqueue")
     demand([row[1] for row in rows] == list(read_declaration(text).items), "in declared order")
     demand(deadlock.answer(text, wqs_text(wqs)) == (b"safe\n", 0), "what is run is safe")
+
+
+def look_at_longest(text):
+    """There are as many ranks as the plan has workqueues, and else the answer is what plan prints."""
+    printed, status = longest.answer(text)
+    planned, other = plan.answer(text)
+    wanted = b"longest %s\n" % planned.split()[1] if other == 0 else planned
+    demand((printed, status) == (wanted, other), "a rank is a workqueue of the plan")
 
 
 def look_at_refusal(answer, text, told):
@@ -1143,6 +1152,7 @@ def look_at_repair(*texts):
 LAWS = {
     "plan": look_at_plan, "check": look_at_check, "replay": look_at_replay, "deadlock": look_at_deadlock,
     "hang": look_at_hang, "repair": look_at_repair, "run": look_at_running, "circles": look_at_circles, "dot": look_at_dot,
+    "longest": look_at_longest,
 }
 
 

@@ -6,6 +6,7 @@ mod circles;
 mod deadlocks;
 mod drawings;
 mod hangs;
+mod longests;
 mod plans;
 mod repairs;
 mod replays;
@@ -15,6 +16,7 @@ use crate::command::circles::CIRCLES;
 use crate::command::deadlocks::DEADLOCKS;
 use crate::command::drawings::DRAWINGS;
 use crate::command::hangs::HANGS;
+use crate::command::longests::LONGESTS;
 use crate::command::plans::PLANS;
 use crate::command::repairs::REPAIRS;
 use crate::command::replays::REPLAYS;
@@ -23,8 +25,8 @@ use std::io::{Read, Write};
 use wq_changes::RepairVoice;
 use wq_circles::CirclesCommand;
 use wq_commands::{
-    CheckCommand, DeadlockCommand, End, Fault, Metered, PlanCommand, ReplayCommand, Voice,
-    carry_out,
+    CheckCommand, DeadlockCommand, End, Fault, LongestCommand, Metered, PlanCommand, ReplayCommand,
+    Voice, carry_out,
 };
 use wq_dot::DotCommand;
 use wq_hang_command::HangCommand;
@@ -54,13 +56,17 @@ pub enum PlainCommand {
     Dot,
     /// `dot` of a declaration alone.
     OwnDot,
+    Longest,
 }
 
 impl PlainCommand {
     /// How many texts it has.
     pub fn texts(self) -> usize {
         match self {
-            PlainCommand::Plan | PlainCommand::OwnCircles | PlainCommand::OwnDot => 1,
+            PlainCommand::Plan
+            | PlainCommand::OwnCircles
+            | PlainCommand::OwnDot
+            | PlainCommand::Longest => 1,
             PlainCommand::Check
             | PlainCommand::Deadlock
             | PlainCommand::Hang
@@ -86,6 +92,7 @@ impl PlainCommand {
             PlainCommand::OwnCircles => "circles DECL",
             PlainCommand::Dot => "dot DECL ASSIGN",
             PlainCommand::OwnDot => "dot DECL",
+            PlainCommand::Longest => "longest DECL",
         }
     }
 }
@@ -109,9 +116,9 @@ impl Case {
 
 /// The cases: one of each kind of answer, at least. Each is to be answered so over
 /// any devices, and with any heap that is large enough.
-pub fn cases() -> [&'static [Case]; 8] {
+pub fn cases() -> [&'static [Case]; 9] {
     [
-        PLANS, CHECKS, DEADLOCKS, HANGS, REPAIRS, REPLAYS, CIRCLES, DRAWINGS,
+        PLANS, CHECKS, DEADLOCKS, HANGS, REPAIRS, REPLAYS, CIRCLES, DRAWINGS, LONGESTS,
     ]
 }
 
@@ -203,5 +210,6 @@ pub fn perform<A: Allocator + Copy, R: Read, W: Write, E: Write>(
             let command = DotCommand { assigned };
             carry(alloc, &command, voice, readers, writer, teller)
         }
+        PlainCommand::Longest => carry(alloc, &LongestCommand, voice, readers, writer, teller),
     }
 }

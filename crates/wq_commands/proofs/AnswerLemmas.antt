@@ -209,8 +209,8 @@ Answers-same read text end out same answers =
     subst (λ (d : Result Declared Refusal). MatchResult d (λ s. AnswersDeclared s end out)
     (λ r. (end ≡ Refused) × (out ≡ refusal_text r))) same answers
 
-pub AnswersLongest-same : (read text : List ℕ) (end : End) (out : List ℕ) → declaration read ≡ declaration text → AnswersLongest read
-    end out → AnswersLongest text end out
+pub AnswersLongest-same : (read text : List ℕ) (end : End) (out : List ℕ) → declaration read ≡ declaration text
+    → AnswersLongest read end out → AnswersLongest text end out
 AnswersLongest-same read text end out same answers =
     subst (λ (d : Result Declared Refusal). MatchResult d (λ s. LongestDeclared s end out)
     (λ r. (end ≡ Refused) × (out ≡ refusal_text r))) same answers

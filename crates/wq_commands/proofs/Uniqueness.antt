@@ -111,7 +111,7 @@ longest_unique (Ok s) end other out printed sound one two = LongestDeclared-uniq
     (sound s refl) one two
 longest_unique (Err r) end other out printed sound one two = (one.0 ∙ sym two.0, one.1 ∙ sym two.1)
 
-pub AnswersLongest-unique : (text : List ℕ) (end other : End) (out printed : List ℕ) → AnswersLongest text end out → AnswersLongest text
-    other printed → (end ≡ other) × (out ≡ printed)
+pub AnswersLongest-unique : (text : List ℕ) (end other : End) (out printed : List ℕ) → AnswersLongest text end out
+    → AnswersLongest text other printed → (end ≡ other) × (out ≡ printed)
 AnswersLongest-unique text end other out printed = longest_unique (declaration text) end other out printed
     (IsSound-declaration text)

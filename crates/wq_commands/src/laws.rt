@@ -262,9 +262,9 @@ pub fn a_longest_has_an_answer()
     ensures { (text : List ℕ) → (end : End) × (out : List ℕ) × AnswersLongest text end out }
 {}
 
-/// Each of `plan`, `longest`, `check`, `deadlock` and `replay` has at most one answer to its texts: one end, and one text that is
-/// printed; `deadlock` to texts that declare no unsure flush. So `what_is_said_changes_no_answer` can be used of each,
-/// and of `deadlock` with such texts.
+/// Each of `plan`, `longest`, `check`, `deadlock` and `replay` has at most one answer to its texts: one end, and one
+/// text that is printed; `deadlock` to texts that declare no unsure flush. So `what_is_said_changes_no_answer` can be
+/// used of each, and of `deadlock` with such texts.
 pub fn each_command_has_one_answer<A: Allocator>()
     ensures plan { HasOneAnswer (λ s _ found end out. FindsPlan s found end out) }
     ensures longest { HasOneAnswer (λ s _ found end out. FindsLongest s found end out) }

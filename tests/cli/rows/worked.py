@@ -110,6 +110,7 @@ ROWS = {
         (R, "wq 0 a / norescuer 1 b c", "components 0 / norescuer 1 / arc a b"),
         (RING, RING_WQS, ONE_RING),
     ],
+    "longest": [("", "longest 0"), (R, "longest 3"), (T.replace(" / flush c d", ""), "longest 2"), (S, "circle 1 / arc a a / run 3 / queue a / start 0 a / wait 0 a")],
     "dot": [(W, DRAWN.replace("\n", " / "))],
 }
 TABLES = [(f"worked examples, {command}", command, rows) for command, rows in ROWS.items()]
