@@ -2,7 +2,6 @@
 use Rattle.std.proofs.Common.{ℕ, List, map, Option, Some, None, Result}
 use Rattle.wq_text.specs.Refusal.{Refusal}
 use Rattle.wq_core.specs.Workqueues.{Workqueues}
-use Rattle.wq_cert.specs.Forms.{items_of}
 use Rattle.wq_cert.specs.Texts.{workqueues_of_text}
 use Rattle.wq_meter.specs.Shell.{Given, kept}
 use Rattle.wq_commands.specs.declared.end.End.{End}
@@ -10,7 +9,7 @@ use Rattle.wq_commands.specs.declared.found.Found.{Found}
 use Rattle.wq_commands.specs.declared.found.Which.TheVariants.{Certificate as SecondText}
 use Rattle.wq_groups.specs.DeclaredGroups.{Declared}
 use Rattle.wq_commands.specs.Commands.{two_texts}
-use Rattle.wq_commands.specs.Named.{FindsNamed, IfNamed}
+use Rattle.wq_commands.specs.Named.{items_with_names, FindsNamed, IfNamed}
 use Rattle.wq_commands.specs.Shell.{AnswersTexts}
 use Rattle.wq_commands.proofs.FoundLemmas.{AnswersIn-match, AnswersTexts-match}
 use Rattle.wq_commands.proofs.InputLemmas.{assigned-kept}
@@ -43,9 +42,11 @@ pub CirclesTextFor-declared : {A : Type 0} (s : Declared) (names : List (List �
     → CirclesTextFor s names text found end out → CirclesDeclaredFor s names text end out
 CirclesTextFor-declared {A} s names text found end out =
     AnswersIn-match SecondText (workqueues_of_text s.table.names s.partition text)
-    (λ ws (f : Found (Option (CirclingFor A))). FindsNamed (items_of s.table.names names) (FindsCirclesFor s ws) f)
-    (λ ws. IfNamed (items_of s.table.names names) (CirclesFor s ws)) found end out
-    (λ ws. FindsNamed-answer (items_of s.table.names names) (FindsCirclesFor s ws) (CirclesFor s ws) found end out
+    (λ ws (f : Found (Option (CirclingFor A))). FindsNamed (items_with_names s.table.names names) (FindsCirclesFor s ws)
+    f)
+    (λ ws. IfNamed (items_with_names s.table.names names) (CirclesFor s ws)) found end out
+    (λ ws. FindsNamed-answer (items_with_names s.table.names names) (FindsCirclesFor s ws) (CirclesFor s ws) found end
+    out
     (λ items. FindsCirclesFor-answer s ws items found end out))
 
 -- what is past a limit changes no answer
@@ -55,7 +56,8 @@ pub circles_for-kept : {A : Type 0} (names : List (List ℕ)) (texts : Given)
     (kept two_texts texts) found end out
     → CirclesNamed names texts.first texts.second end out
 circles_for-kept {A} names texts found end out h =
-    assigned-kept end out (λ _ _ s ws. IfNamed (items_of s.table.names names) (CirclesFor s ws) end out) texts.first
+    assigned-kept end out (λ _ _ s ws. IfNamed (items_with_names s.table.names names) (CirclesFor s ws) end out)
+    texts.first
     texts.second
     (AnswersTexts-match (λ s t (f : Found (Option (CirclingFor A))) e o. CirclesTextFor s names t.second f e o)
     (λ s. CirclesDeclaredFor s names (kept two_texts texts).second) (kept two_texts texts) found end out

@@ -22,15 +22,14 @@ use Rattle.wq_hang.specs.declared.hop.Hop.{Hop}
 use Rattle.wq_hang.specs.Walk.{IsHop, IsPath}
 use Rattle.wq_hang.specs.WalkFor.{IsWalkFor}
 use Rattle.wq_hang.proofs.FewestFor.{IsSafeFor-no_walk, run_for_walk}
-use Rattle.wq_cert.specs.Forms.{items_of}
 use Rattle.wq_cert.specs.Texts.{workqueues_of_text, cert_refusal}
 use Rattle.wq_cert.proofs.LanesRead.{AreWorkqueuesOf-workqueues_of_text}
-use Rattle.wq_cert.proofs.NotedLemmas.{below_all}
 use Rattle.wq_commands.specs.declared.end.End.{End}
 use Rattle.wq_commands.specs.declared.end.End.TheVariants.{Good, Bad, Refused}
 use Rattle.wq_commands.specs.Answer.{PrintsRefusal}
 use Rattle.wq_commands.specs.Declaration.{declaration}
-use Rattle.wq_commands.specs.Named.{IfNamed}
+use Rattle.wq_commands.specs.Named.{items_with_names, IfNamed}
+use Rattle.wq_commands.proofs.NamedLemmas.{items_with_names-below}
 use Rattle.wq_commands.proofs.AnswerLemmas.{IsSound, IsSound-declaration, IsDeclaration-sound}
 use Rattle.wq_circles.specs.Flushes.{IsInComponents, IsDeclaredFlush}
 use Rattle.wq_circles.specs.Leading.{Leads}
@@ -300,12 +299,12 @@ module _ (s : Declared) (ws : Workqueues) (declaration : IsDeclaration (declared
 
 module _ (s : Declared) (sound : IsSound s) (ws : Workqueues)
     (assigned : IsAssignmentOf s.partition.groups ws.assignment) (end : End) (out : List ℕ) where
-  by_names : (names : List (List ℕ)) (found : Option (List ℕ)) → items_of s.table.names names ≡ found
+  by_names : (names : List (List ℕ)) (found : Option (List ℕ)) → items_with_names s.table.names names ≡ found
       → IfNamed found (CirclesFor s ws) end out
       → MatchOption found (end ≡ Refused) (λ named. KeepsHeldFlushes s ws named end out)
   by_names names None is refused = refused.0
   by_names names (Some named) is answer =
-      let low = below_all s.table.names names named is in
+      let low = items_with_names-below s.table.names names named is in
       let within : (i : ℕ) → Contains named i → i < length s.partition.group_of = λ i has.
       omega (arith, All-contains (λ (j : ℕ). j < length s.table.names) named i low has, sound.one_group_each) in
       keeps s ws (IsDeclaration-sound s sound) assigned.assignment named answer.components answer.waits answer.ways
@@ -318,12 +317,12 @@ KeepsHeldCircles-answers names declared text end out =
     (λ s. KeepsHeldDeclared s names text end out) (λ r. PrintsRefusal r end out) (λ r. end ≡ Refused)
     (λ s is.
     by_case (workqueues_of_text s.table.names s.partition text)
-    (λ ws. IfNamed (items_of s.table.names names) (CirclesFor s ws) end out)
-    (λ ws. MatchOption (items_of s.table.names names) (end ≡ Refused)
+    (λ ws. IfNamed (items_with_names s.table.names names) (CirclesFor s ws) end out)
+    (λ ws. MatchOption (items_with_names s.table.names names) (end ≡ Refused)
     (λ named. KeepsHeldFlushes s ws named end out)) (λ fault. PrintsRefusal (cert_refusal fault) end out)
     (λ fault. end ≡ Refused)
     (λ ws read. let sound = IsSound-declaration declared s is in
     by_names s sound ws (AreWorkqueuesOf-workqueues_of_text s.table.names s.partition sound.partition
-    (sym sound.one_group_each) text ws read).assignment end out names (items_of s.table.names names) refl)
+    (sym sound.one_group_each) text ws read).assignment end out names (items_with_names s.table.names names) refl)
     (λ fault refused. refused.0))
     (λ r refused. refused.0)

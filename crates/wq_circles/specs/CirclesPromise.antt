@@ -13,13 +13,13 @@ use Rattle.wq_core.specs.Deadlock.{IsSafe, Deadlocks}
 use Rattle.wq_core.specs.MustGoOn.{IsSafeFor}
 use Rattle.wq_core.specs.Readings.{reading}
 use Rattle.wq_circles.specs.Leading.{Leads, AreTogether}
-use Rattle.wq_cert.specs.Forms.{items_of}
 use Rattle.wq_cert.specs.Texts.{workqueues_of_text}
 use Rattle.wq_commands.specs.declared.end.End.{End}
 use Rattle.wq_commands.specs.declared.end.End.TheVariants.{Good, Bad, Refused}
 use Rattle.wq_groups.specs.DeclaredGroups.{declared_waits, Declared}
 use Rattle.wq_commands.specs.Deadlocking.{safe_text}
 use Rattle.wq_commands.specs.Declaration.{declaration}
+use Rattle.wq_commands.specs.Named.{items_with_names}
 use Rattle.wq_circles.specs.ComponentsText.{circles_text}
 use Rattle.wq_circles.specs.HeldText.{held_text}
 use Rattle.wq_circles.specs.Flushes.{HasFlush, IsInComponents, AreInOneComponent, IsDeclaredFlush, IsBefore}
@@ -109,7 +109,8 @@ pub record KeepsHeldFlushes (s : Declared) (ws : Workqueues) (named : List ℕ) 
 abbrev pub KeepsHeldDeclared : Declared → List (List ℕ) → List ℕ → End → List ℕ → Type 0
 KeepsHeldDeclared s names text end out =
     MatchResult (workqueues_of_text s.table.names s.partition text)
-    (λ ws. MatchOption (items_of s.table.names names) (end ≡ Refused) (λ named. KeepsHeldFlushes s ws named end out))
+    (λ ws. MatchOption (items_with_names s.table.names names) (end ≡ Refused)
+    (λ named. KeepsHeldFlushes s ws named end out))
     (λ fault. end ≡ Refused)
 
 -- the same for the texts of a declaration and an assignment

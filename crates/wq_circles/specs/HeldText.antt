@@ -8,7 +8,6 @@ use Rattle.wq_graph.specs.declared.arc.WaitArc.{WaitArc}
 use Rattle.wq_core.specs.Workqueues.{Workqueues}
 use Rattle.wq_deadlock.specs.Judging.{is_on_bare}
 use Rattle.wq_text.specs.LineText.{line_text}
-use Rattle.wq_cert.specs.Forms.{items_of}
 use Rattle.wq_cert.specs.Texts.{workqueues_of_text, cert_refusal}
 use Rattle.wq_commands.specs.declared.end.End.{End}
 use Rattle.wq_commands.specs.declared.end.End.TheVariants.{Good, Bad}
@@ -20,7 +19,7 @@ use Rattle.wq_commands.specs.Answer.{PrintsRefusal}
 use Rattle.wq_commands.specs.Deadlocking.{safe_text}
 use Rattle.wq_commands.specs.Declaration.{declaration}
 use Rattle.wq_commands.specs.Found.{AnswersIn}
-use Rattle.wq_commands.specs.Named.{FindsNamed, IfNamed}
+use Rattle.wq_commands.specs.Named.{items_with_names, FindsNamed, IfNamed}
 use Rattle.wq_circles.specs.declared.circling_for.CirclingFor.{CirclingFor}
 use Rattle.wq_circles.specs.ComponentsText.{arcs_lines, circles_text}
 use Rattle.wq_circles.specs.Held.{AreHeldCircles}
@@ -58,7 +57,7 @@ pub record CirclesFor (s : Declared) (ws : Workqueues) (named : List ℕ) (end :
 abbrev pub CirclesDeclaredFor : Declared → List (List ℕ) → List ℕ → End → List ℕ → Type 0
 CirclesDeclaredFor s names text end out =
     MatchResult (workqueues_of_text s.table.names s.partition text)
-    (λ ws. IfNamed (items_of s.table.names names) (CirclesFor s ws) end out)
+    (λ ws. IfNamed (items_with_names s.table.names names) (CirclesFor s ws) end out)
     (λ fault. PrintsRefusal (cert_refusal fault) end out)
 
 -- the answer to the texts of a declaration and an assignment: a refusal of the declaration comes first
@@ -85,4 +84,4 @@ pub record FindsCirclesFor {A : Type 0} (s : Declared) (ws : Workqueues) (named 
 abbrev pub CirclesTextFor : {A : Type 0} → Declared → List (List ℕ) → List ℕ → Found (Option (CirclingFor A)) → End
     → List ℕ → Type 0
 CirclesTextFor s names text = AnswersIn SecondText (workqueues_of_text s.table.names s.partition text)
-    (λ ws. FindsNamed (items_of s.table.names names) (FindsCirclesFor s ws))
+    (λ ws. FindsNamed (items_with_names s.table.names names) (FindsCirclesFor s ws))

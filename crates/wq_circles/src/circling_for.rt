@@ -7,8 +7,7 @@ ghost use Rattle.std.specs.Prelude.{◌≡◌, ◌<◌, IfOk, length, map};
 ghost use Rattle.std.specs.List.{All, list_any};
 ghost use Rattle.wq_groups.specs.DeclaredGroups.{declared_waits};
 ghost use Rattle.wq_deadlock.specs.Judging.{is_on_bare};
-ghost use Rattle.wq_cert.specs.Forms.{items_of};
-ghost use Rattle.wq_commands.specs.Named.{FindsNamed};
+ghost use Rattle.wq_commands.specs.Named.{items_with_names, FindsNamed};
 ghost use Rattle.wq_circles.specs.Held.{AreHeldCircles};
 ghost use Rattle.wq_circles.specs.HeldText.{CirclesTextFor, FindsCirclesFor, PrintsHeld, is_free};
 
@@ -127,7 +126,7 @@ fn circle_named<A: Allocator + Copy>(
     names: &[&str],
 ) -> Result<Answered<A, Found<Option<CirclingFor<A>>>>, AllocError>
     requires assigned { length workqueues.assignment.lane_of_group ≡ declared.now.partition.groups }
-    ensures { IfOk result (λ a. FindsNamed (items_of declared.now.table.names (map (λ n. n.now) names.now))
+    ensures { IfOk result (λ a. FindsNamed (items_with_names declared.now.table.names (map (λ n. n.now) names.now))
         (FindsCirclesFor declared.now workqueues) a.found a.end a.text.items) }
 {
     match named_items(alloc, &declared.table, names)? {

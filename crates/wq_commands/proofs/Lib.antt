@@ -12,6 +12,7 @@ pub mod SameRescuers
 pub mod AllRescued
 mod PlansJudged
 mod HangLemmas
+pub mod NamedLemmas
 pub mod NamedSteps
 mod DeclaredLines
 pub mod DeclaredLemmas

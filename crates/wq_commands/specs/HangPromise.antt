@@ -11,12 +11,12 @@ use Rattle.wq_core.specs.Wiring.{Wiring}
 use Rattle.wq_core.specs.Workqueues.{Workqueues, wiring_of}
 use Rattle.wq_hang.specs.Shortest.{IsFewest}
 use Rattle.wq_hang.specs.ShortestFor.{IsFewestFor}
-use Rattle.wq_cert.specs.Forms.{items_of}
 use Rattle.wq_cert.specs.Part.{made_of}
 use Rattle.wq_cert.specs.Texts.{workqueues_of_text}
 use Rattle.wq_commands.specs.declared.end.End.{End}
 use Rattle.wq_commands.specs.declared.end.End.TheVariants.{Bad, Good}
 use Rattle.wq_commands.specs.DeclaredIn.{Named, declared_in}
+use Rattle.wq_commands.specs.Named.{items_with_names}
 
 -- the groups of what is declared
 abbrev pub groups_in : Declaration → Partition
@@ -56,7 +56,7 @@ pub record KeepsHang (declared lanes : List ℕ) (end : End) (out : List ℕ) : 
 
 -- each of these names is that of an item, and these are the items
 abbrev pub AreNamed : Named → List (List ℕ) → List ℕ → Type 0
-AreNamed s names named = items_of s.names names ≡ Some named
+AreNamed s names named = items_with_names s.names names ≡ Some named
 
 -- no run ends stuck for the items with these names, whatever the unsure flushes turn out to be
 abbrev pub GoOnAnyway : List (List ℕ) → List ℕ → List ℕ → Type 0

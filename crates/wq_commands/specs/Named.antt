@@ -1,10 +1,19 @@
 -- Items that are named on the command line.
-use Rattle.std.specs.Prelude.{◌≡◌, ℕ, List, Option, Some, None}
+use Rattle.std.specs.Prelude.{◌≡◌, ℕ, List, Option, Some, None, filter, length, option_map}
+use Rattle.std.specs.List.{range_with_len}
+use Rattle.wq_cert.specs.Forms.{items_of}
+use Rattle.wq_cert.specs.Reading.{stands_in}
 use Rattle.wq_text.specs.Refusal.{Refusal}
 use Rattle.wq_commands.specs.declared.end.End.{End}
 use Rattle.wq_commands.specs.declared.found.Found.{Found}
 use Rattle.wq_commands.specs.declared.found.Found.TheVariants.{Read}
 use Rattle.wq_commands.specs.Answer.{PrintsRefusal}
+
+-- the items with these names, each once, in the order in which they are declared; nothing, where a name is that of no
+-- item
+abbrev pub items_with_names : List (List ℕ) → List (List ℕ) → Option (List ℕ)
+items_with_names names words =
+    option_map (λ items. filter (stands_in items) (range_with_len 0 (length names))) (items_of names words)
 
 -- the refusal where a name is that of no item: at no line
 abbrev pub unknown_item : Refusal

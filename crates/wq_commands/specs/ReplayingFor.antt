@@ -3,7 +3,6 @@ use Rattle.std.specs.Prelude.{◌≡◌, ℕ, List, MatchResult, Option, Some, o
 use Rattle.wq_core.specs.declared.step.Step.{Step}
 use Rattle.wq_core.specs.Workqueues.{Workqueues}
 use Rattle.wq_text.specs.LineText.{line_text}
-use Rattle.wq_cert.specs.Forms.{items_of}
 use Rattle.wq_cert.specs.Part.{made_of}
 use Rattle.wq_cert.specs.Texts.{workqueues_of_text, cert_refusal}
 use Rattle.wq_checker.specs.declared.run.RunEnd.{RunEnd}
@@ -17,7 +16,7 @@ use Rattle.wq_groups.specs.DeclaredGroups.{Declared}
 use Rattle.wq_commands.specs.Answer.{PrintsRefusal}
 use Rattle.wq_commands.specs.Declaration.{declaration}
 use Rattle.wq_commands.specs.Found.{AnswersIn}
-use Rattle.wq_commands.specs.Named.{FindsNamed, IfNamed}
+use Rattle.wq_commands.specs.Named.{items_with_names, FindsNamed, IfNamed}
 use Rattle.wq_commands.specs.Replaying.{replay_end, replay_words, wiring_read}
 
 -- how these steps end where these items must go on is printed, in the reading that keeps these unsure flushes, or of
@@ -33,7 +32,7 @@ pub record AnswersReplayFor (s : Declared) (ws : Workqueues) (kept : Option (Lis
 abbrev pub ReplaysAssignedFor : Declared → Workqueues → List (List ℕ) → List ℕ → End → List ℕ → Type 0
 ReplaysAssignedFor s ws names text end out =
     MatchResult (made_of s.table.names s.table.waits text)
-    (λ run. IfNamed (items_of s.table.names names) (AnswersReplayFor s ws run.0 run.1) end out)
+    (λ run. IfNamed (items_with_names s.table.names names) (AnswersReplayFor s ws run.0 run.1) end out)
     (λ fault. PrintsRefusal (cert_refusal fault) end out)
 
 -- the answer to an assignment of a declaration and a run
@@ -69,7 +68,7 @@ pub record FindsEndFor {A : Type 0} (s : Declared) (ws : Workqueues) (kept : Opt
 abbrev pub ReplaysOnFor : {A : Type 0} → Declared → Workqueues → List (List ℕ) → List ℕ → Found (Option (ReplayedFor A))
     → End → List ℕ → Type 0
 ReplaysOnFor s ws names text = AnswersIn Run (made_of s.table.names s.table.waits text)
-    (λ run. FindsNamed (items_of s.table.names names) (FindsEndFor s ws run.0 run.1))
+    (λ run. FindsNamed (items_with_names s.table.names names) (FindsEndFor s ws run.0 run.1))
 
 -- `replay` with names: how the run with the second of these texts ends on the workqueues with the first
 abbrev pub ReplaysTextsFor : {A : Type 0} → Declared → List (List ℕ) → List ℕ → List ℕ

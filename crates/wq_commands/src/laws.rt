@@ -3,7 +3,7 @@
 //! The examples are computed by the definitions, so that a reader can compare them with those of the format.
 
 ghost use Rattle.std.specs.Prelude.{◌≡◌, ◌↔◌, false, ℕ, ◌+◌, ◌*◌, ◌<◌, ◌≤◌, ◌⊎◌, List, length, [], take, codes, Ok};
-ghost use Rattle.std.specs.Prelude.{Err, Some, option_map};
+ghost use Rattle.std.specs.Prelude.{Contains, Err, Some, option_map};
 ghost use Rattle.std.specs.Result.{result_ok};
 ghost use Rattle.wq_items.specs.Table.{IsTable, flush_count};
 ghost use Rattle.wq_groups.specs.Partition.{IsPartition};
@@ -50,6 +50,7 @@ ghost use Rattle.wq_commands.specs.declared.replaying.Replayed.{Replayed};
 ghost use Rattle.wq_meter.specs.Meter.{WritesWhole};
 ghost use Rattle.wq_meter.specs.Shell.{AreFrom, Given, GivesIf, Tells, kept};
 ghost use Rattle.wq_commands.specs.HangPromise.{KeepsVerdict};
+ghost use Rattle.wq_commands.specs.Named.{items_with_names};
 ghost use Rattle.wq_commands.specs.Declaration.{DeclaresNoUnsure, declaration, max_declaration};
 ghost use Rattle.wq_cert.specs.Part.{has_unsure};
 ghost use Rattle.wq_commands.specs.declared.end.End.{End};
@@ -392,4 +393,11 @@ pub fn a_printed_run_is_within_the_limits()
     ensures text { (declared text out : List ℕ) → Judges declared text Bad out → length out ≤ 8388608 }
     ensures lines { (declared text out : List ℕ) → Judges declared text Bad out →
         All (λ (line : LineView). length line.bytes ≤ 524288) (lines_of out) }
+{}
+
+/// The order of NAMEs, and how often each is given, makes no difference: the same names name the same items, in the
+/// order in which these are declared.
+pub fn the_same_names_name_the_same_items()
+    ensures { (names words others : List (List ℕ)) → ((word : List ℕ) → Contains words word ↔ Contains others word)
+        → items_with_names names words ≡ items_with_names names others }
 {}

@@ -4,10 +4,9 @@
 
 ghost use Rattle.std.specs.Prelude.{◌≡◌, ◌<◌, IfOk, length, map, option_map};
 ghost use Rattle.wq_checker.specs.RunEnds.{EndsFor};
-ghost use Rattle.wq_cert.specs.Forms.{items_of};
 ghost use Rattle.wq_core.specs.Workqueues.{wiring_of};
 ghost use Rattle.wq_groups.specs.DeclaredGroups.{declared_waits};
-ghost use Rattle.wq_commands.specs.Named.{FindsNamed};
+ghost use Rattle.wq_commands.specs.Named.{items_with_names, FindsNamed};
 ghost use Rattle.wq_commands.specs.Replaying.{wiring_read};
 ghost use Rattle.wq_commands.specs.ReplayingFor.{FindsEndFor, ReplaysOnFor, ReplaysTextsFor};
 
@@ -121,7 +120,7 @@ fn replay_named<A: Allocator + Copy>(
 ) -> Result<Answered<A, Found<Option<ReplayedFor<A>>>>, AllocError>
     requires assigned { length workqueues.assignment.lane_of_group ≡ declared.now.partition.groups }
     requires few { length run.steps.items < 4294967295 }
-    ensures { IfOk result (λ a. FindsNamed (items_of declared.now.table.names (map (λ n. n.now) names.now))
+    ensures { IfOk result (λ a. FindsNamed (items_with_names declared.now.table.names (map (λ n. n.now) names.now))
         (FindsEndFor declared.now workqueues (option_map (λ places. places.items) run.kept) run.steps.items)
         a.found a.end a.text.items) }
 {

@@ -9,7 +9,6 @@ use Rattle.wq_core.specs.declared.step.Step.{Step}
 use Rattle.wq_core.specs.Wiring.{Wiring}
 use Rattle.wq_core.specs.Workqueues.{Workqueues, wiring_of}
 use Rattle.wq_cert.specs.declared.fault.CertError.{CertError}
-use Rattle.wq_cert.specs.Forms.{items_of}
 use Rattle.wq_cert.specs.Part.{has_unsure, made_of}
 use Rattle.wq_cert.specs.Ranges.{AreWorkqueuesOf}
 use Rattle.wq_cert.specs.Texts.{workqueues_of_text, cert_refusal}
@@ -22,7 +21,7 @@ use Rattle.wq_commands.specs.Answer.{PrintsRefusal}
 use Rattle.wq_commands.specs.Declaration.{declaration}
 use Rattle.wq_commands.specs.DeclaredIn.{named_of}
 use Rattle.wq_commands.specs.HangPromise.{IsRunText, KeepsHold, SayBoth}
-use Rattle.wq_commands.specs.Named.{IfNamed, unknown_item}
+use Rattle.wq_commands.specs.Named.{items_with_names, IfNamed, unknown_item}
 use Rattle.wq_commands.proofs.AnswerLemmas.{IsSound, IsSound-declaration}
 use Rattle.wq_commands.proofs.DeclaredLemmas.{declared_in-declaration}
 use Rattle.wq_hang_command.specs.Holding.{Holds, HoldsAssigned, PrintsHold}
@@ -39,7 +38,7 @@ module _ (names : List (List ℕ)) (declared lanes out : List ℕ) where
   module _ (s : Declared) (is : declaration declared ≡ Ok s) (sound : IsSound s) (ws : Workqueues)
       (read : workqueues_of_text s.table.names s.partition lanes ≡ Ok ws)
       (assigned : AreWorkqueuesOf s.partition.groups ws)
-      (named : List ℕ) (are : items_of s.table.names names ≡ Some named) where
+      (named : List ℕ) (are : items_with_names s.table.names names ≡ Some named) where
     abbrev w : Wiring
     w = wiring_of (declared_waits s) ws
 
@@ -92,24 +91,24 @@ module _ (names : List (List ℕ)) (declared lanes out : List ℕ) where
   module _ (end : End) where
     by_names : (s : Declared) → declaration declared ≡ Ok s → IsSound s → (ws : Workqueues)
         → workqueues_of_text s.table.names s.partition lanes ≡ Ok ws → AreWorkqueuesOf s.partition.groups ws
-        → (named : Option (List ℕ)) → items_of s.table.names names ≡ named
+        → (named : Option (List ℕ)) → items_with_names s.table.names names ≡ named
         → IfNamed named (HoldsAssigned s ws) end out → KeepsHold names declared lanes end out
     by_names s is sound ws read assigned None are h = refused end unknown_item h
     by_names s is sound ws read assigned (Some named) are h = of_named s is sound ws read assigned named are end h
 
     by_lanes : (s : Declared) → declaration declared ≡ Ok s → IsSound s → (r : Result Workqueues CertError)
         → workqueues_of_text s.table.names s.partition lanes ≡ r
-        → MatchResult r (λ ws. IfNamed (items_of s.table.names names) (HoldsAssigned s ws) end out)
+        → MatchResult r (λ ws. IfNamed (items_with_names s.table.names names) (HoldsAssigned s ws) end out)
         (λ fault. PrintsRefusal (cert_refusal fault) end out) → KeepsHold names declared lanes end out
     by_lanes s is sound (Ok ws) read h =
         by_names s is sound ws read
         (AreWorkqueuesOf-workqueues_of_text s.table.names s.partition sound.partition (sym sound.one_group_each) lanes
-        ws read) (items_of s.table.names names) refl h
+        ws read) (items_with_names s.table.names names) refl h
     by_lanes s is sound (Err fault) read h = refused end (cert_refusal fault) h
 
     by_texts : (r : Result Declared Refusal) → declaration declared ≡ r → ((s : Declared) → r ≡ Ok s → IsSound s)
         → MatchResult r (λ s. MatchResult (workqueues_of_text s.table.names s.partition lanes)
-        (λ ws. IfNamed (items_of s.table.names names) (HoldsAssigned s ws) end out)
+        (λ ws. IfNamed (items_with_names s.table.names names) (HoldsAssigned s ws) end out)
         (λ fault. PrintsRefusal (cert_refusal fault) end out))
         (λ r. PrintsRefusal r end out) → KeepsHold names declared lanes end out
     by_texts (Ok s) is sound h =

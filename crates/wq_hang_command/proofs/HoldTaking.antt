@@ -7,9 +7,7 @@ use Rattle.wq_core.specs.Workqueues.{Workqueues}
 use Rattle.wq_hang.specs.declared.answer.Held.{Held}
 use Rattle.wq_hang.specs.declared.answer.Held.TheVariants as held
 use Rattle.wq_hang.specs.AnswerFor.{IsAnswerFor}
-use Rattle.wq_cert.specs.Forms.{items_of}
 use Rattle.wq_cert.specs.Texts.{max_certificate, workqueues_of_text}
-use Rattle.wq_cert.proofs.NotedLemmas.{below_all}
 use Rattle.wq_meter.specs.Shell.{Given, kept}
 use Rattle.wq_commands.specs.declared.end.End.{End}
 use Rattle.wq_commands.specs.declared.found.Found.{Found}
@@ -17,8 +15,9 @@ use Rattle.wq_commands.specs.declared.found.Found.TheVariants.{Read}
 use Rattle.wq_commands.specs.declared.found.Which.TheVariants.{Certificate as SecondText}
 use Rattle.wq_groups.specs.DeclaredGroups.{declared_waits, Declared}
 use Rattle.wq_commands.specs.Commands.{two_texts}
-use Rattle.wq_commands.specs.Named.{FindsNamed, IfNamed}
+use Rattle.wq_commands.specs.Named.{items_with_names, FindsNamed, IfNamed}
 use Rattle.wq_commands.specs.Shell.{AnswersTexts}
+use Rattle.wq_commands.proofs.NamedLemmas.{items_with_names-below}
 use Rattle.wq_commands.proofs.FoundLemmas.{AnswersIn-match, AnswersTexts-match}
 use Rattle.wq_commands.proofs.InputLemmas.{assigned-kept}
 use Rattle.wq_circles.proofs.Found.{AnswersIn-read}
@@ -48,9 +47,9 @@ module _ {A : Type 0} (s : Declared) where
       (out : List ℕ) → HoldsText s names text found end out → HoldsDeclared s names text end out
   HoldsText-declared names text found end out =
       AnswersIn-match SecondText (workqueues_of_text s.table.names s.partition text)
-      (λ ws. FindsNamed (items_of s.table.names names) (FindsHold s ws))
-      (λ ws. IfNamed (items_of s.table.names names) (HoldsAssigned s ws)) found end out
-      (λ ws. by_names ws (items_of s.table.names names) found end out)
+      (λ ws. FindsNamed (items_with_names s.table.names names) (FindsHold s ws))
+      (λ ws. IfNamed (items_with_names s.table.names names) (HoldsAssigned s ws)) found end out
+      (λ ws. by_names ws (items_with_names s.table.names names) found end out)
 
 -- ---- the texts
 
@@ -62,7 +61,8 @@ pub hold-kept : {A : Type 0} (names : List (List ℕ)) (texts : Given)
     → Holds names texts.first texts.second end out
 hold-kept {A} names texts found end out h =
     let text = take (max_certificate + 1) texts.second in
-    assigned-kept end out (λ _ _ s ws. IfNamed (items_of s.table.names names) (HoldsAssigned s ws) end out) texts.first
+    assigned-kept end out (λ _ _ s ws. IfNamed (items_with_names s.table.names names) (HoldsAssigned s ws) end out)
+    texts.first
     texts.second
     (AnswersTexts-match (λ s t (f : Found (Option (Holding A))) e o. HoldsText s names t.second f e o)
     (λ s. HoldsDeclared s names text) (kept two_texts texts) found end out
@@ -80,14 +80,16 @@ pub HoldsText-read : {A : Type 0} (s : Declared) (names : List (List ℕ)) (text
     (out : List ℕ) → HoldsText s names text (Read (Some h)) end out → IsHeldOn s text h
 HoldsText-read {A} s names text h end out found =
     let (ws, read, of_names) = AnswersIn-read SecondText (workqueues_of_text s.table.names s.partition text)
-    (λ ws. FindsNamed (items_of s.table.names names) (FindsHold s ws)) (Some h) end out found in
-    let (named, are, finds) = FindsNamed-some (items_of s.table.names names) (FindsHold s ws) h end out of_names in
+    (λ ws. FindsNamed (items_with_names s.table.names names) (FindsHold s ws)) (Some h) end out found in
+    let (named, are, finds) = FindsNamed-some (items_with_names s.table.names names) (FindsHold s ws) h end out
+    of_names in
     let same : finds.holding ≡ h = (let is = finds.is in cc) in
     let workqueues : h.workqueues ≡ ws = ap (λ (x : Holding A). x.workqueues) (sym same) ∙ finds.workqueues in
     let items : h.named.items ≡ named = ap (λ (x : Holding A). x.named.items) (sym same) ∙ finds.named_items in
     record {
       read = read ∙ ap (λ (w : Workqueues). Ok w) (sym workqueues);
-      within = subst (All (λ i. i < length s.table.names)) (sym items) (below_all s.table.names names named are);
+      within = subst (All (λ i. i < length s.table.names)) (sym items)
+          (items_with_names-below s.table.names names named are);
       answer = subst (λ (w : Workqueues). IsAnswerFor (declared_waits s) w h.named.items h.answer) (sym workqueues)
           (subst (λ (l : List ℕ). IsAnswerFor (declared_waits s) ws l h.answer) (sym items)
           (subst (λ (x : Holding A). IsAnswerFor (declared_waits s) ws named x.answer) same finds.answer));

@@ -10,7 +10,6 @@ use Rattle.wq_hang.specs.declared.answer.Held.TheVariants as held
 use Rattle.wq_hang.specs.declared.hop.Hop.{Hop}
 use Rattle.wq_hang.specs.AnswerFor.{IsAnswerFor, IsHeldBy}
 use Rattle.wq_hang.specs.Walk.{needs}
-use Rattle.wq_cert.specs.Forms.{items_of}
 use Rattle.wq_cert.specs.Part.{reading_text}
 use Rattle.wq_cert.specs.Texts.{workqueues_of_text, cert_refusal}
 use Rattle.wq_commands.specs.declared.end.End.{End}
@@ -23,7 +22,7 @@ use Rattle.wq_commands.specs.Answer.{PrintsRefusal}
 use Rattle.wq_commands.specs.Deadlocking.{safe_text}
 use Rattle.wq_commands.specs.Declaration.{declaration}
 use Rattle.wq_commands.specs.Found.{AnswersIn}
-use Rattle.wq_commands.specs.Named.{FindsNamed, IfNamed}
+use Rattle.wq_commands.specs.Named.{items_with_names, FindsNamed, IfNamed}
 use Rattle.wq_hang_command.specs.declared.holding.Holding.{Holding}
 
 -- the steps are printed of a shortest run of these workqueues that ends stuck for these items: of the reading that
@@ -49,7 +48,7 @@ HoldsAssigned s ws named Refused out = ⊥
 abbrev pub HoldsDeclared : Declared → List (List ℕ) → List ℕ → End → List ℕ → Type 0
 HoldsDeclared s names text end out =
     MatchResult (workqueues_of_text s.table.names s.partition text)
-    (λ ws. IfNamed (items_of s.table.names names) (HoldsAssigned s ws) end out)
+    (λ ws. IfNamed (items_with_names s.table.names names) (HoldsAssigned s ws) end out)
     (λ fault. PrintsRefusal (cert_refusal fault) end out)
 
 -- the answer to the texts of a declaration and an assignment: a refusal of the declaration comes first
@@ -81,4 +80,4 @@ pub record FindsHold {A : Type 0} (s : Declared) (ws : Workqueues) (named : List
 abbrev pub HoldsText : {A : Type 0} → Declared → List (List ℕ) → List ℕ → Found (Option (Holding A)) → End → List ℕ
     → Type 0
 HoldsText s names text = AnswersIn SecondText (workqueues_of_text s.table.names s.partition text)
-    (λ ws. FindsNamed (items_of s.table.names names) (FindsHold s ws))
+    (λ ws. FindsNamed (items_with_names s.table.names names) (FindsHold s ws))

@@ -7,9 +7,8 @@ ghost use Rattle.std.specs.Prelude.{◌≡◌, ◌<◌, ℕ, List, IfOk, length,
 ghost use Rattle.std.specs.List.{All};
 ghost use Rattle.wq_hang.specs.AnswerFor.{IsAnswerFor, IsHeldBy};
 ghost use Rattle.wq_hang.specs.Walk.{needs};
-ghost use Rattle.wq_cert.specs.Forms.{items_of};
 ghost use Rattle.wq_cert.specs.Part.{reading_text};
-ghost use Rattle.wq_commands.specs.Named.{FindsNamed};
+ghost use Rattle.wq_commands.specs.Named.{items_with_names, FindsNamed};
 ghost use Rattle.wq_groups.specs.DeclaredGroups.{declared_waits};
 ghost use Rattle.wq_hang_command.specs.Holding.{FindsHold, HoldsText, PrintsHeld};
 
@@ -104,7 +103,7 @@ fn hold_named<A: Allocator + Copy>(
     names: &[&str],
 ) -> Result<Answered<A, Found<Option<Holding<A>>>>, AllocError>
     requires assigned { length workqueues.assignment.lane_of_group ≡ declared.now.partition.groups }
-    ensures { IfOk result (λ a. FindsNamed (items_of declared.now.table.names (map (λ n. n.now) names.now))
+    ensures { IfOk result (λ a. FindsNamed (items_with_names declared.now.table.names (map (λ n. n.now) names.now))
         (FindsHold declared.now workqueues) a.found a.end a.text.items) }
 {
     match named_items(alloc, &declared.table, names)? {

@@ -2,10 +2,8 @@
 use Rattle.std.proofs.Common.{◌≡◌, ◌<◌, ℕ, List, length, map, Option, Some, None, Result, Ok, refl, sym, ap, subst, ◌∙◌}
 use Rattle.std.specs.Prelude.{option_map}
 use Rattle.std.specs.List.{All}
-use Rattle.wq_cert.specs.Forms.{items_of}
 use Rattle.wq_cert.specs.Part.{made_of}
 use Rattle.wq_cert.specs.Texts.{workqueues_of_text}
-use Rattle.wq_cert.proofs.NotedLemmas.{below_all}
 use Rattle.wq_core.specs.Workqueues.{Workqueues}
 use Rattle.wq_circles.specs.declared.circling_for.CirclingFor.{CirclingFor}
 use Rattle.wq_circles.specs.HeldText.{CirclesTextFor, FindsCirclesFor}
@@ -15,8 +13,9 @@ use Rattle.wq_commands.specs.declared.found.Found.{Found}
 use Rattle.wq_commands.specs.declared.found.Found.TheVariants.{Read}
 use Rattle.wq_commands.specs.declared.found.Which.TheVariants.{Certificate as SecondText, Run}
 use Rattle.wq_commands.specs.declared.replaying_for.ReplayedFor.{ReplayedFor}
-use Rattle.wq_commands.specs.Named.{FindsNamed}
+use Rattle.wq_commands.specs.Named.{items_with_names, FindsNamed}
 use Rattle.wq_commands.specs.ReplayingFor.{FindsEndFor, ReplaysOnFor, ReplaysTextsFor}
+use Rattle.wq_commands.proofs.NamedLemmas.{items_with_names-below}
 use Rattle.wq_groups.specs.DeclaredGroups.{Declared}
 
 -- two values that were read
@@ -46,8 +45,9 @@ ReplaysTextsFor-read {A} s names lanes text r end out replayed =
     let (ws, read, on) = AnswersIn-read SecondText (workqueues_of_text s.table.names s.partition lanes)
     (λ ws. ReplaysOnFor s ws names text) (Some r) end out replayed in
     let (run, made_from, of_names) = AnswersIn-read Run (made_of s.table.names s.table.waits text)
-    (λ run. FindsNamed (items_of s.table.names names) (FindsEndFor s ws run.0 run.1)) (Some r) end out on in
-    let (named, are, finds) = FindsNamed-some (items_of s.table.names names) (FindsEndFor s ws run.0 run.1) r end out
+    (λ run. FindsNamed (items_with_names s.table.names names) (FindsEndFor s ws run.0 run.1)) (Some r) end out on in
+    let (named, are, finds) = FindsNamed-some (items_with_names s.table.names names) (FindsEndFor s ws run.0 run.1) r
+    end out
     of_names in
     let same : finds.replayed ≡ r = (let is = finds.is in cc) in
     let workqueues : r.replayed.workqueues ≡ ws =
@@ -59,7 +59,8 @@ ReplaysTextsFor-read {A} s names lanes text r end out replayed =
     ap (λ (x : ReplayedFor A). x.replayed.steps.items) (sym same) ∙ finds.made in
     record {
       read = read ∙ ap (λ (w : Workqueues). Ok w) (sym workqueues);
-      within = subst (All (λ i. i < length s.table.names)) (sym items) (below_all s.table.names names named are);
+      within = subst (All (λ i. i < length s.table.names)) (sym items)
+          (items_with_names-below s.table.names names named are);
       made = ok_pair (made_of s.table.names s.table.waits text) run
           (option_map (λ places. places.items) r.replayed.kept) r.replayed.steps.items made_from kept made;
     }
@@ -73,8 +74,8 @@ pub CirclesTextFor-read : {A : Type 0} (s : Declared) (names : List (List ℕ)) 
     (end : End) (out : List ℕ) → CirclesTextFor s names text (Read (Some c)) end out → IsCircledFor s text c
 CirclesTextFor-read {A} s names text c end out found =
     let (ws, read, of_names) = AnswersIn-read SecondText (workqueues_of_text s.table.names s.partition text)
-    (λ ws. FindsNamed (items_of s.table.names names) (FindsCirclesFor s ws)) (Some c) end out found in
-    let (named, are, finds) = FindsNamed-some (items_of s.table.names names) (FindsCirclesFor s ws) c end out
+    (λ ws. FindsNamed (items_with_names s.table.names names) (FindsCirclesFor s ws)) (Some c) end out found in
+    let (named, are, finds) = FindsNamed-some (items_with_names s.table.names names) (FindsCirclesFor s ws) c end out
     of_names in
     let same : finds.circling ≡ c = (let is = finds.is in cc) in
     let workqueues : c.workqueues ≡ ws =
@@ -82,5 +83,6 @@ CirclesTextFor-read {A} s names text c end out found =
     let items : c.named.items ≡ named = ap (λ (x : CirclingFor A). x.named.items) (sym same) ∙ finds.named_items in
     record {
       read = read ∙ ap (λ (w : Workqueues). Ok w) (sym workqueues);
-      within = subst (All (λ i. i < length s.table.names)) (sym items) (below_all s.table.names names named are);
+      within = subst (All (λ i. i < length s.table.names)) (sym items)
+          (items_with_names-below s.table.names names named are);
     }

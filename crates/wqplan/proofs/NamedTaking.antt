@@ -4,7 +4,6 @@ use Rattle.std.specs.Prelude.{take}
 use Rattle.wq_text.specs.Refusal.{Refusal}
 use Rattle.wq_core.specs.declared.step.Step.{Step}
 use Rattle.wq_core.specs.Workqueues.{Workqueues}
-use Rattle.wq_cert.specs.Forms.{items_of}
 use Rattle.wq_cert.specs.Part.{made_of}
 use Rattle.wq_cert.specs.Texts.{cert_refusal, max_certificate, workqueues_of_text}
 use Rattle.wq_circles.proofs.FoundFor.{FindsNamed-answer}
@@ -16,7 +15,7 @@ use Rattle.wq_commands.specs.declared.replaying_for.ReplayedFor.{ReplayedFor}
 use Rattle.wq_groups.specs.DeclaredGroups.{Declared}
 use Rattle.wq_commands.specs.Answer.{PrintsRefusal}
 use Rattle.wq_commands.specs.Commands.{three_texts}
-use Rattle.wq_commands.specs.Named.{FindsNamed, IfNamed}
+use Rattle.wq_commands.specs.Named.{items_with_names, FindsNamed, IfNamed}
 use Rattle.wq_commands.specs.ReplayingFor.{AnswersReplayFor, FindsEndFor, ReplaysAssignedFor, ReplaysDeclaredFor}
 use Rattle.wq_commands.specs.ReplayingFor.{ReplaysOnFor, ReplaysRunFor, ReplaysTextsFor}
 use Rattle.wq_commands.specs.Shell.{AnswersTexts}
@@ -37,10 +36,10 @@ module _ {A : Type 0} (s : Declared) (names : List (List ℕ)) where
       (λ ws. ReplaysOnFor s ws names text) (λ ws. ReplaysAssignedFor s ws names text) found end out
       (λ ws. AnswersIn-match Run (made_of s.table.names s.table.waits text)
       (λ (run : Option (List ℕ) × List Step).
-      FindsNamed (items_of s.table.names names) (FindsEndFor s ws run.0 run.1))
+      FindsNamed (items_with_names s.table.names names) (FindsEndFor s ws run.0 run.1))
       (λ (run : Option (List ℕ) × List Step).
-      IfNamed (items_of s.table.names names) (AnswersReplayFor s ws run.0 run.1)) found end out
-      (λ run. FindsNamed-answer (items_of s.table.names names) (FindsEndFor s ws run.0 run.1)
+      IfNamed (items_with_names s.table.names names) (AnswersReplayFor s ws run.0 run.1)) found end out
+      (λ run. FindsNamed-answer (items_with_names s.table.names names) (FindsEndFor s ws run.0 run.1)
       (AnswersReplayFor s ws run.0 run.1) found end out (λ named. replay_named ws run named found end out)))
 
 -- what is past a limit changes no answer
@@ -53,7 +52,7 @@ replay_for-kept {A} names texts found end out h =
     let lanes = take (max_certificate + 1) texts.second in
     let text = take (max_certificate + 1) texts.third in
     run-kept
-    (λ s ws run. IfNamed (items_of s.table.names names) (AnswersReplayFor s ws run.0 run.1) end out)
+    (λ s ws run. IfNamed (items_with_names s.table.names names) (AnswersReplayFor s ws run.0 run.1) end out)
     (λ fault. PrintsRefusal (cert_refusal fault) end out) (λ fault. PrintsRefusal (cert_refusal fault) end out)
     (λ r. PrintsRefusal r end out) texts.first texts.second texts.third
     (AnswersTexts-match

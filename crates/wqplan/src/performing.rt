@@ -706,12 +706,14 @@ pub(crate) fn perform<'a, O: World<'a>, R: Threads + Wait + Sync, I: Read, W: Wr
     // The answer is true. Of `plan`: for every declaration text that is answered, either the printed assignment lets no
     // run of queueings, cancellations and steps of rescuers and helpers end stuck, and every assignment to fewer
     // workqueues has a run without helpers, with each item queued once and flushing as declared, that ends stuck; or a
-    // printed circle of groups is given and every assignment has such a run. Of `check`: its yes is true. Of `circles`:
-    // exactly the flushes on circles, and those to no rescuer, are printed, and `safe` exactly if no run ends stuck.
-    // Of `deadlock` and `hang`: `safe` holds in every reading; else the printed run ends stuck in the reading that
-    // keeps the printed lines, no reading that keeps fewer hangs, and of `hang` no run of one that keeps as few is
-    // shorter. With names `hang` promises this of runs that end stuck for the items with these names, and `circles`
-    // that what isn't printed makes no difference to them. The other commands end as they promise.
+    // printed circle of groups is given and every assignment has such a run. Around workqueues that stay it promises
+    // the like of the assignments that keep them: the printed one keeps them, is safe and has the fewest new
+    // workqueues; or each of them has such a run. Of `check`: its yes is true. Of `circles`: exactly the flushes on
+    // circles, and those to no rescuer, are printed, and `safe` exactly if no run ends stuck. Of `deadlock` and `hang`:
+    // `safe` holds in every reading; else the printed run ends stuck in the reading that keeps the printed lines, no
+    // reading that keeps fewer hangs, and of `hang` no run of one that keeps as few is shorter. With names `hang`
+    // promises this of runs that end stuck for the items with these names, and `circles` that what isn't printed makes
+    // no difference to them. The other commands end as they promise.
     ensures promised { IfOk result (λ end. (out : List ℕ)
         × PromisesAsAsked (Has (O.opens world.now) O.File.Read.remaining) (IsInput (I.remaining input.old.device))
         (spelled request.entry) end out

@@ -1,7 +1,7 @@
 use Rattle.std.proofs.Common.{◌≡◌, ◌++◌, ℕ, List, map, drop}
 use Rattle.std.specs.Prelude.{option_map}
 use Rattle.wq_cert.specs.Forms.{items_of}
-use Rattle.wq_commands.proofs.named.named_items.Given as goal
+use Rattle.wq_commands.proofs.named.items_in_turn.Given as goal
 
 -- the items so far, and those of the names that are left
 abbrev pub invariant-loop-name : goal.invariant-loop-name
