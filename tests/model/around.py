@@ -11,6 +11,7 @@ sys.dont_write_bytecode = True
 import certificate  # noqa: E402  (beside this file)
 from certificate import BAD_CERT_LINE, GROUP_SPLIT, HAS_RESCUER, NOT_ALL_ITEMS, NUMBER_OUT_OF_RANGE  # noqa: E402
 from certificate import ARC_LIMIT, WORKQUEUE_LIMIT, Assignment, CircleText, Lines, WqLines, must  # noqa: E402
+from chains import chain_lengths  # noqa: E402
 from circle import led_to_no_rescuer  # noqa: E402
 from deadlock import circle_of, deadlocking_run, run_text  # noqa: E402
 from declaration import Refused, read_declaration  # noqa: E402
@@ -97,26 +98,13 @@ def text_of(assignment):
 # Plan texts around workqueues --------------------------------------------------------------------
 
 
-def most_on_a_chain(declared, assignment, counts):
-    """Of each workqueue the greatest number of those that count on a waiting chain of workqueues with a rescuer that begins at it.
-
-    These wait in no circle. `counts` says of a workqueue whether it counts.
-    """
-    waits_for = {number: set() for number in range(assignment.count)}
+def waiting_workqueues(declared, assignment):
+    """For each workqueue the set of those that it waits for, of those with a rescuer."""
+    waits_for = [set() for _ in range(assignment.count)]
     for place in among_rescuers(declared, assignment):
         here, there = (assignment.workqueue_of[name] for name in declared.flushes[place])
         waits_for[here].add(there)
-    most = {}
-    for beginning in waits_for:
-        wanted = [beginning]
-        while wanted:
-            number = wanted[-1]
-            unknown = [other for other in waits_for[number] if other not in most]
-            if unknown:
-                wanted += unknown
-            else:
-                most[wanted.pop()] = counts(number) + max((most[other] for other in waits_for[number]), default=0)
-    return most
+    return waits_for
 
 
 def chain_around(declared, fixed, start, height):
@@ -162,7 +150,7 @@ def chain_around(declared, fixed, start, height):
 
 def plan_around(declared, fixed, start):
     """The assignment that is planned, and the places of the flushes of the chain."""
-    height = most_on_a_chain(declared, start, lambda number: number >= fixed.count)
+    height = chain_lengths(waiting_workqueues(declared, start), lambda number: number >= fixed.count)
     free = free_groups(declared, fixed)
     at = {group: fixed.count + height[fixed.count + number] - 1 for number, group in enumerate(free)}
     count = max((number - fixed.count + 1 for number in at.values()), default=0)
@@ -171,7 +159,7 @@ def plan_around(declared, fixed, start):
 
 def order_of(declared, assignment):
     """The workqueues with a rescuer in the order that is printed."""
-    length = most_on_a_chain(declared, assignment, lambda number: 1)
+    length = chain_lengths(waiting_workqueues(declared, assignment))
     return sorted((number for number in range(assignment.count) if number not in assignment.bare),
                   key=lambda number: (length[number], number))
 

@@ -14,29 +14,11 @@ sys.dont_write_bytecode = True
 import around  # noqa: E402  (beside this file)
 import certificate  # noqa: E402
 from certificate import Assignment  # noqa: E402
+from chains import chain_lengths  # noqa: E402
 from circle import arcs_of, find_circle  # noqa: E402
 from deadlock import deadlocking_run, run_text  # noqa: E402
 from command_line import answer_texts  # noqa: E402
 from declaration import TEXT_LIMIT, Refused, read_declaration  # noqa: E402
-
-
-def chain_lengths(waits_for):
-    """Plan texts: for each group, the number of groups on the longest chain that begins there.
-
-    `waits_for` has, for each group, the set of the groups that it waits for. There is no circle.
-    """
-    lengths = {}
-    for beginning in range(len(waits_for)):
-        wanted = [beginning]
-        while wanted:
-            group = wanted[-1]
-            unknown = [target for target in waits_for[group] if target not in lengths]
-            if unknown:
-                wanted += unknown
-            else:
-                wanted.pop()
-                lengths[group] = 1 + max((lengths[to] for to in waits_for[group]), default=0)
-    return lengths
 
 
 def workqueues_of_plan(declaration):
